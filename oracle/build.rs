@@ -19,6 +19,8 @@ fn main() {
     println!("cargo:rustc-check-cfg=cfg(feature, values(\"cuda\", \"parallel\"))");
 
     let source = source_folder();
+    // For the test that the files are as published.
+    println!("cargo:rustc-env=KECCAK_RUST_FOUND={}", source.display());
     let tables = TABLES
         .iter()
         .map(|name| {

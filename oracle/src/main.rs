@@ -3,11 +3,12 @@
 use std::io::{self, BufWriter, Read, Write};
 use std::process::ExitCode;
 
-use oracle::{OPERATION_WORDS, Tuple, sample};
+use oracle::{Lookup, OPERATION_WORDS, Tuple, sample};
 
 const USAGE: &str = "\
 usage: oracle row bitwise INDEX | row keccak_rc ROUND | table keccak_rc N | padding_are_bytes N
        oracle table core | table round | keys | tally            (operations of 52 words on standard input)
+       oracle counts                                             (lookups on standard input: kind, x, y, z)
        oracle values core | values round                         (rows on standard input)
        oracle tuples bitwise | tuples keccak_rc | tuples is_wh | tuples core SYSCALL | tuples round
                                                                  (rows on standard input)
@@ -42,6 +43,7 @@ fn answer(arguments: &[&str]) -> Result<Vec<Line>, String> {
         ["table", "core"] => lines(&oracle::core_table(&words_given()?), oracle::CORE_COLUMNS)?,
         ["table", "round"] => lines(&oracle::round_table(&words_given()?), oracle::ROUND_COLUMNS)?,
         ["keys"] => lines(&oracle::is_wh_keys(&words_given()?), 2)?,
+        ["counts"] => counts_given()?,
         ["values", "core"] => rows_given(oracle::CORE_COLUMNS, |row| vec![oracle::core_values(row)])?,
         ["values", "round"] => rows_given(oracle::ROUND_COLUMNS, |row| vec![oracle::round_values(row)])?,
         ["tuples", "bitwise"] => tuples_given(oracle::BITWISE_COLUMNS, oracle::bitwise_tuples)?,
@@ -86,6 +88,27 @@ fn rows_given(width: usize, answer: impl Fn(&[u64]) -> Vec<Line>) -> Result<Vec<
     Ok(lines(&words_given()?, width)?
         .iter()
         .flat_map(|row| answer(row))
+        .collect())
+}
+
+/// The counters that are not 0 after the lookups on standard input: place, count.
+fn counts_given() -> Result<Vec<Line>, String> {
+    let byte = |word: u64| u8::try_from(word).map_err(|_| format!("{word} is no byte"));
+    let lookup = |words: &Line| -> Result<Lookup, String> {
+        let [kind, x, y, z] = words[..] else {
+            unreachable!("lookups are lines of four")
+        };
+        Ok(Lookup {
+            kind: kind as usize,
+            x: byte(x)?,
+            y: byte(y)?,
+            z: byte(z)?,
+        })
+    };
+    let lookups: Result<Vec<Lookup>, String> = lines(&words_given()?, 4)?.iter().map(lookup).collect();
+    Ok(oracle::bitwise_counts(&lookups?)
+        .into_iter()
+        .map(|(place, count)| vec![place as u64, count])
         .collect())
 }
 

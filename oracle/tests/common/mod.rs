@@ -1,4 +1,4 @@
-//! Keccak-f[1600] on lanes, written from FIPS 202 with the tables that it prints, and operations made with it.
+//! Keccak-f[1600] on lanes, written from FIPS 202 with printed offsets and constants, and operations made with it.
 
 #![allow(dead_code)]
 
