@@ -10,8 +10,8 @@ pub use crate::tuple::Bus as BusId;
 
 /// The operations of the ByteAlu bus.
 ///
-/// Assumes: the three are distinct. The Rust's own numbers are not published; these markers are letters, so that none is
-/// taken for one of this project's numbers 0, 1, 2 by accident. [`crate::Tuple`] shows 0, 1, 2.
+/// Assumes: the three are distinct. The Rust's own numbers are not published; these markers are letters, so that none
+/// is taken for one of this project's numbers 0, 1, 2 by accident. [`crate::Tuple`] shows 0, 1, 2.
 pub mod alu_op {
     /// AND, 0 in this project's tuples.
     pub const AND: u8 = b'A';

@@ -77,9 +77,9 @@ pub mod vm {
 
             /// The number of the Keccak system call.
             ///
-            /// Assumes: in the Rust it is a `u64` constant, of which core tuple 0 takes the low and the high 32 bits. Its
-            /// value is not published. Here it is whatever [`with_syscall_number`] says, so that the published `&` and
-            /// `>>` can be run on any number.
+            /// Assumes: in the Rust it is a `u64` constant, of which core tuple 0 takes the low and the high 32 bits.
+            /// Its value is not published. Here it is whatever [`with_syscall_number`] says, so that the published
+            /// `&` and `>>` can be run on any number.
             pub const KECCAK_SYSCALL_NUMBER: SyscallNumber = SyscallNumber;
 
             /// A word that is read when an operation is applied to it.
