@@ -1,104 +1,48 @@
--- `State::chi` meets its contract: the lanes are stored one after the other. Assumes nothing.
-use mathlib.Core.Path.{_≡_, refl, sym, ap, ap₂, _∙_}
-use Prim.Native.Nat.{ℕ, _+_, _-_, _*_, _/_, _%_, _^_, _<_}
-use native.Mathlib.Omega.{arith}
-use lib.Bits.{bitXor, bitAnd}
-use lib.ListN.{getD}
-use Rattle.lists.proofs.Laws.{Filled, filled-none, filled-next, filled-whole}
-use Rattle.fips202.specs.Lanes.{grid, lane, chiAt, chiL}
-use Rattle.fips202.proofs.Steps.{lane-of}
+-- `State::chi` meets its contract: it is made of its planes. Assumes nothing.
+use mathlib.Core.Path.{_∙_}
+use borrow.Author.Needs.{needs}
+use Rattle.fips202.specs.Lanes.{chiAt, chiL}
+use Rattle.fips202.proofs.Steps.{planes-grid}
 use Rattle.fips202.proofs.State.chi.Statement.{statement}
 use Rattle.fips202.proofs.State.chi.Tie as tie
 
-abbrev Inv-loop : tie.InvT-loop
-Inv-loop a lanes₀ i₀ lanes i = Filled lanes₀ 0 25 (λ i. chiAt a (i % 5) (i / 5)) lanes i
+chi-plane-requires : tie.Need-chi-plane-requires
+chi-plane-requires c κs = search needs
 
-abbrev μ-loop : tie.MeasureT-loop
-μ-loop a lanes₀ i₀ lanes i = 25 - i
+chi-plane-requires-2 : tie.Need-chi-plane-requires-2
+chi-plane-requires-2 c κs = search needs
 
-loop-holds : tie.Need-loop-holds Inv-loop μ-loop
-loop-holds c = filled-none _ _ _ _
+chi-plane-requires-3 : tie.Need-chi-plane-requires-3
+chi-plane-requires-3 c κs = search needs
 
-mul-row : tie.Need-mul-row Inv-loop μ-loop
-mul-row c = omega arith
+chi-plane-requires-4 : tie.Need-chi-plane-requires-4
+chi-plane-requires-4 c κs = search needs
 
-mul-lanes : tie.Need-mul-lanes Inv-loop μ-loop
-mul-lanes c = omega arith
+chi-plane-requires-5 : tie.Need-chi-plane-requires-5
+chi-plane-requires-5 c κs = search needs
 
-array-read-lanes : tie.Need-array-read-lanes Inv-loop μ-loop
-array-read-lanes c = omega arith
+from-planes-requires : tie.Need-from-planes-requires
+from-planes-requires c κs = search needs
 
-add-lanes : tie.Need-add-lanes Inv-loop μ-loop
-add-lanes c = omega arith
-
-add-lanes-2 : tie.Need-add-lanes-2 Inv-loop μ-loop
-add-lanes-2 c = omega arith
-
-mul-lanes-2 : tie.Need-mul-lanes-2 Inv-loop μ-loop
-mul-lanes-2 c = omega arith
-
-array-read-lanes-2 : tie.Need-array-read-lanes-2 Inv-loop μ-loop
-array-read-lanes-2 c = omega arith
-
-add-lanes-3 : tie.Need-add-lanes-3 Inv-loop μ-loop
-add-lanes-3 c = omega arith
-
-add-lanes-4 : tie.Need-add-lanes-4 Inv-loop μ-loop
-add-lanes-4 c = omega arith
-
-mul-lanes-3 : tie.Need-mul-lanes-3 Inv-loop μ-loop
-mul-lanes-3 c = omega arith
-
-array-read-lanes-3 : tie.Need-array-read-lanes-3 Inv-loop μ-loop
-array-read-lanes-3 c = omega arith
-
-mul-lanes-4 : tie.Need-mul-lanes-4 Inv-loop μ-loop
-mul-lanes-4 c = omega arith
-
-array-write-lanes : tie.Need-array-write-lanes Inv-loop μ-loop
-array-write-lanes c = omega arith
-
-add-i : tie.Need-add-i Inv-loop μ-loop
-add-i c = omega arith
-
-loop-less : tie.Need-loop-less Inv-loop μ-loop
-loop-less c = omega arith
-
-loop-again : tie.Need-loop-again Inv-loop μ-loop
-unfolding chiAt
-loop-again c =
-    let at = c .before in
-    let a = at .before .before .args .self .lanes in
-    let i = at .loop .i in
-    let y = i / 5 in
-    filled-next _ (at .loop .inv) (c .loop-test .taken)
-    (ap (λ (n : ℕ). bitXor n (bitAnd (2 ^ 64 - 1 - lane a ((i % 5 + 1) % 5) y) (lane a ((i % 5 + 2) % 5) y))) (lane-of a i))
-
-returns : tie.Need-returns Inv-loop μ-loop
-unfolding chiL grid
-returns c = filled-whole (c .before .loop .inv) refl (c .loop-test .left)
+returns : tie.Need-returns
+unfolding chiL
+returns c =
+    let c5 = c .before in
+    let c4 = c5 .before in
+    let c3 = c4 .before in
+    let c2 = c3 .before in
+    let c1 = c2 .before in
+    c .from-planes .ensures
+    ∙ planes-grid (chiAt (c1 .before .args .self .lanes)) (c1 .chi-plane .ensures) (c2 .chi-plane2 .ensures) (c3 .chi-plane3 .ensures) (c4 .chi-plane4 .ensures) (c5 .chi-plane5 .ensures)
 
 pub chi-spec : {M : Type 1} → statement M
 chi-spec =
     tie.close
     (tie.spec
-    Inv-loop
-    μ-loop
-    loop-holds
-    mul-row
-    mul-lanes
-    array-read-lanes
-    add-lanes
-    add-lanes-2
-    mul-lanes-2
-    array-read-lanes-2
-    add-lanes-3
-    add-lanes-4
-    mul-lanes-3
-    array-read-lanes-3
-    mul-lanes-4
-    array-write-lanes
-    add-i
-    loop-less
-    loop-again
+    chi-plane-requires
+    chi-plane-requires-2
+    chi-plane-requires-3
+    chi-plane-requires-4
+    chi-plane-requires-5
+    from-planes-requires
     returns)
