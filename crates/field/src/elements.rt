@@ -1,12 +1,11 @@
 // Which words of a slice are no field elements.
+use super::Fe;
 use lists::Place;
 ghost use mathlib.Core.Path.{_≡_};
 ghost use Prim.Native.Nat.{_≤_};
 ghost use lib.ListN.{length};
 ghost use Rattle.lists.specs.First.{placeOf};
 ghost use Rattle.field.specs.Elements.{firstNotElement};
-
-const P: u64 = 18446744069414584321;
 
 // The place of the first of the first n words that is P or more.
 pub fn first_not_element(words: &[u64], n: usize) -> Place
@@ -15,7 +14,7 @@ pub fn first_not_element(words: &[u64], n: usize) -> Place
 {
     let mut k = 0;
     while k < n {
-        if words[k] >= P {
+        if words[k] >= Fe::P {
             return Place::At(k);
         }
         k += 1;
