@@ -1,0 +1,65 @@
+-- The refusals by number and detail, the first of a call's checks that refuses, and what a refused call leaves.
+--     refusalNumber, refusalDetail   the number and the detail that the interface gives for a refusal
+--     refuseIf       one check of a call: refuse where the test passes, else go on with the checks that follow
+--     refuseAt       the same for a check that searches: refuse by the place that it found
+--     answerOf       the answer of a call that only writes, from what its checks found
+--     numberOf       the answer of a call that gives a number
+--     overwrite      the new words, then the old words past them
+--     afterwards     what a lent slice holds after the call: the new words, or the old ones where it was refused
+-- A call's checks are one definition of its arguments, an `Option Refusal`; its answer and the slices that it leaves are
+-- both stated from that definition. Assumes nothing.
+use Prim.Native.Nat.{ℕ}
+use mathlib.Core.Bool.{Bool}
+use mathlib.Core.Option.{Option, none, some}
+use mathlib.Core.List.{List, _++_}
+use lib.ListN.{length, drop}
+use Rattle.lists.specs.Tab.{pick}
+use Rattle.answer.specs.declared.Refusal.{Refusal}
+use Rattle.answer.specs.declared.Refusal.the-variants.{PastEnd, NotWhole, TooShort, HighAddress, NotElement, BadRecord}
+use Rattle.answer.specs.declared.Answer.{Answer}
+use Rattle.answer.specs.declared.Answer.the-variants.{Done, Refused}
+use Rattle.answer.specs.declared.Number.{Number}
+use Rattle.answer.specs.declared.Number.the-variants as number
+
+abbrev pub refusalNumber : Refusal → ℕ
+refusalNumber (PastEnd limit) = 1
+refusalNumber (NotWhole which) = 2
+refusalNumber (TooShort needed) = 3
+refusalNumber (HighAddress address) = 4
+refusalNumber (NotElement place) = 5
+refusalNumber (BadRecord start) = 6
+
+abbrev pub refusalDetail : Refusal → ℕ
+refusalDetail (PastEnd limit) = limit
+refusalDetail (NotWhole which) = which
+refusalDetail (TooShort needed) = needed
+refusalDetail (HighAddress address) = address
+refusalDetail (NotElement place) = place
+refusalDetail (BadRecord start) = start
+
+-- refuse with r where the test passes, else what the later checks say
+abbrev pub refuseIf : Bool → Refusal → Option Refusal → Option Refusal
+refuseIf b r later = pick b (some r) later
+
+-- refuse by the place that a search found, else what the later checks say
+abbrev pub refuseAt : Option ℕ → (ℕ → Refusal) → Option Refusal → Option Refusal
+refuseAt none r later = later
+refuseAt (some k) r later = some (r k)
+
+abbrev pub accepted : Option Refusal
+accepted = none
+
+abbrev pub answerOf : Option Refusal → Answer
+answerOf none = Done
+answerOf (some r) = Refused r
+
+abbrev pub numberOf : ℕ → Option Refusal → Number
+numberOf n none = number.Is n
+numberOf n (some r) = number.Refused r
+
+unfoldable pub overwrite : List ℕ → List ℕ → List ℕ
+overwrite new old = new ++ drop (length new) old
+
+abbrev pub afterwards : Option Refusal → List ℕ → List ℕ → List ℕ
+afterwards none new old = new
+afterwards (some r) new old = old

@@ -1,0 +1,17 @@
+-- Which words of a slice are no field elements: those that are p or more. Assumes nothing.
+use Prim.Native.Nat.{ℕ}
+use mathlib.Core.Bool.{Bool}
+use mathlib.Core.Option.{Option}
+use mathlib.Core.List.{List}
+use lib.Dec.{leb}
+use Rattle.lists.specs.Tab.{word}
+use Rattle.lists.specs.First.{firstAt}
+use Rattle.field.specs.Field.{p}
+
+-- word k is p or more
+unfoldable pub notElement : List ℕ → ℕ → Bool
+notElement ws k = leb p (word ws k)
+
+-- the place of the first such word among the first n
+abbrev pub firstNotElement : List ℕ → ℕ → Option ℕ
+firstNotElement ws n = firstAt (notElement ws) n
