@@ -16,7 +16,7 @@ use Rattle.bits.specs.Bits.{byteAt, wordAt, limbAt}
 use Rattle.bits.proofs.Bytes.{byte-lt}
 use Rattle.lookup.specs.Tuple.{Tuple, sender, receiver}
 use Rattle.lookup.specs.declared.Bus.the-variants.{Memw, Ecall}
-use Rattle.templates.proofs.Carry.{two-sum}
+use Rattle.templates.proofs.Operand.{two-sum}
 use Rattle.keccak.specs.Columns.{ADDR, MU, addr, input-state, output-state, state-ptr}
 use Rattle.keccak.specs.Row.{coreRow, coreAddress, corePointer, is-wh-key, is-wh-keys}
 use Rattle.keccak.specs.Values.{wordOfBytes, wordOfHalves}
