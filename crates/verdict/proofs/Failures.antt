@@ -1,0 +1,311 @@
+-- The verdict on two tables is an answer exactly where specs/Failures.antt says so.
+--     says          it says what it answers
+--     verdict-iff   judged K L core round ≡ v ↔ Says K L core round v, for each answer v
+-- Assumes nothing.
+use mathlib.Core.Path.{_≡_, refl, sym, ap, subst, _∙_}
+use mathlib.Core.Bool.{Bool, true, false, _&&_}
+use mathlib.Core.Logic.{_↔_, _⊎_, inl, inr}
+use mathlib.Core.Option.{Option, none, some}
+use mathlib.Core.List.{List}
+use Prim.Native.Nat.{ℕ, zero, suc, _+_, _%_, _≤_, _<_}
+use native.Mathlib.Omega.{arith}
+use borrow.Author.Tests.{eqb-true, eqb-false, ne-eqb}
+use lib.Dec.{eqb}
+use lib.ListN.{length}
+use Rattle.lists.specs.Tab.{pick, word}
+use Rattle.lists.specs.First.{any}
+use Rattle.lists.specs.Failure.{Separates, FirstAt, FirstIn}
+use Rattle.lists.proofs.Decides.{decides-eq, decides-map}
+use Rattle.lists.proofs.Failure.{at-none-iff, at-some-iff, in-none-iff, in-some-iff, separates-map, separates-no, separates-yes, separates-le, separates-and, separates-any}
+use Rattle.field.specs.Field.{p}
+use Rattle.field.specs.Elements.{notElement, firstNotElement}
+use Rattle.lookup.specs.Tuple.{Tuple, sameBus}
+use Rattle.lookup.specs.declared.Bus.{Bus}
+use Rattle.lookup.specs.declared.Bus.the-variants.{Keccak}
+use Rattle.matching.specs.Matching.{matched}
+use Rattle.matching.proofs.Matching.{matched-decides}
+use Rattle.answer.specs.declared.Refusal.the-variants.{PastEnd, NotWhole, TooShort, HighAddress, NotElement, BadRecord}
+use Rattle.verdict.specs.Kind.{Kind, rows, row, isActive, active, actives, Active, Passes, sent, received, BalancedAt, Balanced, sameStamp, DistinctTimestamps}
+use Rattle.verdict.specs.Verdict.{ragged, badValue, firstValue, badLookup, firstLookup, twin, repeats, firstRepeat, uneven, oddTuple, badTuple, firstUnbalanced, stage, fromRoundBalance, fromCoreBalance, fromRoundLookup, fromRoundValue, fromRepeat, fromCoreLookup, fromCoreValue, fromRoundWords, fromCoreWords, judged}
+use Rattle.verdict.specs.Failures.{Whole, ZeroAt, MatchedAt, RepeatsAt, NewAt, FirstValue, FirstLookup, FirstRepeat, Values, Lookups, Elements, FirstBig, UnevenAt, EvenAt, FirstUneven, Even, ToCoreValue, ToCoreLookup, ToRepeat, ToRoundValue, ToRoundLookup, ToCoreBalance, ToRoundBalance, Says}
+use Rattle.verdict.specs.declared.Table.the-variants.{Core, Round}
+use Rattle.verdict.specs.declared.Verdict.{Verdict}
+use Rattle.verdict.specs.declared.Verdict.the-variants.{Refused, Value, Lookup, Repeated, Unbalanced, Holds}
+use Rattle.verdict.proofs.Judge.{Fits, odd-send, odd-receive, scans-balanced, good-holds}
+use Rattle.verdict.proofs.Stages.{passes, answers, core-refused, round-refused, both-whole}
+use Rattle.verdict.proofs.Tuples.{OnBus}
+
+-- ---- each test separates what fails from what holds
+module _ (K : Kind) (ws : List ℕ) where
+  whole-separates : Separates (ragged K ws) (Whole K ws → ⊥) (Whole K ws)
+  unfolding ragged
+  whole-separates = separates-no (eqb (length ws % K .width) 0) (decides-eq (length ws % K .width) 0)
+
+  value-separates : (r i : ℕ) → r < rows K ws → i < K .values → Separates (badValue K ws r i) (ZeroAt K ws r i → ⊥) (ZeroAt K ws r i)
+  unfolding badValue
+  value-separates r i l g = separates-no (eqb (K .value (row K ws r) i) 0) (decides-eq (K .value (row K ws r) i) 0)
+
+  lookup-separates : (r i : ℕ) → r < rows K ws → i < K .tuples → Separates (badLookup K ws r i) (MatchedAt K ws r i → ⊥) (MatchedAt K ws r i)
+  unfolding badLookup
+  lookup-separates r i l g = separates-no (matched (K .tuple (row K ws r) i)) (matched-decides (K .tuple (row K ws r) i))
+
+  active-separates : (r : ℕ) → r < rows K ws → Separates (active K ws r) (Active K ws r) (Active K ws r → ⊥)
+  unfolding isActive
+  active-separates r l =
+      separates-yes (eqb (word (row K ws r) (K .mu)) 1) (decides-map (λ e. record { there = l; on = e }) (λ a. a .on) (decides-eq (word (row K ws r) (K .mu)) 1))
+
+  equal-separates : (a b : ℕ) → Separates (eqb a b) (a ≡ b) (a ≡ b → ⊥)
+  equal-separates a b = separates-yes (eqb a b) (decides-eq a b)
+
+  repeat-separates : (r : ℕ) → r < rows K ws → Separates (repeats K ws r) (RepeatsAt K ws r) (NewAt K ws r)
+  unfolding repeats twin sameStamp
+  repeat-separates r l =
+      separates-map (
+        (λ x. record { active = x .0; earlier = x .1 .0; before = x .1 .1; earlier-active = x .1 .2 .0; low = x .1 .2 .1 .0; high = x .1 .2 .1 .1 }),
+        λ x. (x .active, (x .earlier, x .before, (x .earlier-active, (x .low, x .high)))),
+      ) ((λ h. h), λ h. h)
+      (separates-and (active K ws r) (any (twin K ws r) r) (active-separates r l) (separates-any (twin K ws r) r (λ q g.
+      separates-and (active K ws q) (sameStamp (row K ws q) (row K ws r)) (active-separates q (omega arith))
+      (separates-and (eqb (word (row K ws q) 0) (word (row K ws r) 0)) (eqb (word (row K ws q) 1) (word (row K ws r) 1))
+      (equal-separates (word (row K ws q) 0) (word (row K ws r) 0)) (equal-separates (word (row K ws q) 1) (word (row K ws r) 1))))))
+
+element-separates : (ws : List ℕ) (k : ℕ) → k < length ws → Separates (notElement ws k) (p ≤ word ws k) (word ws k < p)
+unfolding notElement
+element-separates ws k l = separates-le p (word ws k)
+
+-- a tuple of a row: it is on the Keccak bus, and odd
+module _ (odd : List ℕ → Bool) {Bal : List ℕ → Type 0} (s : (y : List ℕ) → Separates (odd y) (Bal y → ⊥) (Bal y))
+    (M : Kind) (fits : Fits M) (bus : OnBus M) (x : List ℕ) where
+  abbrev Odd : ℕ → Type 0
+  Odd i = (M .tuple x i .bus ≡ Keccak) × (Bal (M .tuple x i .values) → ⊥)
+
+  abbrev NotOdd : ℕ → Type 0
+  NotOdd i = M .tuple x i .bus ≡ Keccak → Bal (M .tuple x i .values)
+
+  on-separates : (i : ℕ) → M .tuple x i .bus ≡ Keccak → oddTuple odd M x i ≡ odd (M .tuple x i .values) → Separates (oddTuple odd M x i) (Odd i) (NotOdd i)
+  on-separates i k e =
+      subst (λ (b : Bool). Separates b (Odd i) (NotOdd i)) (sym e) (separates-map ((λ n. (k, n)), λ y. y .1) ((λ b y. b), λ h. h k) (s (M .tuple x i .values)))
+
+  off-bus : (b : Bus) → sameBus b Keccak ≡ false → b ≡ Keccak → ⊥
+  off-bus b e k = let z : true ≡ false = subst (λ (c : Bus). sameBus c Keccak ≡ false) k e in let w : _≡_ {A = ℕ} 0 1 = cc in omega arith
+
+  off-separates : (i : ℕ) → (i ≡ M .sendAt → ⊥) → (i ≡ M .receiveAt → ⊥) → Separates (oddTuple odd M x i) (Odd i) (NotOdd i)
+  unfolding oddTuple
+  off-separates i n m =
+      let o = off-bus (M .tuple x i .bus) (bus .others x i n m) in
+      rw (ne-eqb i (M .sendAt) n, ne-eqb i (M .receiveAt) m)
+      (record { fails = λ e. absurd (let w : _≡_ {A = ℕ} 0 1 = cc in omega arith); holds = λ e k. absurd (o k); is-true = λ y. absurd (o (y .0)); is-false = λ h. refl })
+
+  odd-separates : (i : ℕ) → Separates (oddTuple odd M x i) (Odd i) (NotOdd i)
+  odd-separates i = go (eqb i (M .sendAt)) (eqb i (M .receiveAt)) refl refl
+    where
+      go : (a b : Bool) → eqb i (M .sendAt) ≡ a → eqb i (M .receiveAt) ≡ b → Separates (oddTuple odd M x i) (Odd i) (NotOdd i)
+      go true b e f =
+          subst (λ (j : ℕ). Separates (oddTuple odd M x j) (Odd j) (NotOdd j)) (sym (eqb-true i (M .sendAt) e))
+          (on-separates (M .sendAt) (ap (λ (y : Tuple). y .bus) (bus .send x)) (odd-send odd M fits x ∙ ap (λ (y : Tuple). odd (y .values)) (sym (bus .send x))))
+      go false true e f =
+          subst (λ (j : ℕ). Separates (oddTuple odd M x j) (Odd j) (NotOdd j)) (sym (eqb-true i (M .receiveAt) f))
+          (on-separates (M .receiveAt) (ap (λ (y : Tuple). y .bus) (bus .receive x)) (odd-receive odd M fits x ∙ ap (λ (y : Tuple). odd (y .values)) (sym (bus .receive x))))
+      go false false e f = off-separates i (eqb-false i (M .sendAt) e) (eqb-false i (M .receiveAt) f)
+
+-- ---- the answer of a stage
+module _ (P : Verdict → Type 0) where
+  stage-says : {A : Type 0} (o : Option A) (f : A → Verdict) (v : Verdict) → ((a : A) → o ≡ some a → P (f a)) → (o ≡ none → P v) → P (stage o f v)
+  unfolding stage
+  stage-says none f v h g = g refl
+  stage-says (some a) f v h g = h a refl
+
+  pick-says : (b : Bool) (v w : Verdict) → (b ≡ true → P v) → (b ≡ false → P w) → P (pick b v w)
+  pick-says true v w h g = h refl
+  pick-says false v w h g = g refl
+
+module _ (K L : Kind) (fK : Fits K) (fL : Fits L) (bK : OnBus K) (bL : OnBus L) (core round : List ℕ) where
+  uneven-separates : (y : List ℕ) → Separates (uneven K L core round y) (BalancedAt K L core round y → ⊥) (BalancedAt K L core round y)
+  unfolding uneven
+  uneven-separates y =
+      separates-no (eqb (sent K core y + sent L round y) (received K core y + received L round y)) (decides-eq (sent K core y + sent L round y) (received K core y + received L round y))
+
+  tuple-separates : (M : Kind) → Fits M → OnBus M → (ws : List ℕ) (r i : ℕ) → r < rows M ws → i < M .tuples →
+      Separates (badTuple K L core round M ws r i) (UnevenAt K L core round M ws r i) (EvenAt K L core round M ws r i)
+  unfolding badTuple
+  tuple-separates M fM bM ws r i l g =
+      separates-map
+      ((λ x. record { active = x .0; on-bus = x .1 .0; differ = x .1 .1 }), λ x. (x .active, (x .on-bus, x .differ)))
+      ((λ h. h), λ h. h)
+      (separates-and (active M ws r) (oddTuple (uneven K L core round) M (row M ws r) i) (active-separates M ws r l)
+      (odd-separates (uneven K L core round) uneven-separates M fM bM (row M ws r) i))
+
+  -- what each scan finds
+  module _ (M : Kind) (ws : List ℕ) where
+    no-value : (firstValue M ws ≡ none) ↔ Values M ws
+    no-value = in-none-iff (badValue M ws) (M .values) (rows M ws) (value-separates M ws)
+
+    a-value : (r i : ℕ) → (firstValue M ws ≡ some (r, i)) ↔ FirstValue M ws r i
+    a-value = in-some-iff (badValue M ws) (M .values) (rows M ws) (value-separates M ws)
+
+    no-lookup : (firstLookup M ws ≡ none) ↔ Lookups M ws
+    no-lookup = in-none-iff (badLookup M ws) (M .tuples) (rows M ws) (lookup-separates M ws)
+
+    a-lookup : (r i : ℕ) → (firstLookup M ws ≡ some (r, i)) ↔ FirstLookup M ws r i
+    a-lookup = in-some-iff (badLookup M ws) (M .tuples) (rows M ws) (lookup-separates M ws)
+
+    no-repeat : (firstRepeat M ws ≡ none) ↔ DistinctTimestamps M ws
+    unfolding DistinctTimestamps
+    no-repeat =
+        let e = at-none-iff (repeats M ws) (rows M ws) (repeat-separates M ws) in (
+          (λ n q r l a b. e .0 n r (b .there) b q l a),
+          λ d. e .1 (λ r l b q g a. d q r g a b),
+        )
+
+    a-repeat : (r : ℕ) → (firstRepeat M ws ≡ some r) ↔ FirstRepeat M ws r
+    a-repeat = at-some-iff (repeats M ws) (rows M ws) (repeat-separates M ws)
+
+    no-big : (firstNotElement ws (length ws) ≡ none) ↔ Elements ws
+    no-big = at-none-iff (notElement ws) (length ws) (element-separates ws)
+
+    a-big : (k : ℕ) → (firstNotElement ws (length ws) ≡ some k) ↔ FirstBig ws k
+    a-big = at-some-iff (notElement ws) (length ws) (element-separates ws)
+
+    module _ (fM : Fits M) (bM : OnBus M) where
+      no-uneven : (firstUnbalanced K L core round M ws ≡ none) ↔ Even K L core round M ws
+      no-uneven = in-none-iff (badTuple K L core round M ws) (M .tuples) (rows M ws) (tuple-separates M fM bM ws)
+
+      an-uneven : (r i : ℕ) → (firstUnbalanced K L core round M ws ≡ some (r, i)) ↔ FirstUneven K L core round M ws r i
+      an-uneven = in-some-iff (badTuple K L core round M ws) (M .tuples) (rows M ws) (tuple-separates M fM bM ws)
+
+  -- ---- the verdict says what it answers, from each stage on
+  abbrev Say : Verdict → Type 0
+  Say = Says K L core round
+
+  to-core : ToCoreBalance K L core round → Passes K core
+  to-core h = let c = h .0 .0 .0 in let w = c .0 .0 in record { whole = w .0; below = w .2; values = c .0 .1; lookups = c .1 }
+
+  to-round : ToCoreBalance K L core round → Passes L round
+  to-round h = let w = h .0 .0 .0 .0 .0 in record { whole = w .1; below = w .3; values = h .0 .1; lookups = h .1 }
+
+  from-round-balance : ToRoundBalance K L core round → Say (fromRoundBalance K L core round)
+  unfolding fromRoundBalance
+  from-round-balance h =
+      stage-says Say (firstUnbalanced K L core round L round) (λ x. Unbalanced Round (x .0) (x .1)) (Holds (actives K core))
+      (λ a e. (h, an-uneven L round fL bL (a .0) (a .1) .0 e))
+      (λ e. (
+        to-core (h .0),
+        h .0 .0 .0 .1,
+        to-round (h .0),
+        scans-balanced K L core round fK fL (no-uneven K core fK bK .1 (h .1)) e,
+        refl,
+      ))
+
+  from-core-balance : ToCoreBalance K L core round → Say (fromCoreBalance K L core round)
+  unfolding fromCoreBalance
+  from-core-balance h =
+      stage-says Say (firstUnbalanced K L core round K core) (λ x. Unbalanced Core (x .0) (x .1)) (fromRoundBalance K L core round)
+      (λ a e. (h, an-uneven K core fK bK (a .0) (a .1) .0 e)) (λ e. from-round-balance (h, no-uneven K core fK bK .0 e))
+
+  from-round-lookup : ToRoundLookup K L core round → Say (fromRoundLookup K L core round)
+  unfolding fromRoundLookup
+  from-round-lookup h =
+      stage-says Say (firstLookup L round) (λ x. Lookup Round (x .0) (x .1)) (fromCoreBalance K L core round)
+      (λ a e. (h, a-lookup L round (a .0) (a .1) .0 e)) (λ e. from-core-balance (h, no-lookup L round .0 e))
+
+  from-round-value : ToRoundValue K L core round → Say (fromRoundValue K L core round)
+  unfolding fromRoundValue
+  from-round-value h =
+      stage-says Say (firstValue L round) (λ x. Value Round (x .0) (x .1)) (fromRoundLookup K L core round)
+      (λ a e. (h, a-value L round (a .0) (a .1) .0 e)) (λ e. from-round-lookup (h, no-value L round .0 e))
+
+  from-repeat : ToRepeat K L core round → Say (fromRepeat K L core round)
+  unfolding fromRepeat
+  from-repeat h =
+      stage-says Say (firstRepeat K core) (λ r. Repeated r) (fromRoundValue K L core round)
+      (λ r e. (h, a-repeat K core r .0 e)) (λ e. from-round-value (h, no-repeat K core .0 e))
+
+  from-core-lookup : ToCoreLookup K L core round → Say (fromCoreLookup K L core round)
+  unfolding fromCoreLookup
+  from-core-lookup h =
+      stage-says Say (firstLookup K core) (λ x. Lookup Core (x .0) (x .1)) (fromRepeat K L core round)
+      (λ a e. (h, a-lookup K core (a .0) (a .1) .0 e)) (λ e. from-repeat (h, no-lookup K core .0 e))
+
+  from-core-value : ToCoreValue K L core round → Say (fromCoreValue K L core round)
+  unfolding fromCoreValue
+  from-core-value h =
+      stage-says Say (firstValue K core) (λ x. Value Core (x .0) (x .1)) (fromCoreLookup K L core round)
+      (λ a e. (h, a-value K core (a .0) (a .1) .0 e)) (λ e. from-core-lookup (h, no-value K core .0 e))
+
+  from-words : Whole K core → Whole L round → Say (fromCoreWords K L core round)
+  unfolding fromCoreWords fromRoundWords
+  from-words w v =
+      stage-says Say (firstNotElement core (length core)) (λ k. Refused (NotElement k)) (fromRoundWords K L core round)
+      (λ k e. (w, v, inl (a-big K core k .0 e)))
+      (λ n. stage-says Say (firstNotElement round (length round)) (λ k. Refused (NotElement k)) (fromCoreValue K L core round)
+      (λ k e. (w, v, inr (no-big K core .0 n, a-big L round k .0 e)))
+      (λ m. from-core-value (w, v, no-big K core .0 n, no-big L round .0 m)))
+
+  pub says : Say (judged K L core round)
+  unfolding judged
+  says =
+      pick-says Say (ragged K core) (Refused (NotWhole 0)) (pick (ragged L round) (Refused (NotWhole 1)) (fromCoreWords K L core round))
+      (λ e. whole-separates K core .fails e)
+      (λ n. pick-says Say (ragged L round) (Refused (NotWhole 1)) (fromCoreWords K L core round)
+      (λ e. (whole-separates K core .holds n, whole-separates L round .fails e))
+      (λ m. from-words (whole-separates K core .holds n) (whole-separates L round .holds m)))
+
+  -- ---- where what comes before is passed, the verdict is that from the next stage on
+  at-round-words : Whole K core → Whole L round → Elements core → judged K L core round ≡ fromRoundWords K L core round
+  unfolding fromCoreWords
+  at-round-words w v h = both-whole K L core round w v ∙ passes (firstNotElement core (length core)) _ _ (no-big K core .1 h)
+
+  at-core-value : ToCoreValue K L core round → judged K L core round ≡ fromCoreValue K L core round
+  unfolding fromRoundWords
+  at-core-value h = at-round-words (h .0) (h .1) (h .2) ∙ passes (firstNotElement round (length round)) _ _ (no-big L round .1 (h .3))
+
+  at-core-lookup : ToCoreLookup K L core round → judged K L core round ≡ fromCoreLookup K L core round
+  unfolding fromCoreValue
+  at-core-lookup h = at-core-value (h .0) ∙ passes (firstValue K core) _ _ (no-value K core .1 (h .1))
+
+  at-repeat : ToRepeat K L core round → judged K L core round ≡ fromRepeat K L core round
+  unfolding fromCoreLookup
+  at-repeat h = at-core-lookup (h .0) ∙ passes (firstLookup K core) _ _ (no-lookup K core .1 (h .1))
+
+  at-round-value : ToRoundValue K L core round → judged K L core round ≡ fromRoundValue K L core round
+  unfolding fromRepeat
+  at-round-value h = at-repeat (h .0) ∙ passes (firstRepeat K core) _ _ (no-repeat K core .1 (h .1))
+
+  at-round-lookup : ToRoundLookup K L core round → judged K L core round ≡ fromRoundLookup K L core round
+  unfolding fromRoundValue
+  at-round-lookup h = at-round-value (h .0) ∙ passes (firstValue L round) _ _ (no-value L round .1 (h .1))
+
+  at-core-balance : ToCoreBalance K L core round → judged K L core round ≡ fromCoreBalance K L core round
+  unfolding fromRoundLookup
+  at-core-balance h = at-round-lookup (h .0) ∙ passes (firstLookup L round) _ _ (no-lookup L round .1 (h .1))
+
+  at-round-balance : ToRoundBalance K L core round → judged K L core round ≡ fromRoundBalance K L core round
+  unfolding fromCoreBalance
+  at-round-balance h = at-core-balance (h .0) ∙ passes (firstUnbalanced K L core round K core) _ _ (no-uneven K core fK bK .1 (h .1))
+
+  -- ---- so each answer comes where it says
+  said : (v : Verdict) → Say v → judged K L core round ≡ v
+  unfolding fromCoreWords fromRoundWords fromCoreValue fromCoreLookup fromRepeat fromRoundValue fromRoundLookup fromCoreBalance fromRoundBalance
+  said (Refused (NotWhole zero)) h = core-refused K L core round h
+  said (Refused (NotWhole (suc zero))) h = round-refused K L core round (h .0) (h .1)
+  said (Refused (NotElement k)) h = elim (h .2) [
+    | inl f ↦ both-whole K L core round (h .0) (h .1) ∙ answers (firstNotElement core (length core)) _ _ k (a-big K core k .1 f)
+    | inr f ↦ at-round-words (h .0) (h .1) (f .0) ∙ answers (firstNotElement round (length round)) _ _ k (a-big L round k .1 (f .1))
+  ]
+  said (Value Core r i) h = at-core-value (h .0) ∙ answers (firstValue K core) _ _ (r, i) (a-value K core r i .1 (h .1))
+  said (Lookup Core r i) h = at-core-lookup (h .0) ∙ answers (firstLookup K core) _ _ (r, i) (a-lookup K core r i .1 (h .1))
+  said (Repeated r) h = at-repeat (h .0) ∙ answers (firstRepeat K core) _ _ r (a-repeat K core r .1 (h .1))
+  said (Value Round r i) h = at-round-value (h .0) ∙ answers (firstValue L round) _ _ (r, i) (a-value L round r i .1 (h .1))
+  said (Lookup Round r i) h = at-round-lookup (h .0) ∙ answers (firstLookup L round) _ _ (r, i) (a-lookup L round r i .1 (h .1))
+  said (Unbalanced Core r i) h = at-core-balance (h .0) ∙ answers (firstUnbalanced K L core round K core) _ _ (r, i) (an-uneven K core fK bK r i .1 (h .1))
+  said (Unbalanced Round r i) h = at-round-balance (h .0) ∙ answers (firstUnbalanced K L core round L round) _ _ (r, i) (an-uneven L round fL bL r i .1 (h .1))
+  said (Holds n) h =
+      good-holds K L fK fL core round (record { core-passes = h .0; apart = h .1; round-passes = h .2; balanced = h .3 }) ∙ ap Holds (sym (h .4))
+  said (Refused (NotWhole (suc (suc d)))) h = absurd h
+  said (Refused (PastEnd d)) h = absurd h
+  said (Refused (TooShort d)) h = absurd h
+  said (Refused (HighAddress d)) h = absurd h
+  said (Refused (BadRecord d)) h = absurd h
+
+  pub verdict-iff : (v : Verdict) → (judged K L core round ≡ v) ↔ Say v
+  verdict-iff v = ((λ e. subst Say e says), said v)

@@ -1,0 +1,139 @@
+-- What each answer of the verdict says, with no search in it. proofs/Failures.antt: the verdict on two tables is an answer
+-- exactly where `Says` has it; so the order of the failures, and table, row and index of each, are as 01-scope.md has them.
+-- Assumes nothing.
+use mathlib.Core.Path.{_≡_}
+use mathlib.Core.Logic.{_⊎_}
+use mathlib.Core.List.{List}
+use Prim.Native.Nat.{ℕ, zero, suc, _%_, _≤_, _<_}
+use lib.ListN.{length}
+use Rattle.lists.specs.Tab.{word}
+use Rattle.lists.specs.Failure.{FirstAt, FirstIn}
+use Rattle.field.specs.Field.{p}
+use Rattle.lookup.specs.declared.Bus.the-variants.{Keccak}
+use Rattle.matching.specs.Matching.{Matched}
+use Rattle.answer.specs.declared.Refusal.the-variants.{PastEnd, NotWhole, TooShort, HighAddress, NotElement, BadRecord}
+use Rattle.verdict.specs.Kind.{Kind, rows, row, actives, Active, Passes, BalancedAt, Balanced, DistinctTimestamps}
+use Rattle.verdict.specs.declared.Table.the-variants.{Core, Round}
+use Rattle.verdict.specs.declared.Verdict.{Verdict}
+use Rattle.verdict.specs.declared.Verdict.the-variants.{Refused, Value, Lookup, Repeated, Unbalanced, Holds}
+
+-- ---- a table of one kind
+module _ (K : Kind) (ws : List ℕ) where
+  abbrev pub Whole : Type 0
+  Whole = length ws % K .width ≡ 0
+
+  -- value i of row r is 0
+  abbrev pub ZeroAt : ℕ → ℕ → Type 0
+  ZeroAt r i = K .value (row K ws r) i ≡ 0
+
+  -- tuple i of row r is found where it is looked up, unless its multiplicity is 0
+  abbrev pub MatchedAt : ℕ → ℕ → Type 0
+  MatchedAt r i = Matched (K .tuple (row K ws r) i)
+
+  -- "an active core row whose timestamp an earlier active one has"
+  pub record RepeatsAt (r : ℕ) : Type 0 where
+    pub active : Active K ws r
+    pub earlier : ℕ
+    pub before : earlier < r
+    pub earlier-active : Active K ws earlier
+    pub low : word (row K ws earlier) 0 ≡ word (row K ws r) 0
+    pub high : word (row K ws earlier) 1 ≡ word (row K ws r) 1
+
+  -- row r is no such row
+  abbrev pub NewAt : ℕ → Type 0
+  NewAt r =
+      Active K ws r → (q : ℕ) → q < r → Active K ws q →
+      word (row K ws q) 0 ≡ word (row K ws r) 0 → word (row K ws q) 1 ≡ word (row K ws r) 1 → ⊥
+
+  -- the first value that is not 0; the first tuple that is not matched; lowest row, then lowest index
+  abbrev pub FirstValue : ℕ → ℕ → Type 0
+  FirstValue = FirstIn (λ r i. ZeroAt r i → ⊥) ZeroAt (K .values) (rows K ws)
+
+  abbrev pub FirstLookup : ℕ → ℕ → Type 0
+  FirstLookup = FirstIn (λ r i. MatchedAt r i → ⊥) MatchedAt (K .tuples) (rows K ws)
+
+  abbrev pub FirstRepeat : ℕ → Type 0
+  FirstRepeat = FirstAt RepeatsAt NewAt (rows K ws)
+
+  -- every value is 0; every tuple is matched
+  abbrev pub Values : Type 0
+  Values = (r i : ℕ) → r < rows K ws → i < K .values → ZeroAt r i
+
+  abbrev pub Lookups : Type 0
+  Lookups = (r i : ℕ) → r < rows K ws → i < K .tuples → MatchedAt r i
+
+-- every word is below p; the place of the first word that is not
+abbrev pub Elements : List ℕ → Type 0
+Elements ws = (k : ℕ) → k < length ws → word ws k < p
+
+abbrev pub FirstBig : List ℕ → ℕ → Type 0
+FirstBig ws = FirstAt (λ k. p ≤ word ws k) (λ k. word ws k < p) (length ws)
+
+-- ---- a core table of the kind K and a round table of the kind L
+module _ (K L : Kind) (core round : List ℕ) where
+  -- tuple i of row r of the table ws, which is one of the two, is on the Keccak bus, its row active, and its sends and
+  -- receives differ in number
+  pub record UnevenAt (M : Kind) (ws : List ℕ) (r i : ℕ) : Type 0 where
+    pub active : Active M ws r
+    pub on-bus : M .tuple (row M ws r) i .bus ≡ Keccak
+    pub differ : BalancedAt K L core round (M .tuple (row M ws r) i .values) → ⊥
+
+  -- it is no such tuple
+  abbrev pub EvenAt : Kind → List ℕ → ℕ → ℕ → Type 0
+  EvenAt M ws r i =
+      Active M ws r → M .tuple (row M ws r) i .bus ≡ Keccak → BalancedAt K L core round (M .tuple (row M ws r) i .values)
+
+  -- the first such tuple of a table; a table that has none
+  abbrev pub FirstUneven : Kind → List ℕ → ℕ → ℕ → Type 0
+  FirstUneven M ws = FirstIn (UnevenAt M ws) (EvenAt M ws) (M .tuples) (rows M ws)
+
+  abbrev pub Even : Kind → List ℕ → Type 0
+  Even M ws = (r i : ℕ) → r < rows M ws → i < M .tuples → EvenAt M ws r i
+
+  -- what is passed before each failure, "in this order: core value, core lookup, an active core row whose timestamp an
+  -- earlier active one has, round value, round lookup, unbalanced tuple", the last with "core rows before round rows"
+  abbrev pub ToCoreValue : Type 0
+  ToCoreValue = Whole K core × Whole L round × Elements core × Elements round
+
+  abbrev pub ToCoreLookup : Type 0
+  ToCoreLookup = ToCoreValue × Values K core
+
+  abbrev pub ToRepeat : Type 0
+  ToRepeat = ToCoreLookup × Lookups K core
+
+  abbrev pub ToRoundValue : Type 0
+  ToRoundValue = ToRepeat × DistinctTimestamps K core
+
+  abbrev pub ToRoundLookup : Type 0
+  ToRoundLookup = ToRoundValue × Values L round
+
+  abbrev pub ToCoreBalance : Type 0
+  ToCoreBalance = ToRoundLookup × Lookups L round
+
+  abbrev pub ToRoundBalance : Type 0
+  ToRoundBalance = ToCoreBalance × Even K core
+
+  abbrev pub Says : Verdict → Type 0
+  -- refusal 2: a table that is not whole rows, detail 0 core, 1 round, in argument order
+  Says (Refused (NotWhole zero)) = Whole K core → ⊥
+  Says (Refused (NotWhole (suc zero))) = Whole K core × (Whole L round → ⊥)
+  -- refusal 5, after 2: any word is p or more, detail its place in that table, core before round
+  Says (Refused (NotElement k)) =
+      Whole K core × Whole L round × (FirstBig core k ⊎ (Elements core × FirstBig round k))
+  -- the failures, each after those before it in the paper's order
+  Says (Value Core r i) = ToCoreValue × FirstValue K core r i
+  Says (Lookup Core r i) = ToCoreLookup × FirstLookup K core r i
+  Says (Repeated r) = ToRepeat × FirstRepeat K core r
+  Says (Value Round r i) = ToRoundValue × FirstValue L round r i
+  Says (Lookup Round r i) = ToRoundLookup × FirstLookup L round r i
+  Says (Unbalanced Core r i) = ToCoreBalance × FirstUneven K core r i
+  Says (Unbalanced Round r i) = ToRoundBalance × FirstUneven L round r i
+  -- "holds with the active core count"
+  Says (Holds n) =
+      Passes K core × DistinctTimestamps K core × Passes L round × Balanced K L core round × (n ≡ actives K core)
+  -- the verdict has no other refusal
+  Says (Refused (NotWhole (suc (suc d)))) = ⊥
+  Says (Refused (PastEnd d)) = ⊥
+  Says (Refused (TooShort d)) = ⊥
+  Says (Refused (HighAddress d)) = ⊥
+  Says (Refused (BadRecord d)) = ⊥
