@@ -1,9 +1,13 @@
 -- The verdict on two tables is an answer exactly where specs/Failures.antt says so.
---     says          it says what it answers
---     verdict-iff   judged K L core round ≡ v ↔ Says K L core round v, for each answer v
+--     verdict-iff       judged K L core round ≡ v ↔ Says K L core round v, for each answer v
+--     verdict-says      the same of the core table and the round table
+--     core-places       a core row's tuples on the Keccak bus: 2, which it sends, and 3, which it receives
+--     round-places      a round row's: 0, which it receives, and 1, which it sends
+--     timestamp-twice   where a timestamp stands twice, the verdict names one
+--     out-of-balance    where only the bus is wrong, the verdict names an unbalanced tuple
 -- Assumes nothing.
 use mathlib.Core.Path.{_≡_, refl, sym, ap, subst, _∙_}
-use mathlib.Core.Bool.{Bool, true, false, _&&_}
+use mathlib.Core.Bool.{Bool, true, false}
 use mathlib.Core.Logic.{_↔_, _⊎_, inl, inr}
 use mathlib.Core.Option.{Option, none, some}
 use mathlib.Core.List.{List}
@@ -14,7 +18,7 @@ use lib.Dec.{eqb}
 use lib.ListN.{length}
 use Rattle.lists.specs.Tab.{pick, word}
 use Rattle.lists.specs.First.{any}
-use Rattle.lists.specs.Failure.{Separates, FirstAt, FirstIn}
+use Rattle.lists.specs.Failure.{Separates}
 use Rattle.lists.proofs.Decides.{decides-eq, decides-map}
 use Rattle.lists.proofs.Failure.{at-none-iff, at-some-iff, in-none-iff, in-some-iff, separates-map, separates-no, separates-yes, separates-le, separates-and, separates-any}
 use Rattle.field.specs.Field.{p}
@@ -22,18 +26,24 @@ use Rattle.field.specs.Elements.{notElement, firstNotElement}
 use Rattle.lookup.specs.Tuple.{Tuple, sameBus}
 use Rattle.lookup.specs.declared.Bus.{Bus}
 use Rattle.lookup.specs.declared.Bus.the-variants.{Keccak}
+use Rattle.lookup.specs.declared.Side.the-variants.{Sender, Receiver}
+use Rattle.keccak.specs.Tuples.{coreTuple}
+use Rattle.keccak_rnd.specs.Tuples.{roundTuple}
 use Rattle.matching.specs.Matching.{matched}
 use Rattle.matching.proofs.Matching.{matched-decides}
 use Rattle.answer.specs.declared.Refusal.the-variants.{PastEnd, NotWhole, TooShort, HighAddress, NotElement, BadRecord}
 use Rattle.verdict.specs.Kind.{Kind, rows, row, isActive, active, actives, Active, Passes, sent, received, BalancedAt, Balanced, sameStamp, DistinctTimestamps}
 use Rattle.verdict.specs.Verdict.{ragged, badValue, firstValue, badLookup, firstLookup, twin, repeats, firstRepeat, uneven, oddTuple, badTuple, firstUnbalanced, stage, fromRoundBalance, fromCoreBalance, fromRoundLookup, fromRoundValue, fromRepeat, fromCoreLookup, fromCoreValue, fromRoundWords, fromCoreWords, judged}
+use Rattle.verdict.specs.Keccak.{coreKind, roundKind, verdictAt}
 use Rattle.verdict.specs.Failures.{Whole, ZeroAt, MatchedAt, RepeatsAt, NewAt, FirstValue, FirstLookup, FirstRepeat, Values, Lookups, Elements, FirstBig, UnevenAt, EvenAt, FirstUneven, Even, ToCoreValue, ToCoreLookup, ToRepeat, ToRoundValue, ToRoundLookup, ToCoreBalance, ToRoundBalance, Says}
 use Rattle.verdict.specs.declared.Table.the-variants.{Core, Round}
 use Rattle.verdict.specs.declared.Verdict.{Verdict}
 use Rattle.verdict.specs.declared.Verdict.the-variants.{Refused, Value, Lookup, Repeated, Unbalanced, Holds}
-use Rattle.verdict.proofs.Judge.{Fits, odd-send, odd-receive, scans-balanced, good-holds}
+use Rattle.verdict.proofs.Judge.{Fits, odd-send, odd-receive, scans-balanced}
 use Rattle.verdict.proofs.Stages.{passes, answers, core-refused, round-refused, both-whole}
-use Rattle.verdict.proofs.Tuples.{OnBus}
+use Rattle.verdict.proofs.Tuples.{OnBus, core-bus, round-bus}
+use Rattle.verdict.proofs.Rows.{lt-or-ge}
+use Rattle.verdict.proofs.Main.{core-fits, round-fits}
 
 -- ---- each test separates what fails from what holds
 module _ (K : Kind) (ws : List ℕ) where
@@ -73,6 +83,9 @@ element-separates : (ws : List ℕ) (k : ℕ) → k < length ws → Separates (n
 unfolding notElement
 element-separates ws k l = separates-le p (word ws k)
 
+off-bus : (b : Bus) → sameBus b Keccak ≡ false → b ≡ Keccak → ⊥
+off-bus b e k = let z : true ≡ false = subst (λ (c : Bus). sameBus c Keccak ≡ false) k e in let w : _≡_ {A = ℕ} 0 1 = cc in omega arith
+
 -- a tuple of a row: it is on the Keccak bus, and odd
 module _ (odd : List ℕ → Bool) {Bal : List ℕ → Type 0} (s : (y : List ℕ) → Separates (odd y) (Bal y → ⊥) (Bal y))
     (M : Kind) (fits : Fits M) (bus : OnBus M) (x : List ℕ) where
@@ -85,9 +98,6 @@ module _ (odd : List ℕ → Bool) {Bal : List ℕ → Type 0} (s : (y : List �
   on-separates : (i : ℕ) → M .tuple x i .bus ≡ Keccak → oddTuple odd M x i ≡ odd (M .tuple x i .values) → Separates (oddTuple odd M x i) (Odd i) (NotOdd i)
   on-separates i k e =
       subst (λ (b : Bool). Separates b (Odd i) (NotOdd i)) (sym e) (separates-map ((λ n. (k, n)), λ y. y .1) ((λ b y. b), λ h. h k) (s (M .tuple x i .values)))
-
-  off-bus : (b : Bus) → sameBus b Keccak ≡ false → b ≡ Keccak → ⊥
-  off-bus b e k = let z : true ≡ false = subst (λ (c : Bus). sameBus c Keccak ≡ false) k e in let w : _≡_ {A = ℕ} 0 1 = cc in omega arith
 
   off-separates : (i : ℕ) → (i ≡ M .sendAt → ⊥) → (i ≡ M .receiveAt → ⊥) → Separates (oddTuple odd M x i) (Odd i) (NotOdd i)
   unfolding oddTuple
@@ -284,6 +294,15 @@ module _ (K L : Kind) (fK : Fits K) (fL : Fits L) (bK : OnBus K) (bL : OnBus L) 
   at-round-balance h = at-core-balance (h .0) ∙ passes (firstUnbalanced K L core round K core) _ _ (no-uneven K core fK bK .1 (h .1))
 
   -- ---- so each answer comes where it says
+  of-passes : {n : ℕ} → Say (Holds n) → ToCoreBalance K L core round
+  of-passes h =
+      let (c, d, r, b, e) = h in
+      ((((((c .whole, r .whole, c .below, r .below), c .values), c .lookups), d), r .values), r .lookups)
+
+  even : {n : ℕ} → Say (Holds n) → (M : Kind) (ws : List ℕ) → Even K L core round M ws
+  unfolding Balanced
+  even h M ws r i l g a k = h .3 (M .tuple (row M ws r) i .values)
+
   said : (v : Verdict) → Say v → judged K L core round ≡ v
   unfolding fromCoreWords fromRoundWords fromCoreValue fromCoreLookup fromRepeat fromRoundValue fromRoundLookup fromCoreBalance fromRoundBalance
   said (Refused (NotWhole zero)) h = core-refused K L core round h
@@ -300,7 +319,9 @@ module _ (K L : Kind) (fK : Fits K) (fL : Fits L) (bK : OnBus K) (bL : OnBus L) 
   said (Unbalanced Core r i) h = at-core-balance (h .0) ∙ answers (firstUnbalanced K L core round K core) _ _ (r, i) (an-uneven K core fK bK r i .1 (h .1))
   said (Unbalanced Round r i) h = at-round-balance (h .0) ∙ answers (firstUnbalanced K L core round L round) _ _ (r, i) (an-uneven L round fL bL r i .1 (h .1))
   said (Holds n) h =
-      good-holds K L fK fL core round (record { core-passes = h .0; apart = h .1; round-passes = h .2; balanced = h .3 }) ∙ ap Holds (sym (h .4))
+      at-round-balance (of-passes h, even h K core)
+      ∙ passes (firstUnbalanced K L core round L round) _ _ (no-uneven L round fL bL .1 (even h L round))
+      ∙ ap Holds (sym (h .4))
   said (Refused (NotWhole (suc (suc d)))) h = absurd h
   said (Refused (PastEnd d)) h = absurd h
   said (Refused (TooShort d)) h = absurd h
@@ -309,3 +330,56 @@ module _ (K L : Kind) (fK : Fits K) (fL : Fits L) (bK : OnBus K) (bL : OnBus L) 
 
   pub verdict-iff : (v : Verdict) → (judged K L core round ≡ v) ↔ Say v
   verdict-iff v = ((λ e. subst Say e says), said v)
+
+  -- ---- cases
+  -- a timestamp stands twice in a core table that passes: the verdict names it, whatever the outputs are and whatever the round table holds
+  pub timestamp-twice : ToRepeat K L core round → (q r : ℕ) → q < r → Active K core q → Active K core r →
+      word (row K core q) 0 ≡ word (row K core r) 0 → word (row K core q) 1 ≡ word (row K core r) 1 →
+      (s : ℕ) × (s ≤ r) × (judged K L core round ≡ Repeated s)
+  unfolding DistinctTimestamps
+  timestamp-twice h q r l a b e g = go (firstRepeat K core) refl
+    where
+      go : (o : Option ℕ) → firstRepeat K core ≡ o → (s : ℕ) × (s ≤ r) × (judged K L core round ≡ Repeated s)
+      go none n = absurd (no-repeat K core .0 n q r l a b e g)
+      go (some s) n =
+          let f = a-repeat K core s .0 n in
+          elim (lt-or-ge r s) [ inl k ↦ absurd (f .lower r k b q l a e g) | inr k ↦ (s, k, said (Repeated s) (h, f)) ]
+
+  -- both tables pass and the timestamps differ, but the bus is not balanced: the verdict names an unbalanced tuple
+  pub out-of-balance : ToCoreBalance K L core round → (Balanced K L core round → ⊥) →
+      (r i : ℕ) × ((judged K L core round ≡ Unbalanced Core r i) ⊎ (judged K L core round ≡ Unbalanced Round r i))
+  out-of-balance h n = go (firstUnbalanced K L core round K core) (firstUnbalanced K L core round L round) refl refl
+    where
+      go : (o o′ : Option (ℕ × ℕ)) → firstUnbalanced K L core round K core ≡ o → firstUnbalanced K L core round L round ≡ o′ →
+          (r i : ℕ) × ((judged K L core round ≡ Unbalanced Core r i) ⊎ (judged K L core round ≡ Unbalanced Round r i))
+      go (some a) o′ e f = (a .0, a .1, inl (said (Unbalanced Core (a .0) (a .1)) (h, an-uneven K core fK bK (a .0) (a .1) .0 e)))
+      go none (some a) e f =
+          (a .0, a .1, inr (said (Unbalanced Round (a .0) (a .1)) ((h, no-uneven K core fK bK .0 e), an-uneven L round fL bL (a .0) (a .1) .0 f)))
+      go none none e f = absurd (n (scans-balanced K L core round fK fL e f))
+
+-- ---- the core table and the round table
+pub verdict-says : (nr : ℕ) (core round : List ℕ) (v : Verdict) → (verdictAt nr core round ≡ v) ↔ Says (coreKind nr) roundKind core round v
+verdict-says nr = verdict-iff (coreKind nr) roundKind (core-fits nr) round-fits (core-bus nr) round-bus
+
+-- "a core row's send before its receive, a round row's receive before its send": which index an unbalanced tuple has
+keccak-places : (M : Kind) → OnBus M → (x : List ℕ) (i : ℕ) → M .tuple x i .bus ≡ Keccak →
+    ((i ≡ M .sendAt) × (M .tuple x i .side ≡ Sender)) ⊎ ((i ≡ M .receiveAt) × (M .tuple x i .side ≡ Receiver))
+keccak-places M bus x i k = go (eqb i (M .sendAt)) (eqb i (M .receiveAt)) refl refl
+  where
+    go : (a b : Bool) → eqb i (M .sendAt) ≡ a → eqb i (M .receiveAt) ≡ b →
+        ((i ≡ M .sendAt) × (M .tuple x i .side ≡ Sender)) ⊎ ((i ≡ M .receiveAt) × (M .tuple x i .side ≡ Receiver))
+    go true b e f =
+        let q = eqb-true i (M .sendAt) e in
+        inl (q, ap (λ (j : ℕ). M .tuple x j .side) q ∙ ap (λ (y : Tuple). y .side) (bus .send x))
+    go false true e f =
+        let q = eqb-true i (M .receiveAt) f in
+        inr (q, ap (λ (j : ℕ). M .tuple x j .side) q ∙ ap (λ (y : Tuple). y .side) (bus .receive x))
+    go false false e f = absurd (off-bus (M .tuple x i .bus) (bus .others x i (eqb-false i (M .sendAt) e) (eqb-false i (M .receiveAt) f)) k)
+
+pub core-places : (nr : ℕ) (x : List ℕ) (i : ℕ) → coreTuple nr 0 x i .bus ≡ Keccak →
+    ((i ≡ 2) × (coreTuple nr 0 x i .side ≡ Sender)) ⊎ ((i ≡ 3) × (coreTuple nr 0 x i .side ≡ Receiver))
+core-places nr = keccak-places (coreKind nr) (core-bus nr)
+
+pub round-places : (x : List ℕ) (i : ℕ) → roundTuple x i .bus ≡ Keccak →
+    ((i ≡ 1) × (roundTuple x i .side ≡ Sender)) ⊎ ((i ≡ 0) × (roundTuple x i .side ≡ Receiver))
+round-places = keccak-places roundKind round-bus

@@ -1,6 +1,6 @@
--- What each answer of the verdict says, with no search in it. proofs/Failures.antt: the verdict on two tables is an answer
--- exactly where `Says` has it; so the order of the failures, and table, row and index of each, are as 01-scope.md has them.
--- Assumes nothing.
+-- What each answer of the verdict says, with no search in it. proofs/Failures.antt: the verdict on two tables is an
+-- answer exactly where `Says` has it. So the order of the failures, and the table, row and index of each, are those of
+-- the paper. Assumes nothing.
 use mathlib.Core.Path.{_≡_}
 use mathlib.Core.Logic.{_⊎_}
 use mathlib.Core.List.{List}
@@ -81,7 +81,8 @@ module _ (K L : Kind) (core round : List ℕ) where
   -- it is no such tuple
   abbrev pub EvenAt : Kind → List ℕ → ℕ → ℕ → Type 0
   EvenAt M ws r i =
-      Active M ws r → M .tuple (row M ws r) i .bus ≡ Keccak → BalancedAt K L core round (M .tuple (row M ws r) i .values)
+      Active M ws r → M .tuple (row M ws r) i .bus ≡ Keccak →
+      BalancedAt K L core round (M .tuple (row M ws r) i .values)
 
   -- the first such tuple of a table; a table that has none
   abbrev pub FirstUneven : Kind → List ℕ → ℕ → ℕ → Type 0
