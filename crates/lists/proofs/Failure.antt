@@ -10,6 +10,7 @@ use lib.Dec.{leb}
 use Rattle.lists.specs.First.{firstAt, firstIn, isSome, any}
 use Rattle.lists.specs.Decides.{Decides}
 use Rattle.lists.specs.Failure.{Separates, FirstAt, FirstIn}
+use Rattle.lists.proofs.Tests.{true-not-false}
 use Rattle.lists.proofs.First.{at-hit, at-clear, at-nothing, at-found, in-hit, in-clear, in-nothing, in-found, row-clear, row-nothing}
 
 -- ---- the first failure
@@ -45,21 +46,18 @@ module _ (t : ℕ → ℕ → Bool) (m n : ℕ) {F H : ℕ → ℕ → Type 0} (
   )
 
 -- ---- tests that separate
-apart : true ≡ false → ⊥
-apart e = let z : _≡_ {A = ℕ} 0 1 = cc in omega arith
-
 pub separates-map : {b : Bool} {F F′ H H′ : Type 0} → (F ↔ F′) → (H ↔ H′) → Separates b F H → Separates b F′ H′
 separates-map f h s =
     record { fails = λ e. f .0 (s .fails e); holds = λ e. h .0 (s .holds e); is-true = λ x. s .is-true (f .1 x); is-false = λ x. s .is-false (h .1 x) }
 
 -- a test that decides what is to be the case, or what is not to be
 pub separates-no : {P : Type 0} (b : Bool) → Decides b P → Separates (not b) (P → ⊥) P
-separates-no true d = record { fails = λ e. absurd (apart (sym e)); holds = λ e. d .to tt; is-true = λ h. absurd (h (d .to tt)); is-false = λ x. refl }
-separates-no false d = record { fails = λ e. d .from; holds = λ e. absurd (apart e); is-true = λ h. refl; is-false = λ x. absurd (d .from x) }
+separates-no true d = record { fails = λ e. absurd (true-not-false (sym e)); holds = λ e. d .to tt; is-true = λ h. absurd (h (d .to tt)); is-false = λ x. refl }
+separates-no false d = record { fails = λ e. d .from; holds = λ e. absurd (true-not-false e); is-true = λ h. refl; is-false = λ x. absurd (d .from x) }
 
 pub separates-yes : {P : Type 0} (b : Bool) → Decides b P → Separates b P (P → ⊥)
-separates-yes true d = record { fails = λ e. d .to tt; holds = λ e. absurd (apart e); is-true = λ x. refl; is-false = λ h. absurd (h (d .to tt)) }
-separates-yes false d = record { fails = λ e. absurd (apart (sym e)); holds = λ e. d .from; is-true = λ x. absurd (d .from x); is-false = λ h. refl }
+separates-yes true d = record { fails = λ e. d .to tt; holds = λ e. absurd (true-not-false e); is-true = λ x. refl; is-false = λ h. absurd (h (d .to tt)) }
+separates-yes false d = record { fails = λ e. absurd (true-not-false (sym e)); holds = λ e. d .from; is-true = λ x. absurd (d .from x); is-false = λ h. refl }
 
 pub separates-le : (a b : ℕ) → Separates (leb a b) (a ≤ b) (b < a)
 separates-le a b = record { fails = leb-true a b; holds = leb-false a b; is-true = le-leb a b; is-false = lt-leb a b }
@@ -70,7 +68,7 @@ separates-and true b s d =
     record { fails = λ e. (x, d .fails e); holds = λ e y. d .holds e; is-true = λ y. d .is-true (y .1); is-false = λ h. d .is-false (h x) }
 separates-and false b s d =
     let n = s .holds refl in
-    record { fails = λ e. absurd (apart (sym e)); holds = λ e y. absurd (n y); is-true = λ y. absurd (n (y .0)); is-false = λ h. refl }
+    record { fails = λ e. absurd (true-not-false (sym e)); holds = λ e y. absurd (n y); is-true = λ y. absurd (n (y .0)); is-false = λ h. refl }
 
 module _ (t : ℕ → Bool) (n : ℕ) {F H : ℕ → Type 0} (s : (k : ℕ) → k < n → Separates (t k) (F k) (H k)) where
   pub separates-any : Separates (any t n) ((k : ℕ) × (k < n) × F k) ((k : ℕ) → k < n → H k)
@@ -80,16 +78,16 @@ module _ (t : ℕ → Bool) (n : ℕ) {F H : ℕ → Type 0} (s : (k : ℕ) → 
       go : (o : Option ℕ) → firstAt t n ≡ o → Separates (isSome o) ((k : ℕ) × (k < n) × F k) ((k : ℕ) → k < n → H k)
       go none e =
           record {
-            fails = λ x. absurd (apart (sym x));
+            fails = λ x. absurd (true-not-false (sym x));
             holds = λ x. at-none-iff t n s .0 e;
-            is-true = λ x. absurd (apart (sym (s (x .0) (x .1) .is-true (x .2)) ∙ at-clear t n (x .0) e (x .1)));
+            is-true = λ x. absurd (true-not-false (sym (s (x .0) (x .1) .is-true (x .2)) ∙ at-clear t n (x .0) e (x .1)));
             is-false = λ h. refl;
           }
       go (some k) e =
           let x = at-found t n k e in
           record {
             fails = λ y. (k, x .0, s k (x .0) .fails (x .1));
-            holds = λ y. absurd (apart y);
+            holds = λ y. absurd (true-not-false y);
             is-true = λ y. refl;
-            is-false = λ h. absurd (apart (sym (x .1) ∙ s k (x .0) .is-false (h k (x .0))));
+            is-false = λ h. absurd (true-not-false (sym (x .1) ∙ s k (x .0) .is-false (h k (x .0))));
           }

@@ -12,55 +12,33 @@ use Rattle.field.specs.Field.{p}
 use Rattle.lookup.specs.declared.Bus.the-variants.{Keccak}
 use Rattle.matching.specs.Matching.{Matched}
 use Rattle.answer.specs.declared.Refusal.the-variants.{PastEnd, NotWhole, TooShort, HighAddress, NotElement, BadRecord}
-use Rattle.verdict.specs.Kind.{Kind, rows, row, actives, Active, Passes, BalancedAt, Balanced, DistinctTimestamps}
+use Rattle.verdict.specs.Kind.{Layout, Kind, rows, row, actives, Active, SameTimestamp, DistinctTimestamps}
+use Rattle.verdict.specs.Kind.{Passes, BalancedAt, Balanced}
 use Rattle.verdict.specs.declared.Table.the-variants.{Core, Round}
 use Rattle.verdict.specs.declared.Verdict.{Verdict}
 use Rattle.verdict.specs.declared.Verdict.the-variants.{Refused, Value, Lookup, Repeated, Unbalanced, Holds}
 
--- ---- a table of one kind
-module _ (K : Kind) (ws : List ℕ) where
+-- ---- a table
+module _ (A : Layout) (ws : List ℕ) where
+  -- "any number of whole rows"
   abbrev pub Whole : Type 0
-  Whole = length ws % K .width ≡ 0
-
-  -- value i of row r is 0
-  abbrev pub ZeroAt : ℕ → ℕ → Type 0
-  ZeroAt r i = K .value (row K ws r) i ≡ 0
-
-  -- tuple i of row r is found where it is looked up, unless its multiplicity is 0
-  abbrev pub MatchedAt : ℕ → ℕ → Type 0
-  MatchedAt r i = Matched (K .tuple (row K ws r) i)
+  Whole = length ws % A .width ≡ 0
 
   -- "an active core row whose timestamp an earlier active one has"
   pub record RepeatsAt (r : ℕ) : Type 0 where
-    pub active : Active K ws r
+    pub active : Active A ws r
     pub earlier : ℕ
     pub before : earlier < r
-    pub earlier-active : Active K ws earlier
-    pub low : word (row K ws earlier) 0 ≡ word (row K ws r) 0
-    pub high : word (row K ws earlier) 1 ≡ word (row K ws r) 1
+    pub earlier-active : Active A ws earlier
+    pub same : SameTimestamp (row A ws earlier) (row A ws r)
 
   -- row r is no such row
   abbrev pub NewAt : ℕ → Type 0
-  NewAt r =
-      Active K ws r → (q : ℕ) → q < r → Active K ws q →
-      word (row K ws q) 0 ≡ word (row K ws r) 0 → word (row K ws q) 1 ≡ word (row K ws r) 1 → ⊥
+  NewAt r = Active A ws r → (q : ℕ) → q < r → Active A ws q → SameTimestamp (row A ws q) (row A ws r) → ⊥
 
-  -- the first value that is not 0; the first tuple that is not matched; lowest row, then lowest index
-  abbrev pub FirstValue : ℕ → ℕ → Type 0
-  FirstValue = FirstIn (λ r i. ZeroAt r i → ⊥) ZeroAt (K .values) (rows K ws)
-
-  abbrev pub FirstLookup : ℕ → ℕ → Type 0
-  FirstLookup = FirstIn (λ r i. MatchedAt r i → ⊥) MatchedAt (K .tuples) (rows K ws)
-
+  -- the lowest such row
   abbrev pub FirstRepeat : ℕ → Type 0
-  FirstRepeat = FirstAt RepeatsAt NewAt (rows K ws)
-
-  -- every value is 0; every tuple is matched
-  abbrev pub Values : Type 0
-  Values = (r i : ℕ) → r < rows K ws → i < K .values → ZeroAt r i
-
-  abbrev pub Lookups : Type 0
-  Lookups = (r i : ℕ) → r < rows K ws → i < K .tuples → MatchedAt r i
+  FirstRepeat = FirstAt RepeatsAt NewAt (rows A ws)
 
 -- every word is below p; the place of the first word that is not
 abbrev pub Elements : List ℕ → Type 0
@@ -69,32 +47,56 @@ Elements ws = (k : ℕ) → k < length ws → word ws k < p
 abbrev pub FirstBig : List ℕ → ℕ → Type 0
 FirstBig ws = FirstAt (λ k. p ≤ word ws k) (λ k. word ws k < p) (length ws)
 
+-- ---- a table of a kind
+module _ (K : Kind) (ws : List ℕ) where
+  -- value i of row r is 0
+  abbrev pub ZeroAt : ℕ → ℕ → Type 0
+  ZeroAt r i = K .value (row (K .layout) ws r) i ≡ 0
+
+  -- tuple i of row r is found where it is looked up, unless its multiplicity is 0
+  abbrev pub MatchedAt : ℕ → ℕ → Type 0
+  MatchedAt r i = Matched (K .tuple (row (K .layout) ws r) i)
+
+  -- every value is 0; every tuple is matched
+  abbrev pub Values : Type 0
+  Values = (r i : ℕ) → r < rows (K .layout) ws → i < K .values → ZeroAt r i
+
+  abbrev pub Lookups : Type 0
+  Lookups = (r i : ℕ) → r < rows (K .layout) ws → i < K .tuples → MatchedAt r i
+
+  -- the first value that is not 0; the first tuple that is not matched; "lowest row, then lowest index"
+  abbrev pub FirstValue : ℕ → ℕ → Type 0
+  FirstValue = FirstIn (λ r i. ZeroAt r i → ⊥) ZeroAt (K .values) (rows (K .layout) ws)
+
+  abbrev pub FirstLookup : ℕ → ℕ → Type 0
+  FirstLookup = FirstIn (λ r i. MatchedAt r i → ⊥) MatchedAt (K .tuples) (rows (K .layout) ws)
+
 -- ---- a core table of the kind K and a round table of the kind L
 module _ (K L : Kind) (core round : List ℕ) where
   -- tuple i of row r of the table ws, which is one of the two, is on the Keccak bus, its row active, and its sends and
   -- receives differ in number
   pub record UnevenAt (M : Kind) (ws : List ℕ) (r i : ℕ) : Type 0 where
-    pub active : Active M ws r
-    pub on-bus : M .tuple (row M ws r) i .bus ≡ Keccak
-    pub differ : BalancedAt K L core round (M .tuple (row M ws r) i .values) → ⊥
+    pub active : Active (M .layout) ws r
+    pub on-bus : M .tuple (row (M .layout) ws r) i .bus ≡ Keccak
+    pub differ : BalancedAt K L core round (M .tuple (row (M .layout) ws r) i .values) → ⊥
 
   -- it is no such tuple
   abbrev pub EvenAt : Kind → List ℕ → ℕ → ℕ → Type 0
   EvenAt M ws r i =
-      Active M ws r → M .tuple (row M ws r) i .bus ≡ Keccak →
-      BalancedAt K L core round (M .tuple (row M ws r) i .values)
+      Active (M .layout) ws r → M .tuple (row (M .layout) ws r) i .bus ≡ Keccak →
+      BalancedAt K L core round (M .tuple (row (M .layout) ws r) i .values)
 
   -- the first such tuple of a table; a table that has none
   abbrev pub FirstUneven : Kind → List ℕ → ℕ → ℕ → Type 0
-  FirstUneven M ws = FirstIn (UnevenAt M ws) (EvenAt M ws) (M .tuples) (rows M ws)
+  FirstUneven M ws = FirstIn (UnevenAt M ws) (EvenAt M ws) (M .tuples) (rows (M .layout) ws)
 
   abbrev pub Even : Kind → List ℕ → Type 0
-  Even M ws = (r i : ℕ) → r < rows M ws → i < M .tuples → EvenAt M ws r i
+  Even M ws = (r i : ℕ) → r < rows (M .layout) ws → i < M .tuples → EvenAt M ws r i
 
   -- what is passed before each failure, "in this order: core value, core lookup, an active core row whose timestamp an
   -- earlier active one has, round value, round lookup, unbalanced tuple", the last with "core rows before round rows"
   abbrev pub ToCoreValue : Type 0
-  ToCoreValue = Whole K core × Whole L round × Elements core × Elements round
+  ToCoreValue = Whole (K .layout) core × Whole (L .layout) round × Elements core × Elements round
 
   abbrev pub ToCoreLookup : Type 0
   ToCoreLookup = ToCoreValue × Values K core
@@ -103,7 +105,7 @@ module _ (K L : Kind) (core round : List ℕ) where
   ToRepeat = ToCoreLookup × Lookups K core
 
   abbrev pub ToRoundValue : Type 0
-  ToRoundValue = ToRepeat × DistinctTimestamps K core
+  ToRoundValue = ToRepeat × DistinctTimestamps (K .layout) core
 
   abbrev pub ToRoundLookup : Type 0
   ToRoundLookup = ToRoundValue × Values L round
@@ -116,22 +118,23 @@ module _ (K L : Kind) (core round : List ℕ) where
 
   abbrev pub Says : Verdict → Type 0
   -- refusal 2: a table that is not whole rows, detail 0 core, 1 round, in argument order
-  Says (Refused (NotWhole zero)) = Whole K core → ⊥
-  Says (Refused (NotWhole (suc zero))) = Whole K core × (Whole L round → ⊥)
+  Says (Refused (NotWhole zero)) = Whole (K .layout) core → ⊥
+  Says (Refused (NotWhole (suc zero))) = Whole (K .layout) core × (Whole (L .layout) round → ⊥)
   -- refusal 5, after 2: any word is p or more, detail its place in that table, core before round
   Says (Refused (NotElement k)) =
-      Whole K core × Whole L round × (FirstBig core k ⊎ (Elements core × FirstBig round k))
+      Whole (K .layout) core × Whole (L .layout) round × (FirstBig core k ⊎ (Elements core × FirstBig round k))
   -- the failures, each after those before it in the paper's order
   Says (Value Core r i) = ToCoreValue × FirstValue K core r i
   Says (Lookup Core r i) = ToCoreLookup × FirstLookup K core r i
-  Says (Repeated r) = ToRepeat × FirstRepeat K core r
+  Says (Repeated r) = ToRepeat × FirstRepeat (K .layout) core r
   Says (Value Round r i) = ToRoundValue × FirstValue L round r i
   Says (Lookup Round r i) = ToRoundLookup × FirstLookup L round r i
   Says (Unbalanced Core r i) = ToCoreBalance × FirstUneven K core r i
   Says (Unbalanced Round r i) = ToRoundBalance × FirstUneven L round r i
   -- "holds with the active core count"
   Says (Holds n) =
-      Passes K core × DistinctTimestamps K core × Passes L round × Balanced K L core round × (n ≡ actives K core)
+      Passes K core × DistinctTimestamps (K .layout) core × Passes L round × Balanced K L core round
+      × (n ≡ actives (K .layout) core)
   -- the verdict has no other refusal
   Says (Refused (NotWhole (suc (suc d)))) = ⊥
   Says (Refused (PastEnd d)) = ⊥
