@@ -1,24 +1,28 @@
--- What the refusal of a list of operations says, and the highest address that is accepted. Assumes nothing.
---     accepted-is     the call is accepted exactly when none of the four conditions holds
---     highest-accepted, next-refused   P: address 18446744073709551423 is accepted, the next is refused by 4
+-- What the refusal of a list of operations says, what an operation's words say, and the highest address. Assumes nothing.
+--     many-refused, ragged-refused, short-refused, high-refused   each refusal with its detail, where no earlier one comes
+--     accepted-is                       the call is accepted exactly where none of the four conditions holds
+--     op-words                          operation i of a list is what its 52 words say
+--     highest-accepted, next-refused    P: address 18446744073709551423 is accepted, the next is refused by 4
 use mathlib.Core.Path.{_≡_, refl, sym, ap, subst, _∙_}
 use mathlib.Core.Logic.{_↔_}
 use mathlib.Core.Bool.{Bool, true, false, not}
 use mathlib.Core.Option.{Option, none, some}
-use mathlib.Core.List.{List, [], _∷_, _++_}
-use Prim.Native.Nat.{ℕ, zero, suc, _+_, _*_, _/_, _%_, _^_, _≤_, _<_}
+use mathlib.Core.List.{List, _∷_, _++_}
+use Prim.Native.Nat.{ℕ, suc, _+_, _*_, _%_, _^_, _≤_, _<_}
 use native.Mathlib.Omega.{arith}
-use borrow.Author.Tests.{ltb-true, ltb-false, lt-ltb, le-ltb, eqb-true, eq-eqb, not-false}
-use lib.Dec.{ltb, eqb}
-use lib.ListN.{length, length-append}
-use Rattle.lists.specs.First.{firstAt}
-use Rattle.lists.proofs.First.{at-clear, at-hit, at-nothing, first-start}
+use borrow.Author.Tests.{ltb-false, lt-ltb, le-ltb, eqb-true, eq-eqb, ne-eqb, not-false}
+use lib.ListN.{length, getD, length-append, List·getD-append}
+use lib.Seq.{getD-append-add}
+use Rattle.lists.specs.Tab.{tab}
+use Rattle.lists.proofs.First.{at-clear, at-hit, at-nothing}
+use Rattle.lists.proofs.Laws.{tab-same, list-tab}
 use Rattle.answer.specs.Limits.{MAX-OPS}
 use Rattle.answer.specs.Refusal.{refuseIf, refuseAt, accepted}
 use Rattle.answer.specs.declared.Refusal.{Refusal}
 use Rattle.answer.specs.declared.Refusal.the-variants.{PastEnd, NotWhole, TooShort, HighAddress}
 use Rattle.keccak.specs.Row.{opAt, LAST-ADDRESS}
 use Rattle.keccak.specs.Refusals.{OP-WORDS, opCount, addressAt, highAt, tooShort, tooHigh, notWhole, operationsRefusal}
+use Rattle.keccak.specs.declared.KeccakOperation.{KeccakOperation}
 
 -- the reason of the limit
 pub max-ops : (24 * MAX-OPS ≤ 2 ^ 31) × (2 ^ 31 < 24 * (MAX-OPS + 1))
@@ -41,6 +45,47 @@ at-passed none r later e = refl
 at-passed (some k) r later e = absurd (let z : _≡_ {A = ℕ} 0 1 = cc in omega arith)
 
 module _ (room needed : ℕ) (ops : List ℕ) where
+  -- ---- the refusals, in their order
+  pub many-refused : MAX-OPS < opCount ops → operationsRefusal room needed ops ≡ some (PastEnd 89478486)
+  unfolding operationsRefusal
+  many-refused h = ap (λ (b : Bool). refuseIf b (PastEnd 89478486) (notWhole ops (tooShort room needed (tooHigh ops accepted)))) (lt-ltb MAX-OPS (opCount ops) h)
+
+  module _ (few : opCount ops ≤ MAX-OPS) where
+    past-many : operationsRefusal room needed ops ≡ notWhole ops (tooShort room needed (tooHigh ops accepted))
+    unfolding operationsRefusal
+    past-many = ap (λ (b : Bool). refuseIf b (PastEnd 89478486) (notWhole ops (tooShort room needed (tooHigh ops accepted)))) (le-ltb MAX-OPS (opCount ops) few)
+
+    pub ragged-refused : (length ops % OP-WORDS ≡ 0 → ⊥) → operationsRefusal room needed ops ≡ some (NotWhole 2)
+    ragged-refused h = past-many ∙ ap (λ (b : Bool). refuseIf (not b) (NotWhole 2) (tooShort room needed (tooHigh ops accepted))) (ne-eqb (length ops % OP-WORDS) 0 h)
+
+    module _ (whole : length ops % OP-WORDS ≡ 0) where
+      past-ragged : operationsRefusal room needed ops ≡ tooShort room needed (tooHigh ops accepted)
+      past-ragged = past-many ∙ ap (λ (b : Bool). refuseIf (not b) (NotWhole 2) (tooShort room needed (tooHigh ops accepted))) (eq-eqb (length ops % OP-WORDS) 0 whole)
+
+      pub short-refused : room < needed → operationsRefusal room needed ops ≡ some (TooShort needed)
+      short-refused h = past-ragged ∙ ap (λ (b : Bool). refuseIf b (TooShort needed) (tooHigh ops accepted)) (lt-ltb room needed h)
+
+      module _ (long : needed ≤ room) where
+        past-short : operationsRefusal room needed ops ≡ tooHigh ops accepted
+        past-short = past-ragged ∙ ap (λ (b : Bool). refuseIf b (TooShort needed) (tooHigh ops accepted)) (le-ltb room needed long)
+
+        -- operation i is the first whose address is too high
+        pub high-refused : (i : ℕ) → i < opCount ops → LAST-ADDRESS < addressAt ops i → ((j : ℕ) → j < i → addressAt ops j ≤ LAST-ADDRESS) →
+            operationsRefusal room needed ops ≡ some (HighAddress (addressAt ops i))
+        unfolding highAt
+        high-refused i l h low =
+            past-short
+            ∙ ap (λ (o : Option ℕ). refuseAt o (λ j. HighAddress (addressAt ops j)) accepted)
+            (at-hit (highAt ops) i (opCount ops) l (at-nothing (highAt ops) i (λ j g. le-ltb LAST-ADDRESS (addressAt ops j) (low j g))) (lt-ltb LAST-ADDRESS (addressAt ops i) h))
+
+        pub none-high : ((i : ℕ) → i < opCount ops → addressAt ops i ≤ LAST-ADDRESS) → operationsRefusal room needed ops ≡ accepted
+        unfolding highAt
+        none-high low =
+            past-short
+            ∙ ap (λ (o : Option ℕ). refuseAt o (λ j. HighAddress (addressAt ops j)) accepted)
+            (at-nothing (highAt ops) (opCount ops) (λ j g. le-ltb LAST-ADDRESS (addressAt ops j) (low j g)))
+
+  -- ---- accepted
   pub accepted-is : (operationsRefusal room needed ops ≡ accepted) ↔ Acceptable room needed ops
   unfolding operationsRefusal highAt
   accepted-is = (
@@ -55,53 +100,77 @@ module _ (room needed : ℕ) (ops : List ℕ) where
           long = ltb-false room needed (c .0);
           low = λ i l. ltb-false LAST-ADDRESS (addressAt ops i) (at-clear (highAt ops) (opCount ops) i d l);
         }),
-    λ h.
-        ap (λ (b : Bool). refuseIf b (PastEnd (MAX-OPS + 1)) (notWhole ops (tooShort room needed (tooHigh ops accepted)))) (le-ltb MAX-OPS (opCount ops) (h .few))
-        ∙ ap (λ (b : Bool). refuseIf (not b) (NotWhole 2) (tooShort room needed (tooHigh ops accepted))) (eq-eqb (length ops % OP-WORDS) 0 (h .whole))
-        ∙ ap (λ (b : Bool). refuseIf b (TooShort needed) (tooHigh ops accepted)) (le-ltb room needed (h .long))
-        ∙ ap (λ (o : Option ℕ). refuseAt o (λ i. HighAddress (addressAt ops i)) accepted)
-        (at-nothing (highAt ops) (opCount ops) (λ i l. le-ltb LAST-ADDRESS (addressAt ops i) (h .low i l))),
+    λ h. none-high (h .few) (h .whole) (h .long) (h .low),
   )
 
--- ---- a list of one operation
-module _ (timestamp address : ℕ) (input output : List ℕ) (in-size : length input ≡ 25) (out-size : length output ≡ 25)
-    (room needed : ℕ) (fits : needed ≤ room) where
-  abbrev pub oneOp : List ℕ
-  oneOp = timestamp ∷ address ∷ (input ++ output)
+-- ---- the words of an operation
+module _ (timestamp address : ℕ) (input output : List ℕ) (in-size : length input ≡ 25) (out-size : length output ≡ 25) where
+  -- its 52 words
+  abbrev pub words : List ℕ
+  words = timestamp ∷ address ∷ (input ++ output)
 
-  one-size : length oneOp ≡ OP-WORDS
-  one-size = omega (arith, length-append input output)
+  abbrev pub operation : KeccakOperation
+  operation = record { timestamp = timestamp; «state_addr» = address; input = input; output = output }
 
-  one-count : opCount oneOp ≡ 1
-  one-count = omega (arith, one-size)
+  pub words-size : length words ≡ OP-WORDS
+  words-size = omega (arith, length-append input output)
 
-  one-whole : length oneOp % OP-WORDS ≡ 0
-  one-whole = omega (arith, one-size)
+  -- operation i of a list is what its 52 words say, whatever stands before and after them
+  pub op-words : (before after : List ℕ) (i : ℕ) → length before ≡ OP-WORDS * i → opAt (before ++ (words ++ after)) i ≡ operation
+  unfolding opAt
+  op-words before after i e = λ p. record { timestamp = stamp p; «state_addr» = addr p; input = ins p; output = outs p }
+    where
+      ws : List ℕ
+      ws = before ++ (words ++ after)
 
-  one-address : addressAt oneOp 0 ≡ address
+      word-at : (k n : ℕ) → n ≡ length before + k → k < OP-WORDS → getD ws n 0 ≡ getD words k 0
+      word-at k n q l =
+          ap (λ (m : ℕ). getD ws m 0) q ∙ getD-append-add before (words ++ after) k 0 ∙ List·getD-append words after 0 k (omega (arith, words-size))
+
+      stamp : getD ws (52 * i) 0 ≡ timestamp
+      stamp = word-at 0 (52 * i) (omega arith) (omega arith)
+
+      addr : getD ws (52 * i + 1) 0 ≡ address
+      addr = word-at 1 (52 * i + 1) (omega arith) (omega arith)
+
+      past : (k : ℕ) → getD words (2 + k) 0 ≡ getD (input ++ output) k 0
+      past k = let q : 2 + k ≡ suc (suc k) = omega arith in ap (λ (m : ℕ). getD words m 0) q
+
+      ins : tab 25 (λ k. getD ws (52 * i + 2 + k) 0) ≡ input
+      ins =
+          tab-same 25 (λ k. getD ws (52 * i + 2 + k) 0) (λ k. getD input k 0) (λ k l.
+          word-at (2 + k) (52 * i + 2 + k) (omega arith) (omega arith) ∙ past k ∙ List·getD-append input output 0 k (omega arith))
+          ∙ sym (list-tab input 25 in-size)
+
+      outs : tab 25 (λ k. getD ws (52 * i + 27 + k) 0) ≡ output
+      outs =
+          tab-same 25 (λ k. getD ws (52 * i + 27 + k) 0) (λ k. getD output k 0) (λ k l.
+          let q : 25 + k ≡ length input + k = omega arith in
+          word-at (2 + (25 + k)) (52 * i + 27 + k) (omega arith) (omega arith) ∙ past (25 + k) ∙ ap (λ (m : ℕ). getD (input ++ output) m 0) q
+          ∙ getD-append-add input output k 0)
+          ∙ sym (list-tab output 25 out-size)
+
+  -- ---- a list of one operation
+  one-count : opCount words ≡ 1
+  one-count = omega (arith, words-size)
+
+  one-whole : length words % OP-WORDS ≡ 0
+  one-whole = omega (arith, words-size)
+
+  one-address : addressAt words 0 ≡ address
   unfolding opAt
   one-address = refl
 
-  pub one-accepted : address ≤ LAST-ADDRESS → operationsRefusal room needed oneOp ≡ accepted
-  one-accepted h =
-      accepted-is room needed oneOp .1
-      (record {
-        few = omega (arith, one-count);
-        whole = one-whole;
-        long = fits;
-        low = λ i l. let e : i ≡ 0 = omega (arith, one-count) in subst (λ (j : ℕ). addressAt oneOp j ≤ LAST-ADDRESS) (sym e) (omega (arith, one-address));
-      })
+  module _ (room needed : ℕ) (fits : needed ≤ room) where
+    pub one-accepted : address ≤ LAST-ADDRESS → operationsRefusal room needed words ≡ accepted
+    one-accepted h =
+        none-high room needed words (omega (arith, one-count)) one-whole fits
+        (λ i l. let e : i ≡ 0 = omega (arith, one-count) in subst (λ (j : ℕ). addressAt words j ≤ LAST-ADDRESS) (sym e) (omega (arith, one-address)))
 
-  pub one-refused : LAST-ADDRESS < address → operationsRefusal room needed oneOp ≡ some (HighAddress address)
-  unfolding operationsRefusal highAt
-  one-refused h =
-      let found : firstAt (highAt oneOp) (opCount oneOp) ≡ some 0 =
-      at-hit (highAt oneOp) 0 (opCount oneOp) (omega (arith, one-count)) (first-start _) (lt-ltb LAST-ADDRESS (addressAt oneOp 0) (omega (arith, one-address))) in
-      ap (λ (b : Bool). refuseIf b (PastEnd (MAX-OPS + 1)) (notWhole oneOp (tooShort room needed (tooHigh oneOp accepted)))) (le-ltb MAX-OPS (opCount oneOp) (omega (arith, one-count)))
-      ∙ ap (λ (b : Bool). refuseIf (not b) (NotWhole 2) (tooShort room needed (tooHigh oneOp accepted))) (eq-eqb (length oneOp % OP-WORDS) 0 one-whole)
-      ∙ ap (λ (b : Bool). refuseIf b (TooShort needed) (tooHigh oneOp accepted)) (le-ltb room needed fits)
-      ∙ ap (λ (o : Option ℕ). refuseAt o (λ i. HighAddress (addressAt oneOp i)) accepted) found
-      ∙ ap (λ (a : ℕ). some (HighAddress a)) one-address
+    pub one-refused : LAST-ADDRESS < address → operationsRefusal room needed words ≡ some (HighAddress address)
+    one-refused h =
+        high-refused room needed words (omega (arith, one-count)) one-whole fits 0 (omega (arith, one-count)) (omega (arith, one-address)) (λ j g. absurd (omega arith))
+        ∙ ap (λ (a : ℕ). some (HighAddress a)) one-address
 
 -- P: "Address 18446744073709551423 accepted; next refused by 4."
 module _ (timestamp : ℕ) (input output : List ℕ) (in-size : length input ≡ 25) (out-size : length output ≡ 25)

@@ -19,8 +19,8 @@ coreLayout = record { width = core.NUM-COLUMNS; mu = core.MU }
 abbrev pub roundLayout : Layout
 roundLayout = record { width = round.NUM-COLUMNS; mu = round.MU }
 
--- "52 values per core row", "84 per core row". The syscall number, here 0, stands in the Ecall tuple only, which is not looked up; nr
--- stands in the Keccak tuple that a core row sends, at round 24 - nr.
+-- "52 values per core row", "84 per core row". The syscall number, here 0, stands in the Ecall tuple only, which is
+-- not looked up; nr stands in the Keccak tuple that a core row sends, at round 24 - nr.
 abbrev pub coreKind : ℕ → Kind
 coreKind nr = record { layout = coreLayout; values = 52; value = coreValue; tuples = 84; tuple = coreTuple nr 0 }
 
