@@ -158,11 +158,11 @@ module _ (K L : Kind) (core round : List ℕ) where
   abbrev Say : Verdict → Type 0
   Say = Says K L core round
 
-  to-core : ToCoreBalance K L core round → Passes K core
-  to-core h = let c = h .0 .0 .0 in let w = c .0 .0 in record { whole = w .0; below = w .2; values = c .0 .1; lookups = c .1 }
+  core-passes : ToCoreBalance K L core round → Passes K core
+  core-passes h = let c = h .0 .0 .0 in let w = c .0 .0 in record { whole = w .0; below = w .2; values = c .0 .1; lookups = c .1 }
 
-  to-round : ToCoreBalance K L core round → Passes L round
-  to-round h = let w = h .0 .0 .0 .0 .0 in record { whole = w .1; below = w .3; values = h .0 .1; lookups = h .1 }
+  pub round-passes : ToCoreBalance K L core round → Passes L round
+  round-passes h = let w = h .0 .0 .0 .0 .0 in record { whole = w .1; below = w .3; values = h .0 .1; lookups = h .1 }
 
   from-round-balance : ToRoundBalance K L core round → Say (fromRoundBalance K L core round)
   unfolding fromRoundBalance
@@ -170,9 +170,9 @@ module _ (K L : Kind) (core round : List ℕ) where
       stage-says Say (firstUnbalanced K L core round L round) (λ x. Unbalanced Round (x .0) (x .1)) (Holds (actives (K .layout) core))
       (λ a e. (h, an-uneven L round (a .0) (a .1) .0 e))
       (λ e. (
-        to-core (h .0),
+        core-passes (h .0),
         h .0 .0 .0 .1,
-        to-round (h .0),
+        round-passes (h .0),
         scans-balanced K L core round (no-uneven K core .1 (h .1)) e,
         refl,
       ))
