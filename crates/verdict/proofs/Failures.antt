@@ -36,7 +36,7 @@ use Rattle.keccak.specs.Columns.{TIMESTAMP-0, TIMESTAMP-1}
 use Rattle.verdict.specs.Kind.{Layout, Kind, rows, row, isActive, active, actives, Active, SameTimestamp, sameStamp, DistinctTimestamps, Passes, onKeccak, sent, received, OnBus, BalancedAt, Balanced}
 use Rattle.verdict.specs.Verdict.{ragged, badValue, firstValue, badLookup, firstLookup, twin, repeats, firstRepeat, uneven, unevenTuple, badTuple, firstUnbalanced, stage, fromRoundBalance, fromCoreBalance, fromRoundLookup, fromRoundValue, fromRepeat, fromCoreLookup, fromCoreValue, fromRoundWords, fromCoreWords, judged}
 use Rattle.verdict.specs.CoreAndRound.{coreKind, roundKind, verdictAt}
-use Rattle.verdict.specs.Failures.{Whole, ZeroAt, MatchedAt, RepeatsAt, NewAt, FirstValue, FirstLookup, FirstRepeat, Values, Lookups, Elements, FirstBig, UnevenAt, EvenAt, FirstUneven, Even, ToCoreValue, ToCoreLookup, ToRepeat, ToRoundValue, ToRoundLookup, ToCoreBalance, ToRoundBalance, Says}
+use Rattle.verdict.specs.Failures.{Whole, ZeroAt, MatchedAt, RepeatsAt, NewAt, FirstValue, FirstLookup, FirstRepeat, Values, Lookups, Elements, FirstNotElement, UnevenAt, EvenAt, FirstUnbalanced, Even, ToCoreValue, ToCoreLookup, ToRepeat, ToRoundValue, ToRoundLookup, ToCoreBalance, ToRoundBalance, Says}
 use Rattle.verdict.specs.declared.Table.the-variants.{Core, Round}
 use Rattle.verdict.specs.declared.Verdict.{Verdict}
 use Rattle.verdict.specs.declared.Verdict.the-variants.{Refused, Value, Lookup, Repeated, Unbalanced, Holds}
@@ -145,13 +145,13 @@ module _ (K L : Kind) (core round : List ℕ) where
     no-big : (firstNotElement ws (length ws) ≡ none) ↔ Elements ws
     no-big = at-none-iff (notElement ws) (length ws) (element-separates ws)
 
-    a-big : (k : ℕ) → (firstNotElement ws (length ws) ≡ some k) ↔ FirstBig ws k
+    a-big : (k : ℕ) → (firstNotElement ws (length ws) ≡ some k) ↔ FirstNotElement ws k
     a-big = at-some-iff (notElement ws) (length ws) (element-separates ws)
 
     no-uneven : (firstUnbalanced K L core round M ws ≡ none) ↔ Even K L core round M ws
     no-uneven = in-none-iff (badTuple K L core round M ws) (M .tuples) (rows (M .layout) ws) (tuple-separates M ws)
 
-    an-uneven : (r i : ℕ) → (firstUnbalanced K L core round M ws ≡ some (r, i)) ↔ FirstUneven K L core round M ws r i
+    an-uneven : (r i : ℕ) → (firstUnbalanced K L core round M ws ≡ some (r, i)) ↔ FirstUnbalanced K L core round M ws r i
     an-uneven = in-some-iff (badTuple K L core round M ws) (M .tuples) (rows (M .layout) ws) (tuple-separates M ws)
 
   -- ---- the verdict says what it answers, from each stage on
