@@ -1,5 +1,6 @@
 -- The verdict on two tables is an answer exactly where specs/Failures.antt says so.
 --     verdict-iff       judged K L core round ≡ v ↔ Says K L core round v, for each answer v
+--     says, says-one    so one answer can be said of two tables, and no other
 --     verdict-says      the same of the core table and the round table
 --     core-places       a core row's tuples on the Keccak bus: 2, which it sends, and 3, which it receives
 --     round-places      a round row's: 0, which it receives, and 1, which it sends
@@ -301,6 +302,10 @@ module _ (K L : Kind) (core round : List ℕ) where
 
   pub verdict-iff : (v : Verdict) → (judged K L core round ≡ v) ↔ Say v
   verdict-iff v = ((λ e. subst Say e says), said v)
+
+  -- no two answers can be said of the same tables; `says` is that one can
+  pub says-one : (v w : Verdict) → Say v → Say w → v ≡ w
+  says-one v w h g = sym (said v h) ∙ said w g
 
   -- ---- cases
   -- a timestamp stands twice in a core table that passes: the verdict names it, whatever the outputs are and whatever the round table holds
