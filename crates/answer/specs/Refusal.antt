@@ -38,28 +38,28 @@ refusalDetail (NotElement place) = place
 refusalDetail (BadRecord start) = start
 
 -- refuse with r where the test passes, else what the later checks say
-abbrev pub refuseIf : Bool → Refusal → Option Refusal → Option Refusal
+unfoldable pub refuseIf : Bool → Refusal → Option Refusal → Option Refusal
 refuseIf b r later = pick b (some r) later
 
 -- refuse by the place that a search found, else what the later checks say
-abbrev pub refuseAt : Option ℕ → (ℕ → Refusal) → Option Refusal → Option Refusal
+unfoldable pub refuseAt : Option ℕ → (ℕ → Refusal) → Option Refusal → Option Refusal
 refuseAt none r later = later
 refuseAt (some k) r later = some (r k)
 
 abbrev pub accepted : Option Refusal
 accepted = none
 
-abbrev pub answerOf : Option Refusal → Answer
+unfoldable pub answerOf : Option Refusal → Answer
 answerOf none = Done
 answerOf (some r) = Refused r
 
-abbrev pub numberOf : ℕ → Option Refusal → Number
+unfoldable pub numberOf : ℕ → Option Refusal → Number
 numberOf n none = number.Is n
 numberOf n (some r) = number.Refused r
 
 unfoldable pub overwrite : List ℕ → List ℕ → List ℕ
 overwrite new old = new ++ drop (length new) old
 
-abbrev pub afterwards : Option Refusal → List ℕ → List ℕ → List ℕ
+unfoldable pub afterwards : Option Refusal → List ℕ → List ℕ → List ℕ
 afterwards none new old = new
 afterwards (some r) new old = old

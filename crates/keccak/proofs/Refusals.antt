@@ -17,11 +17,12 @@ use Rattle.lists.specs.Tab.{tab}
 use Rattle.lists.proofs.First.{at-clear, at-hit, at-nothing}
 use Rattle.lists.proofs.Laws.{tab-same, list-tab}
 use Rattle.answer.specs.Limits.{MAX-OPS}
-use Rattle.answer.specs.Refusal.{refuseIf, refuseAt, accepted}
+use Rattle.answer.specs.Refusal.{accepted}
 use Rattle.answer.specs.declared.Refusal.{Refusal}
+use Rattle.answer.proofs.Laws.{refuse-yes, refuse-no, at-yes, at-no, passed-if, passed-at}
 use Rattle.answer.specs.declared.Refusal.the-variants.{PastEnd, NotWhole, TooShort, HighAddress}
-use Rattle.keccak.specs.Row.{opAt, LAST-ADDRESS}
-use Rattle.keccak.specs.Refusals.{OP-WORDS, opCount, addressAt, highAt, tooShort, tooHigh, notWhole, operationsRefusal}
+use Rattle.keccak.specs.Row.{OP-WORDS, opAt, LAST-ADDRESS}
+use Rattle.keccak.specs.Refusals.{opCount, addressAt, highAt, tooShort, tooHigh, notWhole, operationsRefusal}
 use Rattle.keccak.specs.declared.KeccakOperation.{KeccakOperation}
 
 -- the reason of the limit
@@ -35,70 +36,57 @@ pub record Acceptable (room needed : ℕ) (ops : List ℕ) : Type 0 where
   pub long : needed ≤ room
   pub low : (i : ℕ) → i < opCount ops → addressAt ops i ≤ LAST-ADDRESS
 
--- a check that did not refuse
-if-passed : (b : Bool) (r : Refusal) (later : Option Refusal) → refuseIf b r later ≡ accepted → (b ≡ false) × (later ≡ accepted)
-if-passed true r later e = absurd (let z : _≡_ {A = ℕ} 0 1 = cc in omega arith)
-if-passed false r later e = (refl, e)
-
-at-passed : (o : Option ℕ) (r : ℕ → Refusal) (later : Option Refusal) → refuseAt o r later ≡ accepted → o ≡ none
-at-passed none r later e = refl
-at-passed (some k) r later e = absurd (let z : _≡_ {A = ℕ} 0 1 = cc in omega arith)
-
 module _ (room needed : ℕ) (ops : List ℕ) where
   -- ---- the refusals, in their order
   pub many-refused : MAX-OPS < opCount ops → operationsRefusal room needed ops ≡ some (PastEnd 89478486)
   unfolding operationsRefusal
-  many-refused h = ap (λ (b : Bool). refuseIf b (PastEnd 89478486) (notWhole ops (tooShort room needed (tooHigh ops accepted)))) (lt-ltb MAX-OPS (opCount ops) h)
+  many-refused h = refuse-yes _ _ (lt-ltb MAX-OPS (opCount ops) h)
 
   module _ (few : opCount ops ≤ MAX-OPS) where
-    past-many : operationsRefusal room needed ops ≡ notWhole ops (tooShort room needed (tooHigh ops accepted))
+    past-many : {o : Option Refusal} → notWhole ops (tooShort room needed (tooHigh ops accepted)) ≡ o → operationsRefusal room needed ops ≡ o
     unfolding operationsRefusal
-    past-many = ap (λ (b : Bool). refuseIf b (PastEnd 89478486) (notWhole ops (tooShort room needed (tooHigh ops accepted)))) (le-ltb MAX-OPS (opCount ops) few)
+    past-many e = refuse-no _ (le-ltb MAX-OPS (opCount ops) few) e
 
     pub ragged-refused : (length ops % OP-WORDS ≡ 0 → ⊥) → operationsRefusal room needed ops ≡ some (NotWhole 2)
-    ragged-refused h = past-many ∙ ap (λ (b : Bool). refuseIf (not b) (NotWhole 2) (tooShort room needed (tooHigh ops accepted))) (ne-eqb (length ops % OP-WORDS) 0 h)
+    ragged-refused h = past-many (refuse-yes _ _ (ap not (ne-eqb (length ops % OP-WORDS) 0 h)))
 
     module _ (whole : length ops % OP-WORDS ≡ 0) where
-      past-ragged : operationsRefusal room needed ops ≡ tooShort room needed (tooHigh ops accepted)
-      past-ragged = past-many ∙ ap (λ (b : Bool). refuseIf (not b) (NotWhole 2) (tooShort room needed (tooHigh ops accepted))) (eq-eqb (length ops % OP-WORDS) 0 whole)
+      past-ragged : {o : Option Refusal} → tooShort room needed (tooHigh ops accepted) ≡ o → operationsRefusal room needed ops ≡ o
+      past-ragged e = past-many (refuse-no _ (ap not (eq-eqb (length ops % OP-WORDS) 0 whole)) e)
 
       pub short-refused : room < needed → operationsRefusal room needed ops ≡ some (TooShort needed)
-      short-refused h = past-ragged ∙ ap (λ (b : Bool). refuseIf b (TooShort needed) (tooHigh ops accepted)) (lt-ltb room needed h)
+      short-refused h = past-ragged (refuse-yes _ _ (lt-ltb room needed h))
 
       module _ (long : needed ≤ room) where
-        past-short : operationsRefusal room needed ops ≡ tooHigh ops accepted
-        past-short = past-ragged ∙ ap (λ (b : Bool). refuseIf b (TooShort needed) (tooHigh ops accepted)) (le-ltb room needed long)
+        past-short : {o : Option Refusal} → tooHigh ops accepted ≡ o → operationsRefusal room needed ops ≡ o
+        past-short e = past-ragged (refuse-no _ (le-ltb room needed long) e)
 
         -- operation i is the first whose address is too high
         pub high-refused : (i : ℕ) → i < opCount ops → LAST-ADDRESS < addressAt ops i → ((j : ℕ) → j < i → addressAt ops j ≤ LAST-ADDRESS) →
             operationsRefusal room needed ops ≡ some (HighAddress (addressAt ops i))
         unfolding highAt
         high-refused i l h low =
-            past-short
-            ∙ ap (λ (o : Option ℕ). refuseAt o (λ j. HighAddress (addressAt ops j)) accepted)
-            (at-hit (highAt ops) i (opCount ops) l (at-nothing (highAt ops) i (λ j g. le-ltb LAST-ADDRESS (addressAt ops j) (low j g))) (lt-ltb LAST-ADDRESS (addressAt ops i) h))
+            past-short (at-yes (λ j. HighAddress (addressAt ops j)) accepted
+            (at-hit (highAt ops) i (opCount ops) l (at-nothing (highAt ops) i (λ j g. le-ltb LAST-ADDRESS (addressAt ops j) (low j g))) (lt-ltb LAST-ADDRESS (addressAt ops i) h)))
 
         pub none-high : ((i : ℕ) → i < opCount ops → addressAt ops i ≤ LAST-ADDRESS) → operationsRefusal room needed ops ≡ accepted
         unfolding highAt
-        none-high low =
-            past-short
-            ∙ ap (λ (o : Option ℕ). refuseAt o (λ j. HighAddress (addressAt ops j)) accepted)
-            (at-nothing (highAt ops) (opCount ops) (λ j g. le-ltb LAST-ADDRESS (addressAt ops j) (low j g)))
+        none-high low = past-short (at-no _ (at-nothing (highAt ops) (opCount ops) (λ j g. le-ltb LAST-ADDRESS (addressAt ops j) (low j g))) refl)
 
   -- ---- accepted
   pub accepted-is : (operationsRefusal room needed ops ≡ accepted) ↔ Acceptable room needed ops
   unfolding operationsRefusal highAt
   accepted-is = (
     (λ e.
-        let a = if-passed _ _ _ e in
-        let b = if-passed _ _ _ (a .1) in
-        let c = if-passed _ _ _ (b .1) in
-        let d = at-passed _ _ _ (c .1) in
+        let a = passed-if _ _ _ e in
+        let b = passed-if _ _ _ (a .1) in
+        let c = passed-if _ _ _ (b .1) in
+        let d = passed-at _ _ _ (c .1) in
         record {
           few = ltb-false MAX-OPS (opCount ops) (a .0);
           whole = eqb-true (length ops % OP-WORDS) 0 (not-false _ (b .0));
           long = ltb-false room needed (c .0);
-          low = λ i l. ltb-false LAST-ADDRESS (addressAt ops i) (at-clear (highAt ops) (opCount ops) i d l);
+          low = λ i l. ltb-false LAST-ADDRESS (addressAt ops i) (at-clear (highAt ops) (opCount ops) i (d .0) l);
         }),
     λ h. none-high (h .few) (h .whole) (h .long) (h .low),
   )

@@ -13,11 +13,7 @@ use Rattle.answer.specs.Limits.{MAX-OPS}
 use Rattle.answer.specs.Refusal.{refuseIf, refuseAt, accepted}
 use Rattle.answer.specs.declared.Refusal.{Refusal}
 use Rattle.answer.specs.declared.Refusal.the-variants.{PastEnd, NotWhole, TooShort, HighAddress}
-use Rattle.keccak.specs.Row.{opAt, LAST-ADDRESS}
-
--- "A list of operations is lent flat, 52 words each": timestamp, address, 25 input lanes, 25 output lanes
-abbrev pub OP-WORDS : ℕ
-OP-WORDS = 52
+use Rattle.keccak.specs.Row.{OP-WORDS, opAt, LAST-ADDRESS}
 
 -- "a list's n is its length div 52"
 abbrev pub opCount : List ℕ → ℕ

@@ -19,17 +19,21 @@ use Rattle.lookup.specs.declared.TupleAnswer.the-variants.{Is, Refused}
 abbrev pub interactionOf : Tuple → BusInteraction
 interactionOf t = record { bus = t .bus; side = t .side; length = length (t .values); multiplicity = t .multiplicity }
 
--- 1 for the index; 3 for the row, then for the slice that takes the values; 5 for the first column that is p or more
-unfoldable pub tupleRefusal : ℕ → ℕ → (List ℕ → ℕ → Tuple) → List ℕ → ℕ → List ℕ → Option Refusal
-tupleRefusal width count tuple row i out =
-    let size = length (tuple row i .values) in
+-- the checks: 1 for the index; 3 for the row, then for the slice of `room` words that takes the `size` values; 5 for the
+-- first column that is p or more
+unfoldable pub sizedRefusal : ℕ → ℕ → List ℕ → ℕ → ℕ → ℕ → Option Refusal
+sizedRefusal width count row i size room =
     refuseIf (leb count i) (PastEnd count)
     (refuseIf (ltb (length row) width) (TooShort width)
-    (refuseIf (ltb (length out) size) (TooShort size)
+    (refuseIf (ltb room size) (TooShort size)
     (refuseAt (firstNotElement row width) NotElement
     accepted)))
 
-abbrev pub tupleAnswer : Tuple → Option Refusal → TupleAnswer
+-- the same, the size being the number of values of tuple i
+unfoldable pub tupleRefusal : ℕ → ℕ → (List ℕ → ℕ → Tuple) → List ℕ → ℕ → List ℕ → Option Refusal
+tupleRefusal width count tuple row i out = sizedRefusal width count row i (length (tuple row i .values)) (length out)
+
+unfoldable pub tupleAnswer : Tuple → Option Refusal → TupleAnswer
 tupleAnswer t none = Is (interactionOf t)
 tupleAnswer t (some r) = Refused r
 

@@ -19,9 +19,9 @@ use Rattle.answer.specs.Limits.{MAX-OPS}
 use Rattle.answer.specs.Refusal.{accepted}
 use Rattle.fips202.specs.Lanes.{Lanes}
 use Rattle.keccak.specs.Columns.{TIMESTAMP-0, TIMESTAMP-1, INPUT-STATE, OUTPUT-STATE, MU, NUM-COLUMNS, addr, state-ptr, laneColumn}
-use Rattle.keccak.specs.Row.{pointerLimb, coreGroups, coreRow, opAt, stateLanes, coreAddress}
+use Rattle.keccak.specs.Row.{pointerLimb, coreGroups, coreRow, OP-WORDS, opAt, stateLanes, coreAddress}
 use Rattle.keccak.specs.Passes.{CoreCells}
-use Rattle.keccak.specs.Refusals.{OP-WORDS, opCount, operationsRefusal}
+use Rattle.keccak.specs.Refusals.{opCount, operationsRefusal}
 use Rattle.keccak.specs.declared.KeccakOperation.{KeccakOperation}
 use Rattle.keccak.proofs.State.{length-state, state-lanes, state-byte}
 use Rattle.keccak.proofs.Cells.{length-core}

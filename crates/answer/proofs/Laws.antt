@@ -1,0 +1,100 @@
+-- Laws of the refusals, for the proof of a call:
+--     refuse-yes, refuse-no     a check refuses, or the later ones decide
+--     at-yes, at-no             the same for a check that searches
+--     answers, accepts          the answer, once the checks are known
+--     kept, written             the words left, once the checks are known
+--     refused, done             the two clauses of a call's contract, once the checks are known
+--     is-refused, is-done       what an answer that another function gave says of the checks
+--     passed-if, passed-at      what an accepted call knows of a check, and of those after it
+--     sets-overwrite            words stored one by one from the front
+-- Assumes nothing.
+use Prim.Native.Nat.{ℕ, _≤_}
+use mathlib.Core.Path.{_≡_, refl, sym, ap, _∙_}
+use mathlib.Core.Bool.{Bool, true, false}
+use mathlib.Core.Option.{Option, none, some}
+use mathlib.Core.List.{List}
+use lib.ListN.{length}
+use lib.Seq.{sets}
+use Rattle.lists.proofs.Laws.{sets-front}
+use Rattle.answer.specs.Refusal.{refuseIf, refuseAt, answerOf, numberOf, overwrite, afterwards}
+use Rattle.answer.specs.declared.Refusal.{Refusal}
+use Rattle.answer.specs.declared.Answer.{Answer}
+use Rattle.answer.specs.declared.Answer.the-variants.{Done, Refused}
+use Rattle.answer.specs.declared.Number.the-variants as number
+
+-- ---- one check
+
+pub refuse-yes : {b : Bool} (r : Refusal) (later : Option Refusal) → b ≡ true → refuseIf b r later ≡ some r
+unfolding refuseIf
+refuse-yes r later e = rw e
+
+pub refuse-no : {b : Bool} {later o : Option Refusal} (r : Refusal) → b ≡ false → later ≡ o → refuseIf b r later ≡ o
+unfolding refuseIf
+refuse-no r e q = rw e q
+
+pub at-yes : {found : Option ℕ} {k : ℕ} (f : ℕ → Refusal) (later : Option Refusal) → found ≡ some k
+    → refuseAt found f later ≡ some (f k)
+unfolding refuseAt
+at-yes f later e = rw e
+
+pub at-no : {found : Option ℕ} {later o : Option Refusal} (f : ℕ → Refusal) → found ≡ none → later ≡ o
+    → refuseAt found f later ≡ o
+unfolding refuseAt
+at-no f e q = rw e q
+
+-- ---- a call that only writes: its answer, and the words that it leaves
+
+pub kept : {o : Option Refusal} {r : Refusal} (new old : List ℕ) → o ≡ some r → old ≡ afterwards o new old
+unfolding afterwards
+kept new old e = rw e
+
+pub written : {o : Option Refusal} {new row : List ℕ} (old : List ℕ) → o ≡ none → row ≡ new → row ≡ afterwards o new old
+unfolding afterwards
+written old e q = rw e q
+
+pub answers : {o : Option Refusal} {r : Refusal} → o ≡ some r → Refused r ≡ answerOf o
+unfolding answerOf
+answers e = rw e
+
+pub accepts : {o : Option Refusal} → o ≡ none → Done ≡ answerOf o
+unfolding answerOf
+accepts e = rw e
+
+pub refused : {o : Option Refusal} {r : Refusal} (new old : List ℕ) → o ≡ some r
+    → (Refused r ≡ answerOf o) × (old ≡ afterwards o new old)
+refused new old e = (answers e, kept new old e)
+
+pub done : {o : Option Refusal} {new row : List ℕ} (old : List ℕ) → o ≡ none → row ≡ new
+    → (Done ≡ answerOf o) × (row ≡ afterwards o new old)
+done old e q = (accepts e, written old e q)
+
+-- ---- what an answer says
+
+pub is-refused : (o : Option Refusal) {r : Refusal} → Refused r ≡ answerOf o → o ≡ some r
+unfolding answerOf
+is-refused none e = cc
+is-refused (some x) e = cc
+
+pub is-done : (o : Option Refusal) → Done ≡ answerOf o → o ≡ none
+unfolding answerOf
+is-done none e = refl
+is-done (some x) e = cc
+
+-- ---- what an accepted call knows
+
+pub passed-if : (b : Bool) (r : Refusal) (later : Option Refusal) → refuseIf b r later ≡ none → (b ≡ false) × (later ≡ none)
+unfolding refuseIf
+passed-if true r later e = (cc, cc)
+passed-if false r later e = (refl, e)
+
+pub passed-at : (found : Option ℕ) (f : ℕ → Refusal) (later : Option Refusal) → refuseAt found f later ≡ none
+    → (found ≡ none) × (later ≡ none)
+unfolding refuseAt
+passed-at none f later e = (refl, e)
+passed-at (some k) f later e = (cc, cc)
+
+-- ---- words stored one by one
+
+pub sets-overwrite : (old new : List ℕ) → length new ≤ length old → sets old 0 new ≡ overwrite new old
+unfolding overwrite
+sets-overwrite old new h = sets-front old new (length new) refl h

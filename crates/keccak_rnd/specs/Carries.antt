@@ -1,0 +1,27 @@
+-- Which halfword feeds which byte. C[x] is rotated left by one bit, halfword by halfword: CXZ_LEFT holds the low 16 bits of
+-- each shifted halfword, CXZ_RIGHT its carry. A carry goes into the lowest byte of the next halfword, and that of the
+-- highest halfword comes round to byte 0. proofs/Carries.antt: `carries` proves it of every active row that passes.
+-- Assumes nothing.
+use mathlib.Core.Path.{_≡_}
+use mathlib.Core.List.{List}
+use Prim.Native.Nat.{ℕ, _+_}
+use Rattle.lists.specs.Tab.{word}
+use Rattle.bits.specs.Bits.{byteAt, rot}
+use Rattle.fips202.specs.Lanes.{parityL}
+use Rattle.keccak_rnd.specs.Columns.{cxz-left, cxz-right-bit}
+
+-- byte b of the parity of column x, rotated by one bit
+abbrev pub rotatedParity : List ℕ → ℕ → ℕ → ℕ
+rotatedParity s x b = byteAt (rot (parityL s x) 1) b
+
+pub record Carries (row s : List ℕ) (x : ℕ) : Type 0 where
+  -- byte 0 takes the carry of halfword 3, byte 2 of 0, byte 4 of 1, byte 6 of 2
+  pub byte-0 : rotatedParity s x 0 ≡ word row (cxz-left x 0) + word row (cxz-right-bit x 3)
+  pub byte-2 : rotatedParity s x 2 ≡ word row (cxz-left x 2) + word row (cxz-right-bit x 0)
+  pub byte-4 : rotatedParity s x 4 ≡ word row (cxz-left x 4) + word row (cxz-right-bit x 1)
+  pub byte-6 : rotatedParity s x 6 ≡ word row (cxz-left x 6) + word row (cxz-right-bit x 2)
+  -- odd bytes take none
+  pub byte-1 : rotatedParity s x 1 ≡ word row (cxz-left x 1)
+  pub byte-3 : rotatedParity s x 3 ≡ word row (cxz-left x 3)
+  pub byte-5 : rotatedParity s x 5 ≡ word row (cxz-left x 5)
+  pub byte-7 : rotatedParity s x 7 ≡ word row (cxz-left x 7)
