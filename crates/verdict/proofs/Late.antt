@@ -14,7 +14,7 @@ use Rattle.field.proofs.Field.{fadd-small}
 use Rattle.keccak.specs.Tuples.{keccakValues, coreTuple, coreReceived}
 use Rattle.keccak_rnd.specs.Columns.{ROUND}
 use Rattle.keccak_rnd.specs.Tuples.{roundTuple, roundReceived, roundSent}
-use Rattle.keccak_rnd.proofs.Sound.{round-sound}
+use Rattle.keccak_rnd.proofs.Soundness.{round-sound}
 use Rattle.bus.specs.Words.{wordsTest}
 use Rattle.bus.proofs.Words.{words-sound, words-same}
 use Rattle.verdict.specs.Kind.{Kind, rows, row, active, Active, Passes, OnBus, sent, received, Balanced}
