@@ -1,13 +1,30 @@
--- The counters of the lookups, ten to a row. Assumes nothing.
+-- The counters of the lookups, ten to a row, and `bump`, which adds one to one of them. Assumes nothing.
 use Prim.Native.Nat.{ℕ, _+_, _*_}
 use mathlib.Core.List.{List}
-use lib.ListN.{getD, set}
-use Rattle.field.specs.Field.{fadd}
+use mathlib.Core.Option.{Option}
+use lib.Dec.{leb, ltb}
+use lib.ListN.{length, getD, set}
+use Rattle.lists.specs.Tab.{word}
+use Rattle.field.specs.Field.{p, fadd}
+use Rattle.answer.specs.Refusal.{refuseIf, accepted}
+use Rattle.answer.specs.declared.Refusal.{Refusal}
+use Rattle.answer.specs.declared.Refusal.the-variants.{PastEnd, TooShort, NotElement}
+use Rattle.bitwise.specs.Columns.{NUM-LOOKUP-TYPES, NUM-COUNTERS, Z-END}
 use Rattle.bitwise.specs.Row.{row-index}
 
+-- Where the counter of a kind stands for X, Y and Z: row · 10 + kind (01-scope.md; the Rust keeps kind · 2^20 + row).
 abbrev pub counterAt : ℕ → ℕ → ℕ → ℕ → ℕ
-counterAt x y z kind = row-index x y z * 10 + kind
+counterAt kind x y z = row-index x y z * NUM-LOOKUP-TYPES + kind
 
--- one call: one counter, one more, mod p
+-- The counters with one more, mod p, at a place, and every other as it was.
 unfoldable pub charge : List ℕ → ℕ → List ℕ
 charge counters at = set counters at (fadd (getD counters at 0) 1)
+
+-- What `bump` refuses: 1 the kind, then Z; 3 too few counters; 5 the counter charged is p or more.
+unfoldable pub bumpRefusal : List ℕ → ℕ → ℕ → ℕ → ℕ → Option Refusal
+bumpRefusal counters kind x y z =
+    refuseIf (leb NUM-LOOKUP-TYPES kind) (PastEnd NUM-LOOKUP-TYPES)
+    (refuseIf (leb Z-END z) (PastEnd Z-END)
+    (refuseIf (ltb (length counters) NUM-COUNTERS) (TooShort NUM-COUNTERS)
+    (refuseIf (leb p (word counters (counterAt kind x y z))) (NotElement (counterAt kind x y z))
+    accepted)))

@@ -1,19 +1,36 @@
--- tables/bitwise.rs, generate_bitwise_row and row_index: a row by its index. Assumes nothing.
+-- tables/bitwise.rs, `generate_bitwise_row` and `row_index`: a row by its index. Assumes nothing.
 use Prim.Native.Nat.{ℕ, _+_, _*_, _/_, _%_}
 use mathlib.Core.Bool.{_&&_}
 use mathlib.Core.List.{List, [], _∷_}
+use mathlib.Core.Option.{Option}
 use lib.Bits.{bitXor, bitAnd, bitOr}
-use lib.Dec.{eqb}
+use lib.Dec.{eqb, leb, ltb}
+use lib.ListN.{length}
 use Rattle.lists.specs.Tab.{pick}
 use Rattle.bits.specs.Bits.{hwsl, hwslCarry}
+use Rattle.answer.specs.Refusal.{refuseIf, accepted}
+use Rattle.answer.specs.declared.Refusal.{Refusal}
+use Rattle.answer.specs.declared.Refusal.the-variants.{PastEnd, TooShort}
+use Rattle.bitwise.specs.Columns.{NUM-ROWS, NUM-PRECOMPUTED-COLS}
 
+-- The eleven fixed columns of the row of X, Y and Z, in the order of Columns: X, Y, Z; AND, OR, XOR; the top bit of X and of
+-- the halfword H = X + 256 Y; whether all three are 0; H · 2^Z mod 65,536 and H · 2^Z div 65,536.
 unfoldable pub rowOfXYZ : ℕ → ℕ → ℕ → List ℕ
 rowOfXYZ x y z =
     x ∷ y ∷ z ∷ bitAnd x y ∷ bitOr x y ∷ bitXor x y ∷ x / 128 % 2 ∷ (x + y * 256) / 32768 % 2
     ∷ pick (eqb x 0 && (eqb y 0 && eqb z 0)) 1 0 ∷ hwsl (x + y * 256) z ∷ hwslCarry (x + y * 256) z ∷ []
 
+-- `row_index`: the index of the row of X, Y and Z.
+abbrev pub row-index : ℕ → ℕ → ℕ → ℕ
+row-index x y z = x + y * 256 + z * 65536
+
+-- `generate_bitwise_row`: row i, its X, Y and Z read from the index.
 unfoldable pub bitwiseRow : ℕ → List ℕ
 bitwiseRow i = rowOfXYZ (i % 256) (i / 256 % 256) (i / 65536 % 16)
 
-abbrev pub row-index : ℕ → ℕ → ℕ → ℕ
-row-index x y z = x + y * 256 + z * 65536
+-- What `generate_bitwise_row` refuses: 1 an index past the last row, 3 a row shorter than the fixed columns.
+unfoldable pub rowRefusal : ℕ → List ℕ → Option Refusal
+rowRefusal i row =
+    refuseIf (leb NUM-ROWS i) (PastEnd NUM-ROWS)
+    (refuseIf (ltb (length row) NUM-PRECOMPUTED-COLS) (TooShort NUM-PRECOMPUTED-COLS)
+    accepted)

@@ -23,7 +23,7 @@ use Rattle.keccak.specs.Values.{wordOfBytes, wordOfHalves}
 use Rattle.keccak.specs.Tuples.{ecallTuple, addrMemw, laneMemw, pointerTuple}
 use Rattle.keccak.specs.Passes.{CoreCells}
 use Rattle.keccak.specs.declared.KeccakOperation.{KeccakOperation}
-use Rattle.keccak.proofs.Core.{Ranged, limb-next, address-split, lo-bytes, hi-bytes, lo-lt, hi-lt}
+use Rattle.keccak.proofs.Words.{Ranged, limb-next, address-split, lo-bytes, hi-bytes, lo-lt, hi-lt}
 use Rattle.keccak.proofs.Cells.{read-t0, read-t1, read-addr, read-input, read-output, read-pointer, read-mu, key-sent, address-is, pointer-is}
 
 -- a number as its low and its high word

@@ -1,0 +1,6 @@
+-- The limits that the interface sets on what a call is handed. Assumes nothing.
+use Prim.Native.Nat.{ℕ}
+
+-- The most operations in one list: the largest n with 24 · n ≤ 2^31, so that their round table has at most 2^31 rows.
+abbrev pub MAX-OPS : ℕ
+MAX-OPS = 89478485
