@@ -1,7 +1,7 @@
--- The refusals of a call that takes a list of operations, 52 words each: one definition for every such call. Assumes nothing.
---     tooMany, notWhole, tooShort, tooHigh   one check each, with the checks that follow it
+-- The refusals of a call that takes a list of operations: one definition for every such call. Assumes nothing.
+--     tooMany, notWhole, tooShort, tooHigh   one check each, followed by the checks after it
 --     operationsRefusal                      the checks of a call that takes a list and a slice to write to
--- A call that takes an index too puts its check between `tooMany` and `notWhole`: "in number order, then argument order".
+-- A call that takes an index too has its check between `tooMany` and `notWhole`: "in number order, then argument order".
 use Prim.Native.Nat.{ℕ, _+_, _/_, _%_}
 use mathlib.Core.Bool.{Bool, not}
 use mathlib.Core.Option.{Option}
@@ -19,7 +19,8 @@ use Rattle.keccak.specs.Row.{OP-WORDS, opAt, LAST-ADDRESS}
 abbrev pub opCount : List ℕ → ℕ
 opCount ops = length ops / OP-WORDS
 
--- the address of operation i, and whether it is above 2^64 - 193, so that the state's last lane would start past 2^64 - 1
+-- the address of operation i, and whether it is above 2^64 - 193, so that the state's last lane would start past 2^64
+-- - 1
 abbrev pub addressAt : List ℕ → ℕ → ℕ
 addressAt ops i = opAt ops i .«state_addr»
 

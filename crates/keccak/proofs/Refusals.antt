@@ -1,0 +1,170 @@
+-- What the refusal of a list of operations says, what an operation's words say, and the highest address. Assumes nothing.
+--     many-refused, ragged-refused, short-refused, high-refused   each refusal with its detail, where no earlier one comes
+--     accepted-is                       the call is accepted exactly where none of the four conditions holds
+--     op-words                          operation i of a list is what its 52 words say
+--     highest-accepted, next-refused    P: address 18446744073709551423 is accepted, the next is refused by 4
+use mathlib.Core.Path.{_≡_, refl, sym, ap, subst, _∙_}
+use mathlib.Core.Logic.{_↔_}
+use mathlib.Core.Bool.{Bool, true, false, not}
+use mathlib.Core.Option.{Option, none, some}
+use mathlib.Core.List.{List, _∷_, _++_}
+use Prim.Native.Nat.{ℕ, suc, _+_, _*_, _%_, _^_, _≤_, _<_}
+use native.Mathlib.Omega.{arith}
+use borrow.Author.Tests.{ltb-false, lt-ltb, le-ltb, eqb-true, eq-eqb, ne-eqb, not-false}
+use lib.ListN.{length, getD, length-append, List·getD-append}
+use lib.Seq.{getD-append-add}
+use Rattle.lists.specs.Tab.{tab}
+use Rattle.lists.proofs.First.{at-clear, at-hit, at-nothing}
+use Rattle.lists.proofs.Laws.{tab-same, list-tab}
+use Rattle.answer.specs.Limits.{MAX-OPS}
+use Rattle.answer.specs.Refusal.{accepted}
+use Rattle.answer.specs.declared.Refusal.{Refusal}
+use Rattle.answer.proofs.Laws.{refuse-yes, refuse-no, at-yes, at-no, passed-if, passed-at}
+use Rattle.answer.specs.declared.Refusal.the-variants.{PastEnd, NotWhole, TooShort, HighAddress}
+use Rattle.keccak.specs.Row.{OP-WORDS, opAt, LAST-ADDRESS}
+use Rattle.keccak.specs.Refusals.{opCount, addressAt, highAt, tooShort, tooHigh, notWhole, operationsRefusal}
+use Rattle.keccak.specs.declared.KeccakOperation.{KeccakOperation}
+
+-- the reason of the limit
+pub max-ops : (24 * MAX-OPS ≤ 2 ^ 31) × (2 ^ 31 < 24 * (MAX-OPS + 1))
+max-ops = (omega arith, omega arith)
+
+-- none of the four conditions
+pub record Acceptable (room needed : ℕ) (ops : List ℕ) : Type 0 where
+  pub few : opCount ops ≤ MAX-OPS
+  pub whole : length ops % OP-WORDS ≡ 0
+  pub long : needed ≤ room
+  pub low : (i : ℕ) → i < opCount ops → addressAt ops i ≤ LAST-ADDRESS
+
+module _ (room needed : ℕ) (ops : List ℕ) where
+  -- ---- the refusals, in their order
+  pub many-refused : MAX-OPS < opCount ops → operationsRefusal room needed ops ≡ some (PastEnd 89478486)
+  unfolding operationsRefusal
+  many-refused h = refuse-yes _ _ (lt-ltb MAX-OPS (opCount ops) h)
+
+  module _ (few : opCount ops ≤ MAX-OPS) where
+    past-many : {o : Option Refusal} → notWhole ops (tooShort room needed (tooHigh ops accepted)) ≡ o → operationsRefusal room needed ops ≡ o
+    unfolding operationsRefusal
+    past-many e = refuse-no _ (le-ltb MAX-OPS (opCount ops) few) e
+
+    pub ragged-refused : (length ops % OP-WORDS ≡ 0 → ⊥) → operationsRefusal room needed ops ≡ some (NotWhole 2)
+    ragged-refused h = past-many (refuse-yes _ _ (ap not (ne-eqb (length ops % OP-WORDS) 0 h)))
+
+    module _ (whole : length ops % OP-WORDS ≡ 0) where
+      past-ragged : {o : Option Refusal} → tooShort room needed (tooHigh ops accepted) ≡ o → operationsRefusal room needed ops ≡ o
+      past-ragged e = past-many (refuse-no _ (ap not (eq-eqb (length ops % OP-WORDS) 0 whole)) e)
+
+      pub short-refused : room < needed → operationsRefusal room needed ops ≡ some (TooShort needed)
+      short-refused h = past-ragged (refuse-yes _ _ (lt-ltb room needed h))
+
+      module _ (long : needed ≤ room) where
+        past-short : {o : Option Refusal} → tooHigh ops accepted ≡ o → operationsRefusal room needed ops ≡ o
+        past-short e = past-ragged (refuse-no _ (le-ltb room needed long) e)
+
+        -- operation i is the first whose address is too high
+        pub high-refused : (i : ℕ) → i < opCount ops → LAST-ADDRESS < addressAt ops i → ((j : ℕ) → j < i → addressAt ops j ≤ LAST-ADDRESS) →
+            operationsRefusal room needed ops ≡ some (HighAddress (addressAt ops i))
+        unfolding highAt
+        high-refused i l h low =
+            past-short (at-yes (λ j. HighAddress (addressAt ops j)) accepted
+            (at-hit (highAt ops) i (opCount ops) l (at-nothing (highAt ops) i (λ j g. le-ltb LAST-ADDRESS (addressAt ops j) (low j g))) (lt-ltb LAST-ADDRESS (addressAt ops i) h)))
+
+        pub none-high : ((i : ℕ) → i < opCount ops → addressAt ops i ≤ LAST-ADDRESS) → operationsRefusal room needed ops ≡ accepted
+        unfolding highAt
+        none-high low = past-short (at-no _ (at-nothing (highAt ops) (opCount ops) (λ j g. le-ltb LAST-ADDRESS (addressAt ops j) (low j g))) refl)
+
+  -- ---- accepted
+  pub accepted-is : (operationsRefusal room needed ops ≡ accepted) ↔ Acceptable room needed ops
+  unfolding operationsRefusal highAt
+  accepted-is = (
+    (λ e.
+        let a = passed-if _ _ _ e in
+        let b = passed-if _ _ _ (a .1) in
+        let c = passed-if _ _ _ (b .1) in
+        let d = passed-at _ _ _ (c .1) in
+        record {
+          few = ltb-false MAX-OPS (opCount ops) (a .0);
+          whole = eqb-true (length ops % OP-WORDS) 0 (not-false _ (b .0));
+          long = ltb-false room needed (c .0);
+          low = λ i l. ltb-false LAST-ADDRESS (addressAt ops i) (at-clear (highAt ops) (opCount ops) i (d .0) l);
+        }),
+    λ h. none-high (h .few) (h .whole) (h .long) (h .low),
+  )
+
+-- ---- the words of an operation
+module _ (timestamp address : ℕ) (input output : List ℕ) (in-size : length input ≡ 25) (out-size : length output ≡ 25) where
+  -- its 52 words
+  abbrev pub words : List ℕ
+  words = timestamp ∷ address ∷ (input ++ output)
+
+  abbrev pub operation : KeccakOperation
+  operation = record { timestamp = timestamp; «state_addr» = address; input = input; output = output }
+
+  pub words-size : length words ≡ OP-WORDS
+  words-size = omega (arith, length-append input output)
+
+  -- operation i of a list is what its 52 words say, whatever stands before and after them
+  pub op-words : (before after : List ℕ) (i : ℕ) → length before ≡ OP-WORDS * i → opAt (before ++ (words ++ after)) i ≡ operation
+  unfolding opAt
+  op-words before after i e = λ p. record { timestamp = stamp p; «state_addr» = addr p; input = ins p; output = outs p }
+    where
+      ws : List ℕ
+      ws = before ++ (words ++ after)
+
+      word-at : (k n : ℕ) → n ≡ length before + k → k < OP-WORDS → getD ws n 0 ≡ getD words k 0
+      word-at k n q l =
+          ap (λ (m : ℕ). getD ws m 0) q ∙ getD-append-add before (words ++ after) k 0 ∙ List·getD-append words after 0 k (omega (arith, words-size))
+
+      stamp : getD ws (52 * i) 0 ≡ timestamp
+      stamp = word-at 0 (52 * i) (omega arith) (omega arith)
+
+      addr : getD ws (52 * i + 1) 0 ≡ address
+      addr = word-at 1 (52 * i + 1) (omega arith) (omega arith)
+
+      past : (k : ℕ) → getD words (2 + k) 0 ≡ getD (input ++ output) k 0
+      past k = let q : 2 + k ≡ suc (suc k) = omega arith in ap (λ (m : ℕ). getD words m 0) q
+
+      ins : tab 25 (λ k. getD ws (52 * i + 2 + k) 0) ≡ input
+      ins =
+          tab-same 25 (λ k. getD ws (52 * i + 2 + k) 0) (λ k. getD input k 0) (λ k l.
+          word-at (2 + k) (52 * i + 2 + k) (omega arith) (omega arith) ∙ past k ∙ List·getD-append input output 0 k (omega arith))
+          ∙ sym (list-tab input 25 in-size)
+
+      outs : tab 25 (λ k. getD ws (52 * i + 27 + k) 0) ≡ output
+      outs =
+          tab-same 25 (λ k. getD ws (52 * i + 27 + k) 0) (λ k. getD output k 0) (λ k l.
+          let q : 25 + k ≡ length input + k = omega arith in
+          word-at (2 + (25 + k)) (52 * i + 27 + k) (omega arith) (omega arith) ∙ past (25 + k) ∙ ap (λ (m : ℕ). getD (input ++ output) m 0) q
+          ∙ getD-append-add input output k 0)
+          ∙ sym (list-tab output 25 out-size)
+
+  -- ---- a list of one operation
+  one-count : opCount words ≡ 1
+  one-count = omega (arith, words-size)
+
+  one-whole : length words % OP-WORDS ≡ 0
+  one-whole = omega (arith, words-size)
+
+  one-address : addressAt words 0 ≡ address
+  unfolding opAt
+  one-address = refl
+
+  module _ (room needed : ℕ) (fits : needed ≤ room) where
+    pub one-accepted : address ≤ LAST-ADDRESS → operationsRefusal room needed words ≡ accepted
+    one-accepted h =
+        none-high room needed words (omega (arith, one-count)) one-whole fits
+        (λ i l. let e : i ≡ 0 = omega (arith, one-count) in subst (λ (j : ℕ). addressAt words j ≤ LAST-ADDRESS) (sym e) (omega (arith, one-address)))
+
+    pub one-refused : LAST-ADDRESS < address → operationsRefusal room needed words ≡ some (HighAddress address)
+    one-refused h =
+        high-refused room needed words (omega (arith, one-count)) one-whole fits 0 (omega (arith, one-count)) (omega (arith, one-address)) (λ j g. absurd (omega arith))
+        ∙ ap (λ (a : ℕ). some (HighAddress a)) one-address
+
+-- P: "Address 18446744073709551423 accepted; next refused by 4."
+module _ (timestamp : ℕ) (input output : List ℕ) (in-size : length input ≡ 25) (out-size : length output ≡ 25)
+    (room needed : ℕ) (fits : needed ≤ room) where
+  pub highest-accepted : operationsRefusal room needed (timestamp ∷ 18446744073709551423 ∷ (input ++ output)) ≡ accepted
+  highest-accepted = one-accepted timestamp 18446744073709551423 input output in-size out-size room needed fits (omega arith)
+
+  pub next-refused : operationsRefusal room needed (timestamp ∷ 18446744073709551424 ∷ (input ++ output)) ≡ some (HighAddress 18446744073709551424)
+  next-refused = one-refused timestamp 18446744073709551424 input output in-size out-size room needed fits (omega arith)
