@@ -1,4 +1,4 @@
--- tables/keccak_rc.rs, `generate_keccak_rc_trace` and `update_multiplicities`: the table, and its MU column. Assumes nothing.
+-- tables/keccak_rc.rs, `generate_keccak_rc_trace` and `update_multiplicities`: the table and its MU. Assumes nothing.
 use Prim.Native.Nat.{ℕ, zero, suc, _+_, _-_, _*_}
 use mathlib.Core.List.{List, [], _∷_, _++_}
 use mathlib.Core.Option.{Option}
@@ -25,7 +25,7 @@ unfoldable pub withMu : (ℕ → ℕ) → ℕ → List ℕ → List ℕ
 withMu f zero table = table
 withMu f (suc r) table = set (withMu f r table) (r * NUM-COLUMNS + MU) (f r)
 
--- How often n operations of nr rounds look up round r, below 24: the rounds 24 - nr to 23 once each, the lower ones never.
+-- How often n operations of nr rounds look up round r, below 24: the rounds 24 - nr to 23 once each, the others never.
 unfoldable pub lookups : ℕ → ℕ → ℕ → ℕ
 lookups nr n r = pick (ltb r (NUM-REAL-ROWS - nr)) 0 n
 
