@@ -1,5 +1,5 @@
-// Prints FIPS 202's published values as this code computes them: Keccak-f[1600] of the zero state and of what comes out,
-// then SHA3-256 of seven messages. One line each, in lower-case hexadecimal.
+// Prints values of FIPS 202, which the file `stdout` has from elsewhere: Keccak-f[1600] of the zero state and of what
+// comes out, then SHA3-256 of seven messages. One line each, in lower-case hexadecimal.
 use fips202::State;
 use libc::STDOUT_FILENO;
 use sha3::sha3_256;
@@ -56,14 +56,14 @@ fn permutations() {
     print_state(once.keccak_f());
 }
 
-// The empty message, and the short ones of the published examples.
+// The empty message, and two short ones that hash examples commonly have.
 fn short_messages() {
     print_digest(b"");
     print_digest(b"abc");
     print_digest(b"abcdbcdecdefdefgefghfghighijhijkijkljklmklmnlmnomnopnopq");
 }
 
-// NIST's example of 1,600 bits, and the lengths about a block's.
+// NIST's example of 1,600 bits, and lengths about a block's 136 bytes.
 fn long_messages() {
     let bytes = [0xA3u8; 200];
     print_digest(&bytes);
