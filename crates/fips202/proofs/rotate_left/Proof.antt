@@ -12,13 +12,13 @@ use Rattle.bits.proofs.BitLaws.{shifted}
 use Rattle.fips202.proofs.rotate_left.Statement.{statement}
 use Rattle.fips202.proofs.rotate_left.Tie as tie
 
-no-turn : (n : ℕ) → n < 2 ^ 64 → bitOr (n * 1 % 2 ^ 64) (n / 1) ≡ n * 1 % 2 ^ 64 + n / 2 ^ 64
-no-turn n h =
+unrotated : (n : ℕ) → n < 2 ^ 64 → bitOr (n * 1 % 2 ^ 64) (n / 1) ≡ n * 1 % 2 ^ 64 + n / 2 ^ 64
+unrotated n h =
     let low : n * 1 % 2 ^ 64 ≡ n = ap (λ (m : ℕ). m % 2 ^ 64) (mul-one n) ∙ mod-eq-of-lt h in
     ap₂ bitOr low (div-one n) ∙ or-self n ∙ sym (ap₂ _+_ low (div-eq-of-lt h) ∙ add-zero n)
 
-turn : (n k : ℕ) → 0 < k → k < 64 → n < 2 ^ 64 → bitOr (n * 2 ^ k % 2 ^ 64) (n / 2 ^ ((64 - k) % 64)) ≡ n * 2 ^ k % 2 ^ 64 + n / 2 ^ (64 - k)
-turn n k pos h l =
+rotated : (n k : ℕ) → 0 < k → k < 64 → n < 2 ^ 64 → bitOr (n * 2 ^ k % 2 ^ 64) (n / 2 ^ ((64 - k) % 64)) ≡ n * 2 ^ k % 2 ^ 64 + n / 2 ^ (64 - k)
+rotated n k pos h l =
     let up : 64 ≡ 64 - k + k = omega arith in
     let down : 64 ≡ k + (64 - k) = omega arith in
     let back : (64 - k) % 64 ≡ 64 - k = omega arith in
@@ -32,8 +32,8 @@ joined : (n k : ℕ) → k < 64 → n < 2 ^ 64 → bitOr (n * 2 ^ k % 2 ^ 64) (n
 joined n k h l =
     by-le k 0
     (λ z. let e : 0 ≡ k = omega arith in
-    subst (λ (k : ℕ). bitOr (n * 2 ^ k % 2 ^ 64) (n / 2 ^ ((64 - k) % 64)) ≡ n * 2 ^ k % 2 ^ 64 + n / 2 ^ (64 - k)) e (no-turn n l))
-    (λ pos. turn n k pos h l)
+    subst (λ (k : ℕ). bitOr (n * 2 ^ k % 2 ^ 64) (n / 2 ^ ((64 - k) % 64)) ≡ n * 2 ^ k % 2 ^ 64 + n / 2 ^ (64 - k)) e (unrotated n l))
+    (λ pos. rotated n k pos h l)
 
 shl-result : tie.Need-shl-result
 shl-result c = search needs

@@ -5,7 +5,7 @@ use native.Mathlib.Omega.{arith}
 use lib.ListN.{getD}
 use Rattle.lists.proofs.Laws.{Filled, filled-none, filled-next, filled-whole}
 use Rattle.bits.specs.Bits.{rot}
-use Rattle.fips202.specs.Lanes.{lane, plane, turnedFrom, rhoPiAt}
+use Rattle.fips202.specs.Lanes.{lane, plane, rhoAt, rhoPiAt}
 use Rattle.fips202.proofs.State.rho_pi_plane.Statement.{statement}
 use Rattle.fips202.proofs.State.rho_pi_plane.Tie as tie
 
@@ -55,7 +55,7 @@ loop-less : tie.Need-loop-less Inv-loop μ-loop
 loop-less c = omega arith
 
 loop-again : tie.Need-loop-again Inv-loop μ-loop
-unfolding rhoPiAt turnedFrom
+unfolding rhoPiAt rhoAt
 loop-again c =
     let at = c .before .before .before in
     let start = at .before .before in

@@ -1,16 +1,16 @@
--- `turns` meets its contract: the five lanes are stored one after the other. Assumes nothing.
+-- `theta_d` meets its contract: the five lanes are stored one after the other. Assumes nothing.
 use mathlib.Core.Path.{_≡_, refl, sym, ap, ap₂, _∙_}
 use Prim.Native.Nat.{ℕ, _+_, _-_, _*_, _/_, _%_, _<_}
 use native.Mathlib.Omega.{arith}
 use lib.Bits.{bitXor}
 use lib.ListN.{getD}
 use Rattle.lists.proofs.Laws.{Filled, filled-none, filled-next, filled-whole}
-use Rattle.fips202.specs.Lanes.{turnAt}
-use Rattle.fips202.proofs.turns.Statement.{statement}
-use Rattle.fips202.proofs.turns.Tie as tie
+use Rattle.fips202.specs.Lanes.{thetaDL}
+use Rattle.fips202.proofs.theta_d.Statement.{statement}
+use Rattle.fips202.proofs.theta_d.Tie as tie
 
 abbrev Inv-loop : tie.InvT-loop
-Inv-loop c d₀ x₀ d x = Filled d₀ 0 5 (turnAt c) d x
+Inv-loop c d₀ x₀ d x = Filled d₀ 0 5 (thetaDL c) d x
 
 abbrev μ-loop : tie.MeasureT-loop
 μ-loop c d₀ x₀ d x = 5 - x
@@ -52,7 +52,7 @@ loop-less : tie.Need-loop-less Inv-loop μ-loop
 loop-less c = omega arith
 
 loop-again : tie.Need-loop-again Inv-loop μ-loop
-unfolding turnAt
+unfolding thetaDL
 loop-again c =
     let at = c .before .before in
     filled-next _ (at .loop .inv) (c .before .loop-test .taken)
@@ -61,8 +61,8 @@ loop-again c =
 returns : tie.Need-returns Inv-loop μ-loop
 returns c = filled-whole (c .before .loop .inv) refl (c .loop-test .left)
 
-pub turns-spec : {M : Type 1} → statement M
-turns-spec =
+pub theta-d-spec : {M : Type 1} → statement M
+theta-d-spec =
     tie.close
     (tie.spec
     Inv-loop
