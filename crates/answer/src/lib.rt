@@ -55,3 +55,6 @@ pub enum Number {
     Is(u64),
     Refused(Refusal),
 }
+
+// The most operations in one list: the largest n with 24 n ≤ 2^31, so that their round table has at most 2^31 rows.
+pub const MAX_OPS: u64 = 89478485;

@@ -1,4 +1,4 @@
--- tables/bitwise.rs, `bus_interactions`: the ten tuples that a row receives, one for each kind of lookup. Assumes nothing.
+-- tables/bitwise.rs, `bus_interactions`: the ten tuples that a row receives, one for each kind. Assumes nothing.
 use Prim.Native.Nat.{ℕ}
 use mathlib.Core.List.{List, [], _∷_}
 use lib.ListN.{getD}
@@ -69,8 +69,8 @@ half row = fadd (word row X) (fmul 256 (word row Y))
 abbrev pub twenty : List ℕ → ℕ
 twenty row = fadd (half row) (fmul 65536 (word row Z))
 
--- The values of a kind: what is looked up, then what the row answers. The first value of ByteAlu is 0 for AND, 1 for OR and
--- 2 for XOR (01-scope.md).
+-- The values of a kind: what is looked up, then what the row answers. The first value of ByteAlu is 0 for AND, 1 for OR
+-- and 2 for XOR (01-scope.md).
 abbrev pub kindValues : List ℕ → BitwiseOperationType → List ℕ
 kindValues row kind.Msb8 = word row X ∷ word row MSB8 ∷ []
 kindValues row kind.Msb16 = half row ∷ word row MSB16 ∷ []

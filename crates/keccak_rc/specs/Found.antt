@@ -12,12 +12,14 @@ use Rattle.keccak_rc.specs.Columns.{NUM-ROWS}
 use Rattle.keccak_rc.specs.Row.{rcRow}
 use Rattle.keccak_rc.specs.Tuples.{rcTuple}
 
--- values that occur among the tuples of the 32 rows, whatever their MU
+-- Values occur among the tuples of the 32 rows, whatever their MU.
 pub record RcFound (vs : List ℕ) : Type 0 where
   pub index : ℕ
   pub index-lt : index < NUM-ROWS
   pub values : (rcTuple (rcRow index ++ (0 ∷ []))) .values ≡ vs
 
--- the same by a direct test
+-- The test of it: nine values, a row below 32, and the eight bytes of that row's constant.
 unfoldable pub rcFound : List ℕ → Bool
-rcFound vs = eqb (length vs) 9 && (ltb (getD vs 0 0) 32 && all 8 (λ b. eqb (getD vs (suc b) 0) (byteAt (roundConstant (getD vs 0 0)) b)))
+rcFound vs =
+    eqb (length vs) 9
+    && (ltb (getD vs 0 0) NUM-ROWS && all 8 (λ b. eqb (getD vs (suc b) 0) (byteAt (roundConstant (getD vs 0 0)) b)))

@@ -1,20 +1,24 @@
--- tables/keccak_rc.rs, generate_row and the table: row r is r and the 8 bytes of its constant. Assumes nothing.
-use Prim.Native.Nat.{ℕ, _-_}
-use mathlib.Core.List.{List, [], _∷_, _++_}
-use lib.Dec.{ltb}
-use Rattle.lists.specs.Tab.{tab, tableOf, pick}
+-- tables/keccak_rc.rs, `generate_row`: the fixed columns of a row. Assumes nothing.
+use Prim.Native.Nat.{ℕ}
+use mathlib.Core.List.{List, _∷_}
+use mathlib.Core.Option.{Option}
+use lib.Dec.{leb, ltb}
+use lib.ListN.{length}
+use Rattle.lists.specs.Tab.{tab}
 use Rattle.bits.specs.Bits.{byteAt}
 use Rattle.fips202.specs.Tables.{roundConstant}
-use Rattle.keccak_rc.specs.Columns.{NUM-COLUMNS, NUM-ROWS}
+use Rattle.answer.specs.Refusal.{refuseIf, accepted}
+use Rattle.answer.specs.declared.Refusal.{Refusal}
+use Rattle.answer.specs.declared.Refusal.the-variants.{PastEnd, TooShort}
+use Rattle.keccak_rc.specs.Columns.{NUM-ROWS, NUM-PRECOMPUTED-COLS}
 
--- `generate_row`: the nine words of row r
+-- The nine fixed words of row r: r, then the eight bytes of its constant, which is 0 from row 24 on.
 unfoldable pub rcRow : ℕ → List ℕ
 rcRow r = r ∷ tab 8 (byteAt (roundConstant r))
 
--- `update_multiplicities`: the rounds 24 - nr to 23 are looked up once by each of n operations, the others never
-unfoldable pub rcMultiplicity : ℕ → ℕ → ℕ → ℕ
-rcMultiplicity nr n r = pick (ltb r (24 - nr)) 0 (pick (ltb r 24) n 0)
-
--- the table: 32 rows of the nine words and MU
-unfoldable pub rcTable : ℕ → ℕ → List ℕ
-rcTable nr n = tableOf NUM-ROWS NUM-COLUMNS (λ r. rcRow r ++ (rcMultiplicity nr n r ∷ []))
+-- What `generate_row` refuses: 1 a row past the last, 3 a slice shorter than the fixed columns.
+unfoldable pub rowRefusal : ℕ → List ℕ → Option Refusal
+rowRefusal r out =
+    refuseIf (leb NUM-ROWS r) (PastEnd NUM-ROWS)
+    (refuseIf (ltb (length out) NUM-PRECOMPUTED-COLS) (TooShort NUM-PRECOMPUTED-COLS)
+    accepted)

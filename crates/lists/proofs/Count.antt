@@ -1,18 +1,20 @@
 -- Laws of counts over indices, and of sums of counts. Assumes nothing.
 --     count-same, count-add   tests that agree below n; a count over m + n indices
 --     count-find, sum-find    where a count or a sum is not 0, something was counted
+--     count-hit               and the other way, for a count
 --     count-one               a test that can pass at one index only
 --     sum-tests               a sum of ones for passed tests is a count
 --     count-before            how many pass before an index at which the test passes
 use mathlib.Core.Path.{_≡_, refl, sym, ap, ap₂, subst, _∙_}
 use mathlib.Core.Bool.{Bool, true, false}
-use mathlib.Core.Logic.{inl, inr}
+use mathlib.Core.Logic.{_⊎_, inl, inr}
 use Prim.Native.Nat.{ℕ, zero, suc, _+_, _≤_, _<_}
 use native.Mathlib.Nat.{eq-or-lt-of-le, le-of-suc-le-suc}
 use native.Mathlib.Omega.{arith}
 use Rattle.lists.specs.Tab.{pick}
 use Rattle.lists.specs.First.{count}
 use Rattle.lists.specs.Sum.{sum}
+use Rattle.lists.proofs.Tests.{true-not-false}
 
 pub count-same : (t s : ℕ → Bool) (n : ℕ) → ((k : ℕ) → k < n → t k ≡ s k) → count t n ≡ count s n
 unfolding count
@@ -43,6 +45,16 @@ count-find t (suc n) h = go (t n) refl h (count-find t n)
     go : (b : Bool) → t n ≡ b → 1 ≤ pick b (count t n + 1) (count t n) → (1 ≤ count t n → (r : ℕ) × (r < n) × (t r ≡ true)) → (r : ℕ) × (r < suc n) × (t r ≡ true)
     go true e l back = (n, omega arith, e)
     go false e l back = let f = back l in (f .0, omega (arith, f .1), f .2)
+
+pub count-hit : (t : ℕ → Bool) (n k : ℕ) → k < n → t k ≡ true → 1 ≤ count t n
+unfolding count
+count-hit t zero k l e = absurd (omega arith)
+count-hit t (suc n) k l e = go (t n) refl (eq-or-lt-of-le (le-of-suc-le-suc l)) (λ g. count-hit t n k g e)
+  where
+    go : (b : Bool) → t n ≡ b → (k ≡ n) ⊎ (k < n) → (k < n → 1 ≤ count t n) → 1 ≤ pick b (count t n + 1) (count t n)
+    go true f c back = omega arith
+    go false f (inl q) back = absurd (true-not-false (sym e ∙ ap t q ∙ f))
+    go false f (inr g) back = back g
 
 pub sum-find : (f : ℕ → ℕ) (n : ℕ) → 1 ≤ sum n f → (r : ℕ) × (r < n) × (1 ≤ f r)
 unfolding sum

@@ -1,0 +1,106 @@
+-- The table of round constants: its rows, and what `update_multiplicities` changes. Assumes nothing.
+use mathlib.Core.Path.{_≡_, refl, sym, ap, _∙_, subst}
+use mathlib.Core.Bool.{Bool}
+use mathlib.Core.List.{List, [], _∷_, _++_}
+use Prim.Native.Nat.{ℕ, zero, suc, _+_, _-_, _*_, _≤_, _<_}
+use native.Mathlib.Nat.{not-suc-le-zero}
+use native.Mathlib.Numerals.{add-one}
+use native.Mathlib.Omega.{arith}
+use borrow.Author.Tests.{lt-ltb, le-ltb}
+use lib.Dec.{ltb}
+use lib.ListN.{length, getD, set, length-set, length-append, List·getD-append}
+use lib.Seq.{getD-set-same, getD-set-other}
+use Rattle.lists.specs.Tab.{pick, rowAt}
+use Rattle.lists.proofs.Laws.{length-table, table-at, rowAt-table}
+use Rattle.lists.proofs.Then.{by-le}
+use Rattle.keccak_rc.specs.Columns.{MU, NUM-COLUMNS, NUM-REAL-ROWS, NUM-ROWS, NUM-PRECOMPUTED-COLS, TABLE-WORDS}
+use Rattle.keccak_rc.specs.Row.{rcRow}
+use Rattle.keccak_rc.specs.Table.{rcTable, withMu, lookups, updated}
+use Rattle.keccak_rc.proofs.Found.{rc-length}
+
+-- ---- MU of the rows below m
+
+pub length-withMu : (f : ℕ → ℕ) (m : ℕ) (table : List ℕ) → length (withMu f m table) ≡ length table
+unfolding withMu
+length-withMu f zero table = refl
+length-withMu f (suc r) table = length-set (withMu f r table) (r * NUM-COLUMNS + MU) (f r) ∙ length-withMu f r table
+
+-- one row more, for a loop
+pub withMu-more : (f : ℕ → ℕ) (r : ℕ) (table : List ℕ) {now : List ℕ} (v : ℕ) → now ≡ withMu f r table → v ≡ f r
+    → set now (r * NUM-COLUMNS + MU) v ≡ withMu f (r + 1) table
+unfolding withMu
+withMu-more f r table v e q =
+    ap (λ (t : List ℕ). set t (r * NUM-COLUMNS + MU) v) e
+    ∙ ap (set (withMu f r table) (r * NUM-COLUMNS + MU)) q
+    ∙ ap (λ (k : ℕ). withMu f k table) (sym (add-one r))
+
+pub withMu-other : (f : ℕ → ℕ) (m : ℕ) (table : List ℕ) (k : ℕ) → ((r : ℕ) → r < m → k ≡ r * NUM-COLUMNS + MU → ⊥)
+    → getD (withMu f m table) k 0 ≡ getD table k 0
+unfolding withMu
+withMu-other f zero table k h = refl
+withMu-other f (suc r) table k h =
+    getD-set-other (withMu f r table) (r * NUM-COLUMNS + MU) k (f r) 0 (h r (omega arith)) ∙ withMu-other f r table k (λ q l. h q (omega arith))
+
+pub withMu-at : (f : ℕ → ℕ) (m : ℕ) (table : List ℕ) (r : ℕ) → r < m → m * NUM-COLUMNS ≤ length table
+    → getD (withMu f m table) (r * NUM-COLUMNS + MU) 0 ≡ f r
+unfolding withMu
+withMu-at f zero table r l h = absurd (not-suc-le-zero l)
+withMu-at f (suc m) table r l h =
+    by-le m r
+    (λ g. let e : m ≡ r = omega arith in
+    ap (λ (q : ℕ). getD (set (withMu f m table) (m * NUM-COLUMNS + MU) (f m)) (q * NUM-COLUMNS + MU) 0) (sym e)
+    ∙ getD-set-same (withMu f m table) (m * NUM-COLUMNS + MU) (f m) 0 (omega (arith, length-withMu f m table))
+    ∙ ap f e)
+    (λ g. getD-set-other (withMu f m table) (m * NUM-COLUMNS + MU) (r * NUM-COLUMNS + MU) (f m) 0 (λ e. omega arith) ∙ withMu-at f m table r g (omega arith))
+
+-- today every round is looked up by every operation
+pub lookups-24 : (n r : ℕ) → n ≡ lookups 24 n r
+unfolding lookups
+lookups-24 n r = sym (ap (λ (t : Bool). pick t 0 n) (le-ltb r 0 (omega arith)))
+
+-- ---- the table updated for n operations of nr rounds
+
+module _ (nr n : ℕ) (table : List ℕ) where
+  pub updated-length : length (updated nr n table) ≡ length table
+  unfolding updated
+  updated-length = length-withMu (lookups nr n) NUM-REAL-ROWS table
+
+  -- the rounds 24 - nr to 23 are looked up n times
+  pub updated-used : TABLE-WORDS ≤ length table → (r : ℕ) → NUM-REAL-ROWS - nr ≤ r → r < NUM-REAL-ROWS
+      → getD (updated nr n table) (r * NUM-COLUMNS + MU) 0 ≡ n
+  unfolding updated lookups
+  updated-used h r l g =
+      withMu-at (lookups nr n) NUM-REAL-ROWS table r g (omega arith) ∙ ap (λ (t : Bool). pick t 0 n) (le-ltb r (NUM-REAL-ROWS - nr) l)
+
+  -- the rounds before them never
+  pub updated-early : TABLE-WORDS ≤ length table → (r : ℕ) → r < NUM-REAL-ROWS - nr
+      → getD (updated nr n table) (r * NUM-COLUMNS + MU) 0 ≡ 0
+  unfolding updated lookups
+  updated-early h r l =
+      withMu-at (lookups nr n) NUM-REAL-ROWS table r (omega arith) (omega arith) ∙ ap (λ (t : Bool). pick t 0 n) (lt-ltb r (NUM-REAL-ROWS - nr) l)
+
+  -- the rows from 24 on keep their MU
+  pub updated-late : (r : ℕ) → NUM-REAL-ROWS ≤ r
+      → getD (updated nr n table) (r * NUM-COLUMNS + MU) 0 ≡ getD table (r * NUM-COLUMNS + MU) 0
+  unfolding updated
+  updated-late r h = withMu-other (lookups nr n) NUM-REAL-ROWS table (r * NUM-COLUMNS + MU) (λ q l e. omega arith)
+
+  -- every row keeps its nine fixed words
+  pub updated-fixed : (r k : ℕ) → k < NUM-PRECOMPUTED-COLS
+      → getD (updated nr n table) (r * NUM-COLUMNS + k) 0 ≡ getD table (r * NUM-COLUMNS + k) 0
+  unfolding updated
+  updated-fixed r k h = withMu-other (lookups nr n) NUM-REAL-ROWS table (r * NUM-COLUMNS + k) (λ q l e. omega arith)
+
+-- ---- the table as it is generated
+
+pub length-rcTable : length rcTable ≡ TABLE-WORDS
+unfolding rcTable
+length-rcTable = length-table NUM-ROWS NUM-COLUMNS (λ r. rcRow r ++ (0 ∷ []))
+
+pub row-long : (r mu : ℕ) → length (rcRow r ++ (mu ∷ [])) ≡ NUM-COLUMNS
+row-long r mu = length-append (rcRow r) (mu ∷ []) ∙ ap (λ (k : ℕ). k + 1) (rc-length r)
+
+-- row r is its nine fixed words and MU 0
+pub rcTable-row : (r : ℕ) → r < NUM-ROWS → rowAt NUM-COLUMNS rcTable r ≡ rcRow r ++ (0 ∷ [])
+unfolding rcTable
+rcTable-row r h = rowAt-table NUM-ROWS NUM-COLUMNS (λ r. rcRow r ++ (0 ∷ [])) r h (row-long r 0)

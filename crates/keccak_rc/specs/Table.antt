@@ -1,0 +1,41 @@
+-- tables/keccak_rc.rs, `generate_keccak_rc_trace` and `update_multiplicities`: the table and its MU. Assumes nothing.
+use Prim.Native.Nat.{ℕ, zero, suc, _+_, _-_, _*_}
+use mathlib.Core.List.{List, [], _∷_, _++_}
+use mathlib.Core.Option.{Option}
+use lib.Dec.{ltb}
+use lib.ListN.{length, set}
+use Rattle.lists.specs.Tab.{tableOf, pick}
+use Rattle.answer.specs.Refusal.{refuseIf, accepted}
+use Rattle.answer.specs.Limits.{MAX-OPS}
+use Rattle.answer.specs.declared.Refusal.{Refusal}
+use Rattle.answer.specs.declared.Refusal.the-variants.{PastEnd, TooShort}
+use Rattle.keccak_rc.specs.Columns.{MU, NUM-COLUMNS, NUM-REAL-ROWS, NUM-ROWS, TABLE-WORDS}
+use Rattle.keccak_rc.specs.Row.{rcRow}
+
+-- `generate_keccak_rc_trace`: 32 rows of the nine fixed words and MU, which is 0.
+unfoldable pub rcTable : List ℕ
+rcTable = tableOf NUM-ROWS NUM-COLUMNS (λ r. rcRow r ++ (0 ∷ []))
+
+-- What it refuses: 3 a table shorter than 32 rows.
+unfoldable pub traceRefusal : List ℕ → Option Refusal
+traceRefusal table = refuseIf (ltb (length table) TABLE-WORDS) (TooShort TABLE-WORDS) accepted
+
+-- A table with MU of the rows 0 to m - 1 set, that of row r to f r, and every other word as it was.
+unfoldable pub withMu : (ℕ → ℕ) → ℕ → List ℕ → List ℕ
+withMu f zero table = table
+withMu f (suc r) table = set (withMu f r table) (r * NUM-COLUMNS + MU) (f r)
+
+-- How often n operations of nr rounds look up round r, below 24: the rounds 24 - nr to 23 once each, the others never.
+unfoldable pub lookups : ℕ → ℕ → ℕ → ℕ
+lookups nr n r = pick (ltb r (NUM-REAL-ROWS - nr)) 0 n
+
+-- `update_multiplicities` for n operations of nr rounds: MU of the rounds 0 to 23, and nothing else.
+unfoldable pub updated : ℕ → ℕ → List ℕ → List ℕ
+updated nr n table = withMu (lookups nr n) NUM-REAL-ROWS table
+
+-- What it refuses: 1 more operations than the limit, 3 a table shorter than 32 rows.
+unfoldable pub updateRefusal : List ℕ → ℕ → Option Refusal
+updateRefusal table n =
+    refuseIf (ltb MAX-OPS n) (PastEnd (MAX-OPS + 1))
+    (refuseIf (ltb (length table) TABLE-WORDS) (TooShort TABLE-WORDS)
+    accepted)

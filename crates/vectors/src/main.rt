@@ -1,0 +1,79 @@
+// Prints values of FIPS 202, which the file `stdout` has from elsewhere: Keccak-f[1600] of the zero state and of what
+// comes out, then SHA3-256 of seven messages. One line each, in lower-case hexadecimal.
+use fips202::State;
+use libc::STDOUT_FILENO;
+use sha3::sha3_256;
+ghost use mathlib.Core.Path.{_≡_};
+ghost use Prim.Native.Nat.{_<_, _≤_};
+ghost use lib.ListN.{length};
+ghost use Rattle.lists.specs.Tab.{tab};
+ghost use Rattle.bits.specs.Bits.{laneByte};
+
+// The character of a number below 16.
+fn digit(n: u8) -> u8
+    requires { ⌜ n < 16 ⌝ }
+{
+    if n < 10 { b'0' + n } else { b'a' + (n - 10) }
+}
+
+// The state's 200 bytes, lane by lane, lowest byte first.
+fn state_bytes(state: State) -> [u8; 200]
+    ensures { λ r. ⌜ r ≡ tab 200 (laneByte (state .lanes)) ⌝ }
+{
+    let lanes = state.lanes;
+    let mut bytes = [0u8; 200];
+    for k in 0..200 {
+        bytes[k] = ((lanes[k / 8] >> (8 * (k % 8))) % 256) as u8;
+    }
+    bytes
+}
+
+// Writes a line of two digits for each byte.
+fn print_line(bytes: &[u8])
+    requires { ⌜ length (now bytes) ≤ 200 ⌝ }
+{
+    let n = bytes.len();
+    let mut line = [b'\n'; 401];
+    for k in 0..n {
+        let byte = bytes[k];
+        line[2 * k] = digit(byte / 16);
+        line[2 * k + 1] = digit(byte % 16);
+    }
+    io::write_all(STDOUT_FILENO, &line[..2 * n + 1]);
+}
+
+fn print_state(state: State) {
+    print_line(&state_bytes(state));
+}
+
+fn print_digest(message: &[u8]) {
+    print_line(&sha3_256(message));
+}
+
+fn permutations() {
+    let once = State { lanes: [0u64; 25] }.keccak_f();
+    print_state(once);
+    print_state(once.keccak_f());
+}
+
+// The empty message, and two short ones that hash examples commonly have.
+fn short_messages() {
+    print_digest(b"");
+    print_digest(b"abc");
+    print_digest(b"abcdbcdecdefdefgefghfghighijhijkijkljklmklmnlmnomnopnopq");
+}
+
+// NIST's example of 1,600 bits, and lengths about a block's 136 bytes.
+fn long_messages() {
+    let bytes = [0xA3u8; 200];
+    print_digest(&bytes);
+    print_digest(&bytes[..135]);
+    print_digest(&bytes[..136]);
+    print_digest(&bytes[..137]);
+}
+
+fn main() {
+    permutations();
+    short_messages();
+    long_messages();
+}
