@@ -11,7 +11,9 @@ use native.Mathlib.Omega.{arith}
 use lib.ListN.{length, getD, List·getD-append}
 use lib.Seq.{ext-getD, getD-append-add}
 use Rattle.lists.specs.Tab.{word}
+use Rattle.lists.specs.First.{count}
 use Rattle.lists.proofs.Laws.{tab-same, list-tab, table-at, length-table, length-rowAt, holds-row}
+use Rattle.lists.proofs.Count.{count-before}
 use Rattle.lists.proofs.Then.{by-le}
 use Rattle.bits.specs.Bits.{byteAt, laneByte, wordAt, limbAt}
 use Rattle.bits.proofs.Bytes.{lane-lt64, lane-byteAt}
@@ -26,11 +28,11 @@ use Rattle.keccak.specs.declared.KeccakOperation.{KeccakOperation}
 use Rattle.keccak.proofs.State.{length-state, state-lanes, state-byte}
 use Rattle.keccak.proofs.Cells.{length-core}
 use Rattle.keccak.proofs.Refusals.{accepted-is}
-use Rattle.verdict.specs.Kind.{Layout, rows, row, isActive, actives, activeRows, Active}
+use Rattle.verdict.specs.Kind.{Layout, rows, row, isActive, active, actives, activeRows, Active}
 use Rattle.verdict.specs.CoreAndRound.{coreLayout}
 use Rattle.verdict.specs.Claims.{EachActive, ShortTimestamp, States, opWords, operations}
-use Rattle.verdict.proofs.Rows.{by-upto, active-length, index-mem}
-use Rattle.verdict.proofs.Theory.{active-listed, listed-mem}
+use Rattle.verdict.proofs.Rows.{by-upto, active-length, index-mem, selected-at}
+use Rattle.verdict.proofs.TwoTables.{active-listed, listed-mem, is-on}
 
 -- ---- one row
 -- a core row read as an operation
@@ -221,10 +223,14 @@ module _ (core : List ℕ) where
         (op-word (getD rowsOf (k / 52) []) (of-active ShortTimestamp stamps (k / 52) i) (omega (arith, of-active CoreCells cells (k / 52) i .below))
         (of-active States states (k / 52) i) (k % 52) g))
 
-    pub rows-again : EachActive States core → (i : ℕ) → i < actives coreLayout core → coreRow (opAt (operations core) i) ≡ getD rowsOf i []
-    rows-again states i l =
-        let h : i < length rowsOf = omega (arith, actives-length coreLayout core) in
-        let f = row-of i h in
-        ap coreRow (op-is i h)
-        ∙ row-again (getD rowsOf i []) (of-active ShortTimestamp stamps i h) (of-active CoreCells cells i h) (of-active States states i h)
-        (ap length (f .2) ∙ length-rowAt NUM-COLUMNS core (f .0)) (ap (λ (y : List ℕ). word y MU) (f .2) ∙ f .1 .on)
+    pub rows-again : EachActive States core → (r : ℕ) → Active coreLayout core r →
+        coreRow (opAt (operations core) (count (active coreLayout core) r)) ≡ row coreLayout core r
+    rows-again states r a =
+        let i : ℕ = count (active coreLayout core) r in
+        let here : getD rowsOf i [] ≡ row coreLayout core r =
+        ap (λ (l : List (List ℕ)). getD l i []) (active-listed coreLayout core)
+        ∙ selected-at (isActive coreLayout) (row coreLayout core) [] (rows coreLayout core) r (a .there) (is-on coreLayout (row coreLayout core r) (a .on)) in
+        let below : i < length rowsOf =
+        omega (arith, actives-length coreLayout core, count-before (active coreLayout core) (rows coreLayout core) r (a .there) (is-on coreLayout (row coreLayout core r) (a .on))) in
+        ap coreRow (op-is i below ∙ ap readOp here)
+        ∙ row-again (row coreLayout core r) (stamps r a) (cells r a) (states r a) (length-rowAt NUM-COLUMNS core r) (a .on)
