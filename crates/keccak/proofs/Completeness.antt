@@ -13,7 +13,7 @@ use Rattle.field.specs.Field.{p, fadd, fmul}
 use Rattle.field.proofs.Field.{fmul-zero}
 use Rattle.bits.proofs.BitLaws.{by-bit}
 use Rattle.templates.specs.Templates.{constant, from-dword-bl, from-dword-whh, carry0, add-pair-carry-hi, emit-add-pair, isBit}
-use Rattle.templates.proofs.Carry.{carryOf, carry-none, carry-one, bit-value, bit-if-zero, carry-of}
+use Rattle.templates.proofs.Carry.{carryOf, carry-none, carry-of, bit-value, bit-if-zero}
 use Rattle.bitwise.specs.Found.{aluOp}
 use Rattle.matching.specs.Matching.{Found, Matched}
 use Rattle.matching.proofs.Matching.{of-alu, of-bytes, of-half, of-is-wh, of-keccak, of-memw, of-ecall}

@@ -23,14 +23,14 @@ mul-row c = search needs
 slice-write-row : tie.Need-slice-write-row
 slice-write-row c = search needs
 
-add-put-bytes : tie.Need-add-put-bytes
-add-put-bytes c = search needs
+add-put-dword-bl : tie.Need-add-put-dword-bl
+add-put-dword-bl c = search needs
 
-put-bytes-requires : tie.Need-put-bytes-requires
-put-bytes-requires c κs = simp length-set (omega arith)
+put-dword-bl-requires : tie.Need-put-dword-bl-requires
+put-dword-bl-requires c κs = simp length-set (omega arith)
 
 same-length : tie.Need-same-length
-same-length c = c .before .before .put-bytes .kept .0 ∙ simp length-set
+same-length c = c .before .before .put-dword-bl .kept .0 ∙ simp length-set
 
 returns : tie.Need-returns
 unfolding rcRow
@@ -39,7 +39,7 @@ returns c =
     let asked = called .before .before in
     let a = asked .before .before .args in
     let first = set (a .row .now) (a .at) (a .round) in
-    called .put-bytes .ensures
+    called .put-dword-bl .ensures
     ∙ ap (λ (n : ℕ). sets first (a .at + 1) (tab 8 (byteAt n))) (asked .round-constant .ensures)
     ∙ ap (λ (k : ℕ). sets first k (tab 8 (byteAt (roundConstant (a .round))))) (add-one (a .at))
 
@@ -50,7 +50,7 @@ put-row-spec =
     round-constant-requires
     mul-row
     slice-write-row
-    add-put-bytes
-    put-bytes-requires
+    add-put-dword-bl
+    put-dword-bl-requires
     same-length
     returns)

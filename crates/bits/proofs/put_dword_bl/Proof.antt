@@ -1,12 +1,12 @@
--- `bits::put_bytes` meets its contract: after b turns the first b bytes are stored. Assumes nothing.
+-- `bits::put_dword_bl` meets its contract: after b turns the first b bytes are stored. Assumes nothing.
 use mathlib.Core.Path.{_≡_, refl, sym, ap, _∙_}
 use Prim.Native.Nat.{ℕ, _+_, _-_, _*_, _/_, _%_}
 use native.Mathlib.Omega.{arith}
 use lib.ListN.{length, getD}
 use Rattle.bits.specs.Bits.{byteAt}
 use Rattle.lists.proofs.Laws.{Filled, filled-none, filled-more, filled-all}
-use Rattle.bits.proofs.put_bytes.Statement.{statement}
-use Rattle.bits.proofs.put_bytes.Tie as tie
+use Rattle.bits.proofs.put_dword_bl.Statement.{statement}
+use Rattle.bits.proofs.put_dword_bl.Tie as tie
 
 abbrev Inv-loop : tie.InvT-loop
 Inv-loop row₀ at lane b₀ row b = Filled row₀ at 8 (byteAt lane) row b
@@ -47,5 +47,5 @@ same-length c = omega arith
 returns : tie.Need-returns Inv-loop μ-loop
 returns c = filled-all (c .before .loop .inv) (c .loop-test .left)
 
-pub put-bytes-spec : {M : Type 1} → statement M
-put-bytes-spec = tie.close (tie.spec Inv-loop μ-loop loop-holds mul-row shr-row add-row mul-row-2 slice-write-row add-b loop-less loop-again same-length returns)
+pub put-dword-bl-spec : {M : Type 1} → statement M
+put-dword-bl-spec = tie.close (tie.spec Inv-loop μ-loop loop-holds mul-row shr-row add-row mul-row-2 slice-write-row add-b loop-less loop-again same-length returns)
