@@ -63,8 +63,8 @@ traceRefusal room ops = operationsRefusal room (height MIN-ROWS (opCount ops) * 
 unfoldable pub keysRefusal : ℕ → List ℕ → Option Refusal
 keysRefusal room ops = operationsRefusal room (opCount ops * KEY-WORDS) ops
 
--- `keccak_row`: a list, the index of one of its operations, and a slice of `room` words for that operation's row. 1 on the
--- index: "detail the least number refused", which is the number of operations
+-- `keccak_row`: a list, the index of one of its operations, and a slice of `room` words for that operation's row. 1 on
+-- the index: "detail the least number refused", which is the number of operations
 unfoldable pub rowRefusal : ℕ → List ℕ → ℕ → Option Refusal
 rowRefusal room ops index =
     tooMany ops

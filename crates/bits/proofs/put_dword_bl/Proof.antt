@@ -1,8 +1,7 @@
 -- `bits::put_dword_bl` meets its contract: after b turns the first b bytes are stored. Assumes nothing.
-use mathlib.Core.Path.{_≡_, refl, sym, ap, _∙_}
-use Prim.Native.Nat.{ℕ, _+_, _-_, _*_, _/_, _%_}
+use mathlib.Core.Path.{refl}
+use Prim.Native.Nat.{_-_}
 use native.Mathlib.Omega.{arith}
-use lib.ListN.{length, getD}
 use Rattle.bits.specs.Bits.{byteAt}
 use Rattle.lists.proofs.Laws.{Filled, filled-none, filled-more, filled-all}
 use Rattle.bits.proofs.put_dword_bl.Statement.{statement}

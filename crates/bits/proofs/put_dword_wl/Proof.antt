@@ -1,5 +1,4 @@
 -- `bits::put_dword_wl` meets its contract. Assumes nothing.
-use mathlib.Core.Path.{_≡_, refl, sym, ap, _∙_}
 use native.Mathlib.Omega.{arith}
 use lib.ListN.{length-set}
 use Rattle.bits.specs.Bits.{wordAt}

@@ -1,8 +1,7 @@
 -- `bits::put_lanes` meets its contract: after i turns the first 8 i bytes are stored. Assumes nothing.
-use mathlib.Core.Path.{_≡_, refl, sym, ap, _∙_}
-use Prim.Native.Nat.{ℕ, _+_, _-_, _*_, _/_, _%_}
+use Prim.Native.Nat.{_-_, _*_}
 use native.Mathlib.Omega.{arith}
-use lib.ListN.{length, getD}
+use lib.ListN.{getD}
 use Rattle.bits.specs.Bits.{byteAt, laneByte}
 use Rattle.lists.proofs.Laws.{Filled, filled-none, filled-add, filled-all}
 use Rattle.bits.proofs.Bytes.{lane-byte}

@@ -1,14 +1,12 @@
 -- `keccak::check_operations` meets its contract: one check after the other. Assumes nothing.
 use mathlib.Core.Path.{_≡_, refl, sym, ap, _∙_}
-use Prim.Native.Nat.{ℕ, _+_, _-_, _*_, _≤_, _<_}
+use Prim.Native.Nat.{ℕ, _-_}
 use native.Mathlib.Omega.{arith}
-use lib.ListN.{length, getD, length-set}
 use borrow.Author.Needs.{needs}
 use mathlib.Core.Bool.{not}
 use mathlib.Core.Option.{some}
 use mathlib.Core.List.{List}
 use Rattle.lists.specs.First.{firstAt}
-use borrow.Author.Needs.{needs}
 use borrow.Author.Tests.{ne-eqb, eq-eqb, lt-ltb, le-ltb}
 use Rattle.lists.proofs.First.{place-at, place-nowhere, at-found}
 use Rattle.answer.proofs.Laws.{refuse-yes, refuse-no, at-yes, at-no, answers, accepts}

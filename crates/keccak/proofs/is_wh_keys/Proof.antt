@@ -1,8 +1,8 @@
 -- `keccak::is_wh_keys` meets its contract: one check after the other, then the keys. Assumes nothing.
-use mathlib.Core.Path.{_≡_, refl, sym, ap, _∙_}
-use Prim.Native.Nat.{ℕ, _+_, _-_, _*_, _≤_, _<_}
+use mathlib.Core.Path.{_≡_, sym, _∙_}
+use Prim.Native.Nat.{ℕ, _-_, _*_}
 use native.Mathlib.Omega.{arith}
-use lib.ListN.{length, getD, length-set}
+use lib.ListN.{length}
 use mathlib.Core.Option.{none}
 use mathlib.Core.List.{List}
 use borrow.Author.Needs.{needs}

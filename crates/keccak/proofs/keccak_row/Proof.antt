@@ -1,17 +1,14 @@
 -- `keccak::keccak_row` meets its contract: one check after the other, then the row. Assumes nothing.
-use mathlib.Core.Path.{_≡_, refl, sym, ap, _∙_}
-use Prim.Native.Nat.{ℕ, _+_, _-_, _*_, _≤_, _<_}
+use mathlib.Core.Path.{_≡_, sym, ap, _∙_, subst}
+use Prim.Native.Nat.{ℕ, _+_, _-_, _<_, _^_}
 use native.Mathlib.Omega.{arith}
-use lib.ListN.{length, getD, length-set}
+use lib.ListN.{length}
 use borrow.Author.Needs.{needs}
-use mathlib.Core.Path.{subst}
-use Prim.Native.Nat.{_^_}
 use mathlib.Core.Option.{none}
 use mathlib.Core.List.{List}
-use borrow.Author.Needs.{needs}
 use borrow.Author.Tests.{lt-ltb, le-ltb, le-leb, lt-leb}
 use lib.Seq.{sets}
-use Rattle.answer.specs.Refusal.{accepted, answerOf}
+use Rattle.answer.specs.Refusal.{accepted}
 use Rattle.answer.proofs.Laws.{refuse-yes, refuse-no, refused, done, is-refused, is-done, sets-overwrite}
 use Rattle.keccak.specs.Refusals.{opCount, notWhole, tooShort, tooHigh, rowRefusal}
 use Rattle.keccak.proofs.Checks.{Passed, passed, address-fits}

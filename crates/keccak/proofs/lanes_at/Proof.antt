@@ -1,8 +1,8 @@
 -- `keccak::lanes_at` meets its contract: after k turns the first k lanes are read. Assumes nothing.
-use mathlib.Core.Path.{_≡_, refl, sym, ap, _∙_}
-use Prim.Native.Nat.{ℕ, _+_, _-_, _*_, _≤_, _<_}
+use mathlib.Core.Path.{refl}
+use Prim.Native.Nat.{_+_, _-_}
 use native.Mathlib.Omega.{arith}
-use lib.ListN.{length, getD, length-set}
+use lib.ListN.{getD}
 use Rattle.lists.proofs.Laws.{Filled, filled-none, filled-next, filled-whole}
 use Rattle.keccak.proofs.lanes_at.Statement.{statement}
 use Rattle.keccak.proofs.lanes_at.Tie as tie

@@ -1,8 +1,6 @@
 -- `keccak::next_power_of_two` meets its contract: a power of two that is doubled while it is below n. Assumes nothing.
-use mathlib.Core.Path.{_≡_, refl, sym, ap, _∙_}
-use Prim.Native.Nat.{ℕ, _+_, _-_, _*_, _≤_, _<_}
+use Prim.Native.Nat.{_-_}
 use native.Mathlib.Omega.{arith}
-use lib.ListN.{length, getD, length-set}
 use Rattle.keccak.proofs.Height.{Climbs, climbs-one, climbs-more, climbs-pos, climbs-next}
 use Rattle.keccak.proofs.next_power_of_two.Statement.{statement}
 use Rattle.keccak.proofs.next_power_of_two.Tie as tie

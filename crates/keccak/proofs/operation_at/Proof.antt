@@ -1,8 +1,5 @@
 -- `keccak::operation_at` meets its contract: each field is read from its place. Assumes nothing.
-use mathlib.Core.Path.{_≡_, refl, sym, ap, _∙_}
-use Prim.Native.Nat.{ℕ, _+_, _-_, _*_, _≤_, _<_}
-use native.Mathlib.Omega.{arith}
-use lib.ListN.{length, getD, length-set}
+use Prim.Native.Nat.{_-_}
 use borrow.Author.Needs.{needs}
 use Rattle.keccak.specs.Row.{opAt}
 use Rattle.keccak.proofs.operation_at.Statement.{statement}

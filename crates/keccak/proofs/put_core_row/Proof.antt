@@ -1,14 +1,13 @@
 -- `keccak::put_core_row` meets its contract: the six groups one after the other. Assumes nothing.
-use mathlib.Core.Path.{_≡_, refl, sym, ap, _∙_}
-use Prim.Native.Nat.{ℕ, _+_, _-_, _*_, _≤_, _<_}
+use mathlib.Core.Path.{_≡_, refl, sym}
+use Prim.Native.Nat.{ℕ, _+_, _-_}
 use native.Mathlib.Omega.{arith}
-use lib.ListN.{length, getD, length-set}
+use lib.ListN.{length-set, set}
 use borrow.Author.Needs.{needs}
-use mathlib.Core.List.{List, [], _∷_}
+use mathlib.Core.List.{List}
 use native.Mathlib.Nat.{add-zero}
-use lib.ListN.{set}
 use lib.Seq.{sets}
-use Rattle.lists.specs.Tab.{tab, group}
+use Rattle.lists.specs.Tab.{tab}
 use Rattle.bits.specs.Bits.{byteAt, laneByte, wordAt}
 use Rattle.keccak.specs.Row.{coreRow, coreGroups, pointerLimb}
 use Rattle.keccak.specs.declared.KeccakOperation.{KeccakOperation}

@@ -1,8 +1,6 @@
 -- `keccak::put_keys` meets its contract: after i turns the first i keys are stored. Assumes nothing.
-use mathlib.Core.Path.{_≡_, refl, sym, ap, _∙_}
-use Prim.Native.Nat.{ℕ, _+_, _-_, _*_, _/_, _%_}
+use Prim.Native.Nat.{_+_, _-_, _*_}
 use native.Mathlib.Omega.{arith}
-use lib.ListN.{length, getD}
 use Rattle.is_wh.specs.Key.{of-dword}
 use Rattle.keccak.specs.Row.{keyWord, pointerKey}
 use Rattle.lists.proofs.Laws.{Filled, filled-none, filled-add, filled-all}

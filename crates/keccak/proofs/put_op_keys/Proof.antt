@@ -1,11 +1,9 @@
 -- `keccak::put_op_keys` meets its contract: after i turns the keys of the first i operations are stored. Assumes nothing.
-use mathlib.Core.Path.{_≡_, refl, sym, ap, _∙_}
-use Prim.Native.Nat.{ℕ, _+_, _-_, _*_, _≤_, _<_}
+use mathlib.Core.Path.{sym, ap, _∙_}
+use Prim.Native.Nat.{ℕ, _+_, _-_, _*_, _≤_, _/_, _%_}
 use native.Mathlib.Omega.{arith}
-use lib.ListN.{length, getD, length-set}
+use lib.ListN.{getD}
 use native.Mathlib.Nat.{zero-add}
-use Prim.Native.Nat.{_/_, _%_}
-use mathlib.Core.List.{List}
 use lib.Seq.{sets}
 use Rattle.lists.specs.Tab.{tab}
 use Rattle.lists.proofs.Laws.{Filled, filled-none, filled-add, filled-all}

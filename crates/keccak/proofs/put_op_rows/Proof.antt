@@ -1,10 +1,7 @@
 -- `keccak::put_op_rows` meets its contract: after i turns the rows of the first i operations are stored. Assumes nothing.
-use mathlib.Core.Path.{_≡_, refl, sym, ap, _∙_}
-use Prim.Native.Nat.{ℕ, _+_, _-_, _*_, _≤_, _<_}
+use mathlib.Core.Path.{sym, ap, _∙_, subst}
+use Prim.Native.Nat.{_+_, _-_, _*_, _≤_, _<_, _^_}
 use native.Mathlib.Omega.{arith}
-use lib.ListN.{length, getD, length-set}
-use mathlib.Core.Path.{subst}
-use Prim.Native.Nat.{_^_}
 use native.Mathlib.Nat.{zero-add}
 use lib.Seq.{sets}
 use Rattle.lists.specs.Tab.{cellsOf}

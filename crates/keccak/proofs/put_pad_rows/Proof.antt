@@ -1,8 +1,7 @@
 -- `keccak::put_pad_rows` meets its contract: after i turns i padding rows are stored. Assumes nothing.
-use mathlib.Core.Path.{_≡_, refl, sym, ap, _∙_}
-use Prim.Native.Nat.{ℕ, _+_, _-_, _*_, _≤_, _<_}
+use mathlib.Core.Path.{refl}
+use Prim.Native.Nat.{_-_, _*_, _≤_}
 use native.Mathlib.Omega.{arith}
-use lib.ListN.{length, getD, length-set}
 use Rattle.lists.specs.Tab.{cellsOf}
 use Rattle.keccak.specs.Row.{corePad}
 use Rattle.lists.proofs.Laws.{Filled, filled-none, filled-row, filled-rows}

@@ -1,8 +1,6 @@
 -- `keccak::put_pointers` meets its contract: after i turns the first 3 i limbs are stored. Assumes nothing.
-use mathlib.Core.Path.{_≡_, refl, sym, ap, _∙_}
-use Prim.Native.Nat.{ℕ, _+_, _-_, _*_, _/_, _%_}
+use Prim.Native.Nat.{_+_, _-_, _*_}
 use native.Mathlib.Omega.{arith}
-use lib.ListN.{length, getD}
 use Rattle.bits.specs.Bits.{limbAt}
 use Rattle.keccak.specs.Row.{pointerLimb}
 use Rattle.lists.proofs.Laws.{Filled, filled-none, filled-add, filled-all}

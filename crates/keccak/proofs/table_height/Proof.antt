@@ -1,8 +1,5 @@
 -- `keccak::table_height` meets its contract: the larger of the floor and the power. Assumes nothing.
-use mathlib.Core.Path.{_≡_, refl, sym, ap, _∙_}
-use Prim.Native.Nat.{ℕ, _+_, _-_, _*_, _≤_, _<_}
-use native.Mathlib.Omega.{arith}
-use lib.ListN.{length, getD, length-set}
+use Prim.Native.Nat.{_-_}
 use borrow.Author.Needs.{needs}
 use Rattle.keccak.proofs.Height.{height-below, height-above}
 use Rattle.keccak.proofs.table_height.Statement.{statement}
