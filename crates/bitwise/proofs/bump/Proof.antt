@@ -1,12 +1,9 @@
 -- `bitwise::bump` meets its contract: one check after the other, then one store. Assumes nothing.
-use mathlib.Core.Path.{_≡_, refl, sym, ap, _∙_}
-use Prim.Native.Nat.{ℕ, _+_, _-_, _*_, _≤_, _<_}
-use native.Mathlib.Omega.{arith}
-use lib.ListN.{length, getD, length-set}
+use mathlib.Core.Path.{refl, ap, _∙_}
+use Prim.Native.Nat.{ℕ, _+_, _*_}
 use borrow.Author.Needs.{needs}
 use borrow.Author.Tests.{le-leb, lt-leb, le-ltb, lt-ltb}
 use lib.ListN.{set}
-use Rattle.field.specs.Field.{p, fadd}
 use Rattle.answer.proofs.Laws.{refuse-yes, refuse-no, refused, done}
 use Rattle.bitwise.specs.Counters.{charge, bumpRefusal}
 use Rattle.bitwise.proofs.bump.Statement.{statement}
