@@ -10,7 +10,7 @@
 --     sets-overwrite            words stored one by one from the front
 -- Assumes nothing.
 use Prim.Native.Nat.{ℕ, _≤_}
-use mathlib.Core.Path.{_≡_, refl, sym, ap, _∙_}
+use mathlib.Core.Path.{_≡_, refl, ap}
 use mathlib.Core.Bool.{Bool, true, false}
 use mathlib.Core.Option.{Option, none, some}
 use mathlib.Core.List.{List}
@@ -19,7 +19,6 @@ use lib.Seq.{sets}
 use Rattle.lists.proofs.Laws.{sets-front}
 use Rattle.answer.specs.Refusal.{refuseIf, refuseAt, answerOf, numberOf, overwrite, afterwards}
 use Rattle.answer.specs.declared.Refusal.{Refusal}
-use Rattle.answer.specs.declared.Answer.{Answer}
 use Rattle.answer.specs.declared.Answer.the-variants.{Done, Refused}
 use Rattle.answer.specs.declared.Number.the-variants as number
 

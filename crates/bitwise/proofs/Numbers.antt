@@ -1,14 +1,14 @@
 -- The kinds of lookup by their numbers: `ALL` and `lookup_type_index` are inverse, and the columns that count them follow
 -- each other in that order. Assumes nothing.
 use Prim.Native.Nat.{ℕ, suc, zero, _+_, _-_, _≤_, _<_}
-use mathlib.Core.Path.{_≡_, refl, sym, ap, _∙_}
+use mathlib.Core.Path.{_≡_, refl, ap, _∙_}
 use mathlib.Core.List.{List, [], _∷_}
 use native.Mathlib.Omega.{arith}
 use lib.ListN.{length, getD}
 use Rattle.bitwise.specs.declared.BitwiseOperationType.{BitwiseOperationType}
 use Rattle.bitwise.specs.declared.BitwiseOperationType.the-variants as kind
 use Rattle.bitwise.specs.Columns.{NUM-PRECOMPUTED-COLS, NUM-LOOKUP-TYPES}
-use Rattle.bitwise.specs.Tuples.{lookup-type-index, ALL, kindAt, mu-column, kindValues, kindSize}
+use Rattle.bitwise.specs.Tuples.{lookup-type-index, kindAt, mu-column, kindValues, kindSize}
 
 -- every kind is at its number
 pub kind-of-index : (k : BitwiseOperationType) → kindAt (lookup-type-index k) ≡ k

@@ -1,6 +1,6 @@
 -- What the ten tuples carry on the table's rows: the row of X, Y and Z, with ten multiplicities behind its fixed columns.
 -- H is X + 256 Y. Assumes nothing.
-use mathlib.Core.Path.{_≡_, refl, sym, ap, ap₂, _∙_}
+use mathlib.Core.Path.{_≡_, ap, ap₂, _∙_}
 use mathlib.Core.List.{List, [], _∷_, _++_}
 use Prim.Native.Nat.{ℕ, _+_, _*_, _/_, _%_, _^_, _<_}
 use native.Mathlib.Nat.{mod-eq-of-lt}
@@ -8,8 +8,8 @@ use native.Mathlib.Omega.{arith}
 use lib.Bits.{bitXor, bitAnd, bitOr}
 use lib.Dec.{leb, eqb}
 use Rattle.lists.specs.Tab.{word, pick}
-use Rattle.field.specs.Field.{p, fadd, fmul}
-use Rattle.lookup.specs.Tuple.{Tuple, receiver}
+use Rattle.field.specs.Field.{fadd, fmul}
+use Rattle.lookup.specs.Tuple.{receiver}
 use Rattle.lookup.specs.declared.Bus.the-variants.{ByteAlu, AreBytes, IsHalfword, Msb8, Msb16, Zero, IsB20, Hwsl}
 use Rattle.bitwise.specs.Row.{rowOfXYZ, bitwiseRow, row-index}
 use Rattle.bitwise.specs.Tuples.{kindAt, bitwiseTuple}

@@ -11,7 +11,7 @@ use Rattle.bits.specs.Bits.{hwsl, hwslCarry}
 use Rattle.answer.specs.Refusal.{refuseIf, accepted}
 use Rattle.answer.specs.declared.Refusal.{Refusal}
 use Rattle.answer.specs.declared.Refusal.the-variants.{PastEnd, TooShort}
-use Rattle.bitwise.specs.Columns.{NUM-ROWS, NUM-PRECOMPUTED-COLS}
+use Rattle.bitwise.specs.Columns.{NUM-ROWS, NUM-PRECOMPUTED-COLS, Z-END}
 
 -- The eleven fixed columns of the row of X, Y and Z, in the order of Columns: X, Y, Z; AND, OR, XOR; the top bit of X and
 -- of the halfword H = X + 256 Y; whether all three are 0; H · 2^Z mod 65,536 and H · 2^Z div 65,536.
@@ -34,3 +34,7 @@ rowRefusal i row =
     refuseIf (leb NUM-ROWS i) (PastEnd NUM-ROWS)
     (refuseIf (ltb (length row) NUM-PRECOMPUTED-COLS) (TooShort NUM-PRECOMPUTED-COLS)
     accepted)
+
+-- What `row_index` refuses: 1 a Z of 16 or more.
+unfoldable pub indexRefusal : ℕ → Option Refusal
+indexRefusal z = refuseIf (leb Z-END z) (PastEnd Z-END) accepted

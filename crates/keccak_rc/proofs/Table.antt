@@ -1,5 +1,5 @@
 -- The table of round constants: its rows, and what `update_multiplicities` changes. Assumes nothing.
-use mathlib.Core.Path.{_≡_, refl, sym, ap, _∙_, subst}
+use mathlib.Core.Path.{_≡_, refl, sym, ap, _∙_}
 use mathlib.Core.Bool.{Bool}
 use mathlib.Core.List.{List, [], _∷_, _++_}
 use Prim.Native.Nat.{ℕ, zero, suc, _+_, _-_, _*_, _≤_, _<_}
@@ -7,11 +7,10 @@ use native.Mathlib.Nat.{not-suc-le-zero}
 use native.Mathlib.Numerals.{add-one}
 use native.Mathlib.Omega.{arith}
 use borrow.Author.Tests.{lt-ltb, le-ltb}
-use lib.Dec.{ltb}
-use lib.ListN.{length, getD, set, length-set, length-append, List·getD-append}
+use lib.ListN.{length, getD, set, length-set, length-append}
 use lib.Seq.{getD-set-same, getD-set-other}
 use Rattle.lists.specs.Tab.{pick, rowAt}
-use Rattle.lists.proofs.Laws.{length-table, table-at, rowAt-table}
+use Rattle.lists.proofs.Laws.{length-table, rowAt-table}
 use Rattle.lists.proofs.Then.{by-le}
 use Rattle.keccak_rc.specs.Columns.{MU, NUM-COLUMNS, NUM-REAL-ROWS, NUM-ROWS, NUM-PRECOMPUTED-COLS, TABLE-WORDS}
 use Rattle.keccak_rc.specs.Row.{rcRow}

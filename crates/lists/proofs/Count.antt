@@ -4,8 +4,7 @@
 --     count-hit               and the other way, for a count
 --     count-one               a test that can pass at one index only
 --     sum-tests               a sum of ones for passed tests is a count
---     count-before            how many pass before an index at which the test passes
-use mathlib.Core.Path.{_≡_, refl, sym, ap, ap₂, subst, _∙_}
+use mathlib.Core.Path.{_≡_, refl, sym, ap, ap₂, _∙_}
 use mathlib.Core.Bool.{Bool, true, false}
 use mathlib.Core.Logic.{_⊎_, inl, inr}
 use Prim.Native.Nat.{ℕ, zero, suc, _+_, _≤_, _<_}
@@ -86,17 +85,3 @@ sum-tests t (suc n) = go (t n) (sum-tests t n)
     go : (b : Bool) → sum n (λ k. pick (t k) 1 0) ≡ count t n → sum n (λ k. pick (t k) 1 0) + pick b 1 0 ≡ pick b (count t n + 1) (count t n)
     go true e = omega arith
     go false e = omega arith
-
--- where a test passes at r, below n, fewer passed before r than do below n
-pub count-before : (t : ℕ → Bool) (n r : ℕ) → r < n → t r ≡ true → count t r < count t n
-unfolding count
-count-before t zero r l e = absurd (omega arith)
-count-before t (suc n) r l e = elim (eq-or-lt-of-le (le-of-suc-le-suc l)) [
-  | inl z ↦ subst (λ (k : ℕ). count t k < pick (t n) (count t n + 1) (count t n)) (sym z)
-      (subst (λ (b : Bool). count t n < pick b (count t n + 1) (count t n)) (sym (ap t (sym z) ∙ e)) (omega arith))
-  | inr g ↦ grown (t n) (count-before t n r g e)
-]
-  where
-    grown : (b : Bool) → count t r < count t n → count t r < pick b (count t n + 1) (count t n)
-    grown true h = omega arith
-    grown false h = h

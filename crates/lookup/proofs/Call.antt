@@ -1,17 +1,16 @@
 -- Laws of a call for a tuple: what an accepted call knows of its arguments, and the two clauses of its contract.
 -- Assumes nothing.
 use Prim.Native.Nat.{ℕ, _≤_, _<_}
-use mathlib.Core.Path.{_≡_, refl, sym, ap, _∙_}
+use mathlib.Core.Path.{_≡_}
 use mathlib.Core.Option.{Option, none, some}
 use mathlib.Core.List.{List}
 use borrow.Author.Tests.{leb-false, ltb-false}
-use lib.Dec.{leb, ltb}
 use lib.ListN.{length}
 use Rattle.lists.specs.Tab.{word}
 use Rattle.lists.proofs.First.{at-clear}
 use Rattle.field.specs.Field.{p}
 use Rattle.field.specs.Elements.{notElement, firstNotElement}
-use Rattle.answer.specs.Refusal.{afterwards, overwrite}
+use Rattle.answer.specs.Refusal.{afterwards}
 use Rattle.answer.specs.declared.Refusal.{Refusal}
 use Rattle.answer.proofs.Laws.{passed-if, passed-at, kept, written}
 use Rattle.lookup.specs.Tuple.{Tuple}

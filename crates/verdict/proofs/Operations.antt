@@ -13,7 +13,6 @@ use lib.Seq.{ext-getD, getD-append-add}
 use Rattle.lists.specs.Tab.{word}
 use Rattle.lists.specs.First.{count}
 use Rattle.lists.proofs.Laws.{tab-same, list-tab, table-at, length-table, length-rowAt, holds-row}
-use Rattle.lists.proofs.Count.{count-before}
 use Rattle.lists.proofs.Then.{by-le}
 use Rattle.bits.specs.Bits.{byteAt, laneByte, wordAt, limbAt}
 use Rattle.bits.proofs.Bytes.{lane-lt64, lane-byteAt}
@@ -31,7 +30,7 @@ use Rattle.keccak.proofs.Refusals.{accepted-is}
 use Rattle.verdict.specs.Kind.{Layout, rows, row, isActive, active, actives, activeRows, Active}
 use Rattle.verdict.specs.CoreAndRound.{coreLayout}
 use Rattle.verdict.specs.Claims.{EachActive, ShortTimestamp, States, opWords, operations}
-use Rattle.verdict.proofs.Rows.{by-upto, active-length, index-mem, selected-at}
+use Rattle.verdict.proofs.Rows.{by-upto, active-length, index-mem, selected-at, count-before}
 use Rattle.verdict.proofs.TwoTables.{active-listed, listed-mem, is-on}
 
 -- ---- one row

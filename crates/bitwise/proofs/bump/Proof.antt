@@ -1,12 +1,9 @@
 -- `bitwise::bump` meets its contract: one check after the other, then one store. Assumes nothing.
-use mathlib.Core.Path.{_≡_, refl, sym, ap, _∙_}
-use Prim.Native.Nat.{ℕ, _+_, _-_, _*_, _≤_, _<_}
-use native.Mathlib.Omega.{arith}
-use lib.ListN.{length, getD, length-set}
+use mathlib.Core.Path.{refl, ap, _∙_}
+use Prim.Native.Nat.{ℕ, _+_, _*_}
 use borrow.Author.Needs.{needs}
 use borrow.Author.Tests.{le-leb, lt-leb, le-ltb, lt-ltb}
 use lib.ListN.{set}
-use Rattle.field.specs.Field.{p, fadd}
 use Rattle.answer.proofs.Laws.{refuse-yes, refuse-no, refused, done}
 use Rattle.bitwise.specs.Counters.{charge, bumpRefusal}
 use Rattle.bitwise.proofs.bump.Statement.{statement}
@@ -28,8 +25,8 @@ returns-3 c =
     (refuse-no _ (lt-leb _ _ (c .before .if2 .left))
     (refuse-yes _ _ (lt-ltb _ _ (c .if3 .taken)))))
 
-row-index-requires : tie.Need-row-index-requires
-row-index-requires c κs = search needs
+row-of-requires : tie.Need-row-of-requires
+row-of-requires c κs = search needs
 
 mul-at : tie.Need-mul-at
 mul-at c = search needs
@@ -47,7 +44,7 @@ returns-4 : tie.Need-returns-4
 unfolding bumpRefusal
 returns-4 c =
     let s = c .before .before .before in
-    let e = c .before .before .row-index .ensures in
+    let e = c .before .before .row-of .ensures in
     rw e
     (refused _ _
     (refuse-no _ (lt-leb _ _ (s .before .before .if1 .left))
@@ -71,7 +68,7 @@ returns-5 : tie.Need-returns-5
 unfolding bumpRefusal charge
 returns-5 c =
     let s = c .before .before .before .before in
-    let e = c .before .before .before .row-index .ensures in
+    let e = c .before .before .before .row-of .ensures in
     let l = s .before .before .before .before .args .counters .now in
     done _
     (refuse-no _ (lt-leb _ _ (s .before .before .if1 .left))
@@ -87,7 +84,7 @@ bump-spec =
     returns
     returns-2
     returns-3
-    row-index-requires
+    row-of-requires
     mul-at
     add-at
     mul-old

@@ -1,11 +1,10 @@
 -- `bitwise::bus_interaction` meets its contract: the checks, then the values of the kind of the index. Assumes nothing.
-use mathlib.Core.Path.{_≡_, refl, sym, ap, _∙_}
-use Prim.Native.Nat.{ℕ, _+_, _-_, _*_, _≤_, _<_}
+use mathlib.Core.Path.{_≡_, refl, sym, ap, _∙_, ap₂}
+use Prim.Native.Nat.{ℕ}
 use native.Mathlib.Omega.{arith}
-use lib.ListN.{length, getD, length-set}
+use lib.ListN.{length}
 use borrow.Author.Needs.{needs}
 use mathlib.Core.List.{List}
-use mathlib.Core.Path.{ap₂}
 use mathlib.Core.Option.{none}
 use lib.Seq.{sets}
 use Rattle.lists.specs.Tab.{tab, word}
@@ -14,7 +13,6 @@ use Rattle.answer.specs.Refusal.{answerOf}
 use Rattle.answer.proofs.Laws.{is-refused, is-done, sets-overwrite}
 use Rattle.lookup.specs.Call.{sizedRefusal, tupleRefusal}
 use Rattle.lookup.specs.declared.Side.the-variants.{Receiver}
-use Rattle.lookup.specs.declared.TupleAnswer.{TupleAnswer}
 use Rattle.lookup.specs.declared.TupleAnswer.the-variants.{Is}
 use Rattle.lookup.proofs.Call.{Accepted, accepted, tuple-refused, tuple-given}
 use Rattle.bitwise.specs.declared.BitwiseOperationType.{BitwiseOperationType}
@@ -22,12 +20,6 @@ use Rattle.bitwise.specs.Tuples.{kindAt, kindBus, kindSize, kindValues, 
 use Rattle.bitwise.proofs.Numbers.{kind-size, size-le, mu-column-at}
 use Rattle.bitwise.proofs.bus_interaction.Statement.{statement}
 use Rattle.bitwise.proofs.bus_interaction.Tie as tie
-use Rattle.bitwise.proofs.kind_at.Reads as kind-at-reads
-use Rattle.bitwise.proofs.kind_bus.Reads as kind-bus-reads
-use Rattle.bitwise.proofs.kind_size.Reads as kind-size-reads
-use Rattle.bitwise.proofs.kind_values.Reads as kind-values-reads
-use Rattle.lists.proofs.put_words.Reads as put-words-reads
-use Rattle.lookup.proofs.check.check_tuple.Reads as check-tuple-reads
 
 -- the arguments, from the place after the checks
 abbrev Row : tie.After-check-tuple → List ℕ

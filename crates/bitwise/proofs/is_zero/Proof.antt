@@ -1,8 +1,4 @@
 -- `bitwise::is_zero` meets its contract: one test after the other. Assumes nothing.
-use mathlib.Core.Path.{_≡_, refl, sym, ap, _∙_}
-use Prim.Native.Nat.{ℕ, _+_, _-_, _*_, _≤_, _<_}
-use native.Mathlib.Omega.{arith}
-use lib.ListN.{length, getD, length-set}
 use borrow.Author.Tests.{eq-eqb, ne-eqb}
 use Rattle.bitwise.proofs.is_zero.Statement.{statement}
 use Rattle.bitwise.proofs.is_zero.Tie as tie

@@ -1,8 +1,7 @@
 -- `bitwise::kind_at` meets its contract, arm by arm. Assumes nothing.
-use mathlib.Core.Path.{_≡_, refl, sym, ap, _∙_}
-use Prim.Native.Nat.{ℕ, suc, _+_, _-_, _*_, _≤_, _<_}
+use mathlib.Core.Path.{_≡_, sym, ap}
+use Prim.Native.Nat.{ℕ, suc, _≤_}
 use native.Mathlib.Omega.{arith}
-use lib.ListN.{length, getD, length-set}
 use Rattle.bitwise.specs.Tuples.{kindAt}
 use Rattle.bitwise.proofs.Numbers.{kind-last}
 use Rattle.bitwise.proofs.kind_at.Statement.{statement}

@@ -1,10 +1,8 @@
 -- `bitwise::put_row` meets its contract: eleven stores, one after the other. Assumes nothing.
-use mathlib.Core.Path.{_≡_, refl, sym, ap, _∙_}
-use Prim.Native.Nat.{ℕ, _+_, _-_, _*_, _≤_, _<_}
+use Prim.Native.Nat.{ℕ, _+_, _*_, _/_, _%_}
 use native.Mathlib.Omega.{arith}
-use lib.ListN.{length, getD, length-set}
+use lib.ListN.{length-set}
 use borrow.Author.Needs.{needs}
-use Prim.Native.Nat.{_/_, _%_}
 use mathlib.Core.Path.{ap₂}
 use mathlib.Core.List.{[], _∷_}
 use lib.Bits.{bitXor, bitAnd, bitOr}

@@ -1,8 +1,5 @@
 -- `bitwise::shifted` meets its contract: sixteen bits and a shift below 16 fit 64 bits. Assumes nothing.
-use mathlib.Core.Path.{_≡_, refl, sym, ap, _∙_}
-use Prim.Native.Nat.{ℕ, _+_, _-_, _*_, _≤_, _<_}
 use native.Mathlib.Omega.{arith}
-use lib.ListN.{length, getD, length-set}
 use borrow.Author.Needs.{needs}
 use lib.Pow.{shl-exact}
 use Rattle.bitwise.proofs.shifted.Statement.{statement}

@@ -1,8 +1,6 @@
 -- `keccak_rc::generate_keccak_rc_trace` meets its contract: the check, then the table. Assumes nothing.
-use mathlib.Core.Path.{_≡_, refl, sym, ap, _∙_}
-use Prim.Native.Nat.{ℕ, _+_, _-_, _*_, _≤_, _<_}
+use mathlib.Core.Path.{refl, _∙_}
 use native.Mathlib.Omega.{arith}
-use lib.ListN.{length, getD, length-set}
 use borrow.Author.Needs.{needs}
 use borrow.Author.Tests.{le-ltb, lt-ltb}
 use Rattle.answer.proofs.Laws.{refuse-yes, refuse-no, refused, done, sets-overwrite}

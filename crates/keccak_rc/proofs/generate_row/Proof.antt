@@ -1,12 +1,10 @@
 -- `keccak_rc::generate_row` meets its contract: one check after the other, then the row. Assumes nothing.
-use mathlib.Core.Path.{_≡_, refl, sym, ap, _∙_}
-use Prim.Native.Nat.{ℕ, _+_, _-_, _*_, _≤_, _<_}
+use mathlib.Core.Path.{refl, _∙_}
 use native.Mathlib.Omega.{arith}
-use lib.ListN.{length, getD, length-set}
 use borrow.Author.Needs.{needs}
 use borrow.Author.Tests.{le-leb, lt-leb, le-ltb, lt-ltb}
 use Rattle.answer.proofs.Laws.{refuse-yes, refuse-no, refused, done, sets-overwrite}
-use Rattle.keccak_rc.specs.Row.{rcRow, rowRefusal}
+use Rattle.keccak_rc.specs.Row.{rowRefusal}
 use Rattle.keccak_rc.proofs.Found.{rc-length}
 use Rattle.keccak_rc.proofs.generate_row.Statement.{statement}
 use Rattle.keccak_rc.proofs.generate_row.Tie as tie

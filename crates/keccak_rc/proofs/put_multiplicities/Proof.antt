@@ -1,10 +1,10 @@
 -- `keccak_rc::put_multiplicities` meets its contract: after r turns MU of the rounds below r is stored. Assumes nothing.
-use mathlib.Core.Path.{_≡_, refl, sym, ap, _∙_}
-use Prim.Native.Nat.{ℕ, _+_, _-_, _*_, _≤_, _<_}
+use mathlib.Core.Path.{_≡_, refl, ap, _∙_}
+use Prim.Native.Nat.{ℕ, _-_, _≤_}
 use native.Mathlib.Omega.{arith}
-use lib.ListN.{length, getD, length-set}
+use lib.ListN.{length, length-set}
 use Rattle.keccak_rc.specs.Table.{withMu, lookups, updated}
-use Rattle.keccak_rc.proofs.Table.{length-withMu, withMu-more, lookups-24}
+use Rattle.keccak_rc.proofs.Table.{withMu-more, lookups-24}
 use Rattle.keccak_rc.proofs.put_multiplicities.Statement.{statement}
 use Rattle.keccak_rc.proofs.put_multiplicities.Tie as tie
 

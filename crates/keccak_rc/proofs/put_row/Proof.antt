@@ -1,11 +1,10 @@
 -- `keccak_rc::put_row` meets its contract: one store, then the bytes of the constant. Assumes nothing.
-use mathlib.Core.Path.{_≡_, refl, sym, ap, _∙_}
-use Prim.Native.Nat.{ℕ, _+_, _-_, _*_, _≤_, _<_}
+use mathlib.Core.Path.{ap, _∙_}
+use Prim.Native.Nat.{ℕ, _+_}
 use native.Mathlib.Omega.{arith}
-use lib.ListN.{length, getD, length-set}
+use lib.ListN.{length-set, set}
 use borrow.Author.Needs.{needs}
 use native.Mathlib.Numerals.{add-one}
-use lib.ListN.{set}
 use lib.Seq.{sets}
 use Rattle.lists.specs.Tab.{tab}
 use Rattle.bits.specs.Bits.{byteAt}

@@ -1,8 +1,7 @@
 -- `keccak_rc::put_table` meets its contract: after r turns the rows below r are stored. Assumes nothing.
-use mathlib.Core.Path.{_≡_, refl, sym, ap, _∙_}
-use Prim.Native.Nat.{ℕ, _+_, _-_, _*_, _≤_, _<_}
+use mathlib.Core.Path.{sym}
+use Prim.Native.Nat.{_-_, _*_, _≤_}
 use native.Mathlib.Omega.{arith}
-use lib.ListN.{length, getD, length-set}
 use mathlib.Core.List.{[], _∷_, _++_}
 use native.Mathlib.Nat.{zero-add}
 use Rattle.lists.specs.Tab.{cellsOf}

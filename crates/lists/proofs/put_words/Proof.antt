@@ -1,8 +1,7 @@
 -- `lists::put_words` meets its contract: after k turns the first k words are stored. Assumes nothing.
-use mathlib.Core.Path.{_≡_, refl, sym, ap, _∙_}
-use Prim.Native.Nat.{ℕ, _+_, _-_, _*_, _≤_, _<_}
+use mathlib.Core.Path.{refl}
+use Prim.Native.Nat.{_-_}
 use native.Mathlib.Omega.{arith}
-use lib.ListN.{length, getD, length-set}
 use Rattle.lists.specs.Tab.{word}
 use Rattle.lists.proofs.Laws.{Filled, filled-none, filled-more, filled-all}
 use Rattle.lists.proofs.put_words.Statement.{statement}

@@ -1,17 +1,12 @@
 -- `lookup::check::check_tuple` meets its contract: one check after the other. Assumes nothing.
-use mathlib.Core.Path.{_≡_, refl, sym, ap, _∙_}
-use mathlib.Core.Option.{none}
+use mathlib.Core.Path.{refl, sym, _∙_}
 use borrow.Author.Needs.{needs}
 use borrow.Author.Tests.{le-leb, lt-leb, le-ltb, lt-ltb}
 use Rattle.lists.proofs.First.{place-at, place-nowhere}
-use Rattle.answer.specs.Refusal.{answerOf}
 use Rattle.answer.proofs.Laws.{refuse-yes, refuse-no, at-yes, at-no, answers, accepts}
 use Rattle.lookup.specs.Call.{sizedRefusal}
 use Rattle.lookup.proofs.check.check_tuple.Statement.{statement}
 use Rattle.lookup.proofs.check.check_tuple.Tie as tie
-use Rattle.lookup.proofs.check.check_tuple.Reads as reads
-use Rattle.lookup.proofs.check.check_tuple.Lts as lts
-use Rattle.field.proofs.elements.first_not_element.Reads as first-not-element-reads
 
 returns : tie.Need-returns
 unfolding sizedRefusal
