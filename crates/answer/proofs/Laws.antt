@@ -4,6 +4,7 @@
 --     answers, accepts          the answer, once the checks are known
 --     kept, written             the words left, once the checks are known
 --     refused, done             the two clauses of a call's contract, once the checks are known
+--     number-refused, number-is the answer of a call that gives a number, once the checks are known
 --     is-refused, is-done       what an answer that another function gave says of the checks
 --     passed-if, passed-at      what an accepted call knows of a check, and of those after it
 --     sets-overwrite            words stored one by one from the front
@@ -67,6 +68,16 @@ refused new old e = (answers e, kept new old e)
 pub done : {o : Option Refusal} {new row : List ℕ} (old : List ℕ) → o ≡ none → row ≡ new
     → (Done ≡ answerOf o) × (row ≡ afterwards o new old)
 done old e q = (accepts e, written old e q)
+
+-- ---- a call that gives a number
+
+pub number-refused : {o : Option Refusal} {r : Refusal} (n : ℕ) → o ≡ some r → number.Refused r ≡ numberOf n o
+unfolding numberOf
+number-refused n e = rw e
+
+pub number-is : {o : Option Refusal} {n m : ℕ} → o ≡ none → m ≡ n → number.Is m ≡ numberOf n o
+unfolding numberOf
+number-is e q = rw e (ap number.Is q)
 
 -- ---- what an answer says
 

@@ -13,7 +13,7 @@ use Rattle.field.specs.Field.{p, fadd, fmul}
 use Rattle.field.proofs.Field.{fmul-zero}
 use Rattle.bits.proofs.BitLaws.{by-bit}
 use Rattle.templates.specs.Templates.{constant, from-dword-bl, from-dword-whh, carry0, add-pair-carry-hi, emit-add-pair, isBit}
-use Rattle.templates.proofs.Carry.{carryOf, carry-none, carry-one, bit-value, bit-if-zero}
+use Rattle.templates.proofs.Carry.{carryOf, carry-none, carry-of, bit-value, bit-if-zero}
 use Rattle.bitwise.specs.Found.{aluOp}
 use Rattle.matching.specs.Matching.{Found, Matched}
 use Rattle.matching.proofs.Matching.{of-alu, of-bytes, of-half, of-is-wh, of-keccak, of-memw, of-ecall}
@@ -51,19 +51,8 @@ module _ (nr syscall : ℕ) (row : List ℕ) (c : CoreCells row) (on : word row 
       let d = two-digits (ptrHi row i) (ptrLo row i) (addrHi row) (addrLo row + 8 * i) (ptr-lo-lt row in-range i h) l e in
       (0, omega arith, omega (arith, d .1), add-zero (addrHi row) ∙ sym (d .0)))
 
-  low-carry : (a b c : ℕ) → c < 2 → b < 4294967296 → a ≡ b + c * 4294967296 → carryOf a b ≡ c
-  low-carry a b zero l h e = ap (λ (x : ℕ). carryOf x b) (e ∙ z b) ∙ carry-none b (omega arith)
-    where
-      z : (b : ℕ) → b + 0 * 4294967296 ≡ b
-      z b = omega arith
-  low-carry a b (suc zero) l h e = ap (λ (x : ℕ). carryOf x b) (e ∙ z b) ∙ carry-one b h
-    where
-      z : (b : ℕ) → b + 1 * 4294967296 ≡ b + 4294967296
-      z b = omega arith
-  low-carry a b (suc (suc k)) l h e = absurd (omega arith)
-
   carry0-bit : (i : ℕ) (h : i < 25) → carry0 row (from-dword-bl ADDR) (constant (pos (i * 8))) (from-dword-whh (state-ptr i 0)) ≡ split i h .0
-  carry0-bit i h = let s = split i h in carry0-is row in-range i h ∙ low-carry (addrLo row + 8 * i) (ptrLo row i) (s .0) (s .1) (ptr-lo-lt row in-range i h) (s .2)
+  carry0-bit i h = let s = split i h in carry0-is row in-range i h ∙ carry-of (addrLo row + 8 * i) (ptrLo row i) (s .0) (s .1) (ptr-lo-lt row in-range i h) (s .2)
 
   carry1-bit : (i : ℕ) (h : i < 25) → add-pair-carry-hi row (from-dword-bl ADDR) (constant (pos (i * 8))) (from-dword-whh (state-ptr i 0)) ≡ 0
   carry1-bit i h =
@@ -79,7 +68,7 @@ module _ (nr syscall : ℕ) (row : List ℕ) (c : CoreCells row) (on : word row 
   top-pass =
       let h : 24 < 25 = omega arith in
       let s = split 24 h in
-      top-is row in-range (s .0) (s .1) (low-carry (addrLo row + 192) (ptrLo row 24) (s .0) (s .1) (ptr-lo-lt row in-range 24 h) (s .2))
+      top-is row in-range (s .0) (s .1) (carry-of (addrLo row + 192) (ptrLo row 24) (s .0) (s .1) (ptr-lo-lt row in-range 24 h) (s .2))
       ∙ ap (fmul (word row MU)) (ap (λ (x : ℕ). carryOf x (ptrHi row 24)) (s .3) ∙ carry-none (ptrHi row 24) (omega (arith, in-range .limb-2 24 h)))
       ∙ ap (λ (x : ℕ). x % p) (mul-zero (word row MU))
 

@@ -1,19 +1,22 @@
 -- The refusals of a call that takes a list of operations, 52 words each: one definition for every such call. Assumes nothing.
 --     tooMany, notWhole, tooShort, tooHigh   one check each, with the checks that follow it
 --     operationsRefusal                      the checks of a call that takes a list and a slice to write to
+--     traceRefusal, keysRefusal, rowRefusal, countRefusal   the checks of each call of the core table
 -- A call that takes an index too puts its check between `tooMany` and `notWhole`: "in number order, then argument order".
-use Prim.Native.Nat.{ℕ, _+_, _/_, _%_}
+use Prim.Native.Nat.{ℕ, _+_, _*_, _/_, _%_}
 use mathlib.Core.Bool.{Bool, not}
 use mathlib.Core.Option.{Option}
 use mathlib.Core.List.{List}
-use lib.Dec.{eqb, ltb}
+use lib.Dec.{eqb, leb, ltb}
 use lib.ListN.{length}
 use Rattle.lists.specs.First.{firstAt}
 use Rattle.answer.specs.Limits.{MAX-OPS}
 use Rattle.answer.specs.Refusal.{refuseIf, refuseAt, accepted}
 use Rattle.answer.specs.declared.Refusal.{Refusal}
 use Rattle.answer.specs.declared.Refusal.the-variants.{PastEnd, NotWhole, TooShort, HighAddress}
-use Rattle.keccak.specs.Row.{OP-WORDS, opAt, LAST-ADDRESS}
+use Rattle.keccak.specs.Columns.{NUM-COLUMNS}
+use Rattle.keccak.specs.Height.{height, MIN-ROWS}
+use Rattle.keccak.specs.Row.{OP-WORDS, opAt, LAST-ADDRESS, KEY-WORDS}
 
 -- "a list's n is its length div 52"
 abbrev pub opCount : List ℕ → ℕ
@@ -50,3 +53,26 @@ operationsRefusal room needed ops =
     (tooShort room needed
     (tooHigh ops
     accepted)))
+
+-- `generate_keccak_trace`: a table of `room` words is to hold the rows up to the height
+unfoldable pub traceRefusal : ℕ → List ℕ → Option Refusal
+traceRefusal room ops = operationsRefusal room (height MIN-ROWS (opCount ops) * NUM-COLUMNS) ops
+
+-- `is_wh_keys`: a slice of `room` words is to hold the keys of the list
+unfoldable pub keysRefusal : ℕ → List ℕ → Option Refusal
+keysRefusal room ops = operationsRefusal room (opCount ops * KEY-WORDS) ops
+
+-- `keccak_row`: a list, the index of one of its operations, and a slice of `room` words for that operation's row. 1 on the
+-- index: "detail the least number refused", which is the number of operations
+unfoldable pub rowRefusal : ℕ → List ℕ → ℕ → Option Refusal
+rowRefusal room ops index =
+    tooMany ops
+    (refuseIf (leb (opCount ops) index) (PastEnd (opCount ops))
+    (notWhole ops
+    (tooShort room NUM-COLUMNS
+    (tooHigh ops
+    accepted))))
+
+-- a call that takes the number of operations alone
+unfoldable pub countRefusal : ℕ → Option Refusal
+countRefusal n = refuseIf (ltb MAX-OPS n) (PastEnd (MAX-OPS + 1)) accepted
