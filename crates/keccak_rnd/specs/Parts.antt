@@ -1,4 +1,5 @@
--- The tables of bytes that a round row is written from, and the row in three parts, as the code writes it. Assumes nothing.
+-- The tables of bytes that a round row is written from, and the row in three parts, as the code writes it.
+-- Assumes nothing.
 use Prim.Native.Nat.{ℕ, _+_, _*_, _/_, _%_, _^_, _-_, _<_}
 use mathlib.Core.List.{List, [], _∷_}
 use lib.Bits.{bitXor, bitAnd}
@@ -8,7 +9,8 @@ use Rattle.lists.specs.Tab.{pick, tab, word, Group, group}
 use Rattle.bits.specs.Bits.{byteAt, laneByte, wordAt, laneOf, halfword, hwslCarry, leftByte}
 use Rattle.fips202.specs.Lanes.{lane, roundsL}
 use Rattle.fips202.specs.Tables.{roundConstant}
-use Rattle.keccak_rnd.specs.Row.{cxzByte, cByte, cxzRightBit, dByte, rotLeftByte, rotRightByte, andLanes, byLane, roundRow}
+use Rattle.keccak_rnd.specs.Row.{cxzByte, cByte, cxzRightBit, dByte, rotLeftByte, rotRightByte}
+use Rattle.keccak_rnd.specs.Row.{andLanes, byLane, roundRow}
 
 -- ---- the tables of bytes by lane: C in its four stages, the two parts of C rotated by one, D
 unfoldable pub stagesOf : List ℕ → ℕ → List (List ℕ)
@@ -49,7 +51,9 @@ Joins left right = (h : ℕ) → h < 4 → word left (2 * h) + word right ((h + 
 unfoldable pub turnBytes : List (List (List ℕ)) → List (List ℕ) → List (List ℕ) → ℕ → List ℕ
 turnBytes cxz left right x =
     tab 8
-    (λ b. bitXor (word (parityBytes cxz ((x + 4) % 5)) b) (joined (getD left ((x + 1) % 5) []) (getD right ((x + 1) % 5) []) b))
+    (λ b.
+    bitXor (word (parityBytes cxz ((x + 4) % 5)) b)
+    (joined (getD left ((x + 1) % 5) []) (getD right ((x + 1) % 5) []) b))
 
 -- what each cell of a table's group holds
 unfoldable pub stageCell : List (List (List ℕ)) → ℕ → ℕ
@@ -63,7 +67,8 @@ bitCell t k = word (getD t (k / 4) []) (k % 4)
 
 -- ---- the row in three parts
 -- timestamp, ROUND, START, and the four tables: 463 columns
-unfoldable pub frontGroups : (ℕ → ℕ) → ℕ → List ℕ → List (List (List ℕ)) → List (List ℕ) → List (List ℕ) → List (List ℕ) → List Group
+unfoldable pub frontGroups : (ℕ → ℕ) → ℕ → List ℕ → List (List (List ℕ)) → List (List ℕ) → List (List ℕ) → List (List ℕ)
+    → List Group
 frontGroups stamp r s cxz left right d =
     group 2 stamp
     ∷ group 1 (λ k. r)

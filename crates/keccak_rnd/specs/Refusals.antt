@@ -12,7 +12,8 @@ use Rattle.keccak.specs.Refusals.{opCount, tooShort, operationsRefusal}
 use Rattle.keccak_rnd.specs.Columns.{NUM-COLUMNS}
 use Rattle.keccak_rnd.specs.Row.{roundHeight}
 
--- `keccak_rnd_row`: 1 "round to be written (≥ 24)", 3 START shorter than its 25 lanes, then a row shorter than its columns
+-- `keccak_rnd_row`: 1 "round to be written (≥ 24)", 3 START shorter than its 25 lanes, then a row shorter than its
+-- columns
 unfoldable pub rowRefusal : ℕ → List ℕ → List ℕ → Option Refusal
 rowRefusal round start row =
     refuseIf (leb 24 round) (PastEnd 24)
