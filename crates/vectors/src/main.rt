@@ -2,6 +2,7 @@
 // comes out, then SHA3-256 of seven messages. One line each, in lower-case hexadecimal.
 use fips202::State;
 use libc::STDOUT_FILENO;
+use permutation::keccak_f;
 use sha3::sha3_256;
 ghost use mathlib.Core.Path.{_≡_};
 ghost use Prim.Native.Nat.{_<_, _≤_};
@@ -51,9 +52,9 @@ fn print_digest(message: &[u8]) {
 }
 
 fn permutations() {
-    let once = State { lanes: [0u64; 25] }.keccak_f();
+    let once = keccak_f(State { lanes: [0u64; 25] });
     print_state(once);
-    print_state(once.keccak_f());
+    print_state(keccak_f(once));
 }
 
 // The empty message, and two short ones that hash examples commonly have.
