@@ -10,6 +10,7 @@ use super::theta::right_table;
 use bits::put_dword_bl;
 use bits::put_dword_wl;
 use bits::put_lanes;
+use fips202::State;
 use fips202::round_constant;
 ghost use mathlib.Core.Path.{_≡_};
 ghost use Prim.Native.Nat.{ℕ, _+_, _≤_};
@@ -144,8 +145,8 @@ pub fn put_round_row(row: &mut [u64], at: usize, timestamp: u64, round: usize, s
 {
     let d = put_theta(row, at, timestamp, round as u64, s);
     let theta = after_theta(s, d);
-    let pi = steps::rho_pi(theta);
-    let chi = steps::chi(pi);
+    let pi = theta.rho_pi();
+    let chi = pi.chi();
     let t = theta.lanes;
     let u = pi.lanes;
     let v = chi.lanes;

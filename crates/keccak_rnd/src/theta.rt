@@ -1,7 +1,6 @@
 // θ by tables of bytes: the column parities C in their four stages, C rotated by one in its two parts, and D.
 use super::halfword::hwsl;
 use fips202::State;
-use steps::theta_planes;
 ghost use mathlib.Core.Path.{_≡_};
 ghost use mathlib.Core.List.{[]};
 ghost use Prim.Native.Nat.{ℕ, _+_, _*_, _/_, _%_, _<_};
@@ -213,5 +212,5 @@ pub fn after_theta(s: [u64; 25], d: [[u8; 8]; 5]) -> State
         lane_of(d[3]),
         lane_of(d[4]),
     ];
-    theta_planes(State { lanes: s }, turns)
+    State { lanes: s }.theta_planes(turns)
 }

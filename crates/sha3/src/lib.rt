@@ -1,6 +1,5 @@
 // SHA3-256 of a message of bytes.
-use fips202::State;
-use permutation::keccak_f;
+use permutation::State;
 ghost use mathlib.Core.Path.{_≡_};
 ghost use Prim.Native.Nat.{_+_, _/_, _^_, _<_, _≤_};
 ghost use lib.ListN.{length};
@@ -81,7 +80,7 @@ fn absorb(message: &[u8]) -> State
     let n = message.len() / RATE + 1;
     let mut state = State { lanes: [0u64; 25] };
     for i in 0..n {
-        state = keccak_f(add_block(state, message, i));
+        state = add_block(state, message, i).keccak_f();
     }
     state
 }

@@ -1,8 +1,7 @@
 // Prints values of FIPS 202, which the file `stdout` has from elsewhere: Keccak-f[1600] of the zero state and of what
 // comes out, then SHA3-256 of seven messages. One line each, in lower-case hexadecimal.
-use fips202::State;
 use libc::STDOUT_FILENO;
-use permutation::keccak_f;
+use permutation::State;
 use sha3::sha3_256;
 ghost use mathlib.Core.Path.{_≡_};
 ghost use Prim.Native.Nat.{_<_, _≤_};
@@ -52,9 +51,9 @@ fn print_digest(message: &[u8]) {
 }
 
 fn permutations() {
-    let once = keccak_f(State { lanes: [0u64; 25] });
+    let once = State { lanes: [0u64; 25] }.keccak_f();
     print_state(once);
-    print_state(keccak_f(once));
+    print_state(once.keccak_f());
 }
 
 // The empty message, and two short ones that hash examples commonly have.
