@@ -2,7 +2,7 @@
 use fips202::State;
 use fips202::from_planes;
 use fips202::rho_offset;
-use keccak_rnd_theta::halfword::shift_lane;
+use halfword::shift_lane;
 ghost use mathlib.Core.Path.{_≡_};
 ghost use Prim.Native.Nat.{_<_};
 ghost use Rattle.fips202.specs.Lanes.{grid, plane};
