@@ -1,0 +1,84 @@
+-- `put_round_row` meets its contract: the three parts make the row. Assumes nothing.
+use mathlib.Core.Path.{_≡_, refl, sym, ap, _∙_}
+use mathlib.Core.List.{List, []}
+use Prim.Native.Nat.{ℕ, _+_, _-_, _*_, _≤_, _<_}
+use native.Mathlib.Nat.{add-zero, zero-add}
+use native.Mathlib.Omega.{arith}
+use lib.Bits.{bitXor}
+use lib.ListN.{length, getD}
+use lib.Seq.{sets}
+use mir.Syntax.{w64}
+use mir.Val.{Fits}
+use borrow.Author.Needs.{needs}
+use Rattle.lists.specs.Tab.{tab, word, rowOf}
+use Rattle.lists.proofs.Laws.{wrote-none, wrote-more, wrote-groups, tab-same}
+use Rattle.bits.specs.Bits.{byteAt, laneByte, laneOf, wordAt}
+use Rattle.fips202.specs.Lanes.{lane, grid, rhoPiL, chiL}
+use Rattle.keccak_rnd.specs.Row.{thetaLanes, piLanes, chiLanes, roundRow, roundGroups}
+use Rattle.keccak_rnd.specs.Parts.{cxzTable, leftTable, rightTable, dTable, frontGroups, rhoGroups, chiGroups}
+use Rattle.keccak_rnd.proofs.Tables.{left-is, right-is, joins-of, d-is, front-same, iota-bytes, left-lanes, right-lanes, theta-of, parts-row}
+use Rattle.keccak_rnd_row.proofs.put_round_row.Statement.{statement}
+use Rattle.keccak_rnd_row.proofs.put_round_row.Tie as tie
+
+put-theta-requires : tie.Need-put-theta-requires
+put-theta-requires c κs = search needs
+
+after-theta-requires : tie.Need-after-theta-requires
+after-theta-requires c κs = search needs
+
+rho-pi-requires : tie.Need-rho-pi-requires
+rho-pi-requires c κs = search needs
+
+chi-requires : tie.Need-chi-requires
+chi-requires c κs = search needs
+
+add-put-rho : tie.Need-add-put-rho
+add-put-rho c = search needs
+
+put-rho-requires : tie.Need-put-rho-requires
+put-rho-requires c κs = search needs
+
+add-put-chi : tie.Need-add-put-chi
+add-put-chi c = search needs
+
+put-chi-requires : tie.Need-put-chi-requires
+put-chi-requires c κs = search needs
+
+same-length : tie.Need-same-length
+same-length c = search needs
+
+returns : tie.Need-returns
+unfolding roundRow frontGroups rhoGroups chiGroups
+returns c =
+    let c2 = c .before .before in
+    let c1 = c2 .before .before .before .before in
+    let ch = c1 .before .before .before .before .before in
+    let rp = ch .before in
+    let th = rp .before in
+    let pt = th .before .before .before in
+    let start = pt .before .before .before in
+    let a = start .args in
+    let s = a .s in
+    let r = a .round in
+    let thetaE = th .after-theta .ensures ∙ ap (λ (d : List (List ℕ)). grid (λ x y. bitXor (lane s x y) (laneOf (word (getD d x []))))) (pt .put-theta .ensures .1) ∙ theta-of s in
+    let piE = rp .rho-pi .ensures ∙ ap rhoPiL thetaE in
+    let chiE = ch .chi .ensures ∙ ap chiL piE in
+    let w0 = wrote-groups (frontGroups (wordAt (a .timestamp)) r s (cxzTable s) (leftTable s) (rightTable s) (dTable s)) (wrote-none (a .row .now) (a .at)) (sym (add-zero _)) (pt .put-theta .ensures .0) in
+    let w1 = wrote-groups (rhoGroups (thetaLanes s)) w0 refl (c1 .put-rho .ensures ∙ ap (sets _ _) (ap (λ (t : List ℕ). rowOf (rhoGroups t)) thetaE)) in
+    let w2 = wrote-groups (chiGroups r (piLanes s) (chiLanes s)) w1 refl (c2 .put-chi .ensures ∙ ap (sets _ _) (λ t. rowOf (chiGroups r (piE t) (chiE t)))) in
+    w2 .is ∙ ap (sets (a .row .now) (a .at)) (parts-row s (wordAt (a .timestamp)) r)
+
+pub put-round-row-spec : {M : Type 1} → statement M
+put-round-row-spec =
+    tie.close
+    (tie.spec
+    put-theta-requires
+    after-theta-requires
+    rho-pi-requires
+    chi-requires
+    add-put-rho
+    put-rho-requires
+    add-put-chi
+    put-chi-requires
+    same-length
+    returns)

@@ -1,0 +1,118 @@
+-- `keccak::generate_keccak_trace` meets its contract: one check after the other, then the table. Assumes nothing.
+use mathlib.Core.Path.{_≡_, sym, ap, _∙_}
+use Prim.Native.Nat.{ℕ, _-_, _*_}
+use native.Mathlib.Omega.{arith}
+use lib.ListN.{length}
+use borrow.Author.Needs.{needs}
+use mathlib.Core.Option.{none}
+use mathlib.Core.List.{List}
+use borrow.Author.Tests.{lt-ltb, le-ltb}
+use lib.Seq.{sets}
+use Rattle.answer.specs.Refusal.{accepted, answerOf}
+use Rattle.answer.proofs.Laws.{refuse-yes, refuse-no, refused, done, is-refused, is-done, sets-overwrite}
+use Rattle.keccak.specs.Refusals.{opCount, notWhole, tooShort, tooHigh, operationsRefusal, traceRefusal}
+use Rattle.keccak.proofs.Checks.{Passed, passed}
+use Rattle.lists.specs.Tab.{tableOf}
+use Rattle.keccak.specs.Height.{height}
+use Rattle.keccak.specs.Row.{coreRowAt, coreTable, opAt}
+use Rattle.keccak.proofs.Height.{height-ge, height-le}
+use Rattle.keccak.proofs.Table.{length-core-table}
+use Rattle.keccak_trace.proofs.generate_keccak_trace.Statement.{statement}
+use Rattle.keccak_trace.proofs.generate_keccak_trace.Tie as tie
+use Rattle.operations.proofs.check_operations.Reads as check-operations-reads
+use Rattle.keccak_trace.proofs.put_core_rows.Reads as put-core-rows-reads
+use Rattle.operations.proofs.table_height.Reads as table-height-reads
+
+-- the arguments, from the place after the height
+abbrev Ops : tie.After-table-height → List ℕ
+Ops k = k .before .before .before .before .args .ops .now
+
+abbrev Table : tie.After-table-height → List ℕ
+Table k = k .before .before .before .before .args .table .now
+
+abbrev Needed : tie.After-table-height → ℕ
+Needed k = height 4 (opCount (Ops k)) * 486
+
+-- what the checks answered, with the height that was computed
+checked : (c : tie.After-check-operations)
+    → c .check-operations .result ≡ answerOf (notWhole (Ops (c .before)) (tooShort (length (Table (c .before))) (Needed (c .before)) (tooHigh (Ops (c .before)) accepted)))
+checked c =
+    c .check-operations .ensures
+    ∙ ap (λ (h : ℕ). answerOf (notWhole (Ops (c .before)) (tooShort (length (Table (c .before))) (h * 486) (tooHigh (Ops (c .before)) accepted)))) (c .before .table-height .ensures)
+
+-- what an accepted call knows
+clear : (c : tie.After-enum-told)
+    → notWhole (Ops (c .before .before .before)) (tooShort (length (Table (c .before .before .before))) (Needed (c .before .before .before)) (tooHigh (Ops (c .before .before .before)) accepted)) ≡ none
+clear c = is-done _ (sym (c .enum-told .given .1) ∙ checked (c .before .before))
+
+known : (c : tie.After-enum-told) → Passed (length (Table (c .before .before .before))) (Needed (c .before .before .before)) (Ops (c .before .before .before))
+known c = passed _ _ _ (clear c)
+
+add-t10 : tie.Need-add-t10
+add-t10 c = search needs
+
+returns : tie.Need-returns
+unfolding traceRefusal operationsRefusal
+returns c = refused _ _ (refuse-yes _ _ (lt-ltb _ _ (c .if1 .taken)))
+
+table-height-requires : tie.Need-table-height-requires
+table-height-requires c κs = search needs
+
+mul-check-operations : tie.Need-mul-check-operations
+mul-check-operations c = omega (arith, c .table-height .ensures, height-le 4 (opCount (Ops c)), c .before .if1 .left)
+
+check-operations-requires : tie.Need-check-operations-requires
+check-operations-requires c κs = search needs
+
+enum-known-refusal : tie.Need-enum-known-refusal
+enum-known-refusal c = search needs
+
+returns-2 : tie.Need-returns-2
+unfolding traceRefusal operationsRefusal
+returns-2 c =
+    let k = c .before .before .before in
+    refused _ _
+    (refuse-no _ (le-ltb _ _ (k .before .before .if1 .left))
+    (is-refused _ (sym (c .before .refusal .given .1) ∙ checked k)))
+
+enum-told : tie.Need-enum-told
+enum-told c = search needs
+
+put-core-rows-requires : tie.Need-put-core-rows-requires
+put-core-rows-requires c κs =
+    let told = c .before in
+    let k = told .before .before .before in
+    let h = k .table-height .ensures in
+    (omega arith, omega (arith, h, height-ge 4 (opCount (Ops k))), omega (arith, h, known told .fits), known told .low)
+
+same-length : tie.Need-same-length
+same-length c = search needs
+
+returns-3 : tie.Need-returns-3
+unfolding traceRefusal operationsRefusal coreTable
+returns-3 c =
+    let put = c .before .before in
+    let told = put .before .before in
+    let k = told .before .before .before in
+    let n = opCount (Ops k) in
+    done _
+    (refuse-no _ (le-ltb _ _ (k .before .if1 .left)) (clear told))
+    (put .put-core-rows .ensures
+    ∙ ap (λ (h : ℕ). sets (Table k) 0 (tableOf h 486 (coreRowAt n (opAt (Ops k))))) (k .table-height .ensures)
+    ∙ sets-overwrite (Table k) (coreTable 4 n (opAt (Ops k))) (omega (arith, known told .fits, length-core-table n (opAt (Ops k)) 4)))
+
+pub generate-keccak-trace-spec : {M : Type 1} → statement M
+generate-keccak-trace-spec =
+    tie.close
+    (tie.spec
+    add-t10
+    returns
+    table-height-requires
+    mul-check-operations
+    check-operations-requires
+    enum-known-refusal
+    returns-2
+    enum-told
+    put-core-rows-requires
+    same-length
+    returns-3)

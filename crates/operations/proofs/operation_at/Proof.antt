@@ -1,0 +1,57 @@
+-- `keccak::operation_at` meets its contract: each field is read from its place. Assumes nothing.
+use Prim.Native.Nat.{_-_}
+use borrow.Author.Needs.{needs}
+use Rattle.keccak.specs.Row.{opAt}
+use Rattle.operations.proofs.operation_at.Statement.{statement}
+use Rattle.operations.proofs.operation_at.Tie as tie
+use Rattle.operations.proofs.lanes_at.Reads as lanes-at-reads
+
+mul-at : tie.Need-mul-at
+mul-at c = search needs
+
+add-lanes-at : tie.Need-add-lanes-at
+add-lanes-at c = search needs
+
+lanes-at-requires : tie.Need-lanes-at-requires
+lanes-at-requires c κs = search needs
+
+add-lanes-at-2 : tie.Need-add-lanes-at-2
+add-lanes-at-2 c = search needs
+
+lanes-at-requires-2 : tie.Need-lanes-at-requires-2
+lanes-at-requires-2 c κs = search needs
+
+mul-t6 : tie.Need-mul-t6
+mul-t6 c = search needs
+
+shared-slice-read-t8 : tie.Need-shared-slice-read-t8
+shared-slice-read-t8 c = search needs
+
+add-t9 : tie.Need-add-t9
+add-t9 c = search needs
+
+mul-t10 : tie.Need-mul-t10
+mul-t10 c = search needs
+
+shared-slice-read-t12 : tie.Need-shared-slice-read-t12
+shared-slice-read-t12 c = search needs
+
+returns : tie.Need-returns
+unfolding opAt
+returns c = cc
+
+pub operation-at-spec : {M : Type 1} → statement M
+operation-at-spec =
+    tie.close
+    (tie.spec
+    mul-at
+    add-lanes-at
+    lanes-at-requires
+    add-lanes-at-2
+    lanes-at-requires-2
+    mul-t6
+    shared-slice-read-t8
+    add-t9
+    mul-t10
+    shared-slice-read-t12
+    returns)
