@@ -15,7 +15,7 @@ abbrev μ-loop : tie.MeasureT-loop
 μ-loop row x y out₀ at power hw₀ out hw = 4 - hw
 
 rho-offset-requires : tie.Need-rho-offset-requires Inv-loop μ-loop
-rho-offset-requires c κs = (c .before .before .pre .1, c .before .before .pre .2)
+rho-offset-requires c κs = omega arith
 
 loop-holds : tie.Need-loop-holds Inv-loop μ-loop
 loop-holds c = (ap (λ (k : ℕ). k % 16) (c .rho-offset .ensures), filled-none _ _ _ _)
