@@ -21,26 +21,26 @@ pub fn xor_off(a: u64, b: u64, c: u64) -> bool
 }
 
 // Not two bytes and their AND.
-pub fn and_off(a: u64, b: u64, c: u64) -> bool
-    ensures { λ r. ⌜ r ≡ aluOff 0 a b c ⌝ }
+pub fn and_off(l: u64, r: u64, c: u64) -> bool
+    ensures { λ t. ⌜ t ≡ aluOff 0 l r c ⌝ }
 {
-    if a >= 256 {
+    if l >= 256 {
         return true;
     }
-    if b >= 256 {
+    if r >= 256 {
         return true;
     }
-    c != a & b
+    c != l & r
 }
 
 // Not two bytes.
-pub fn bytes_off(a: u64, b: u64) -> bool
-    ensures { λ r. ⌜ r ≡ bytesOff a b ⌝ }
+pub fn bytes_off(x: u64, y: u64) -> bool
+    ensures { λ r. ⌜ r ≡ bytesOff x y ⌝ }
 {
-    if a >= 256 {
+    if x >= 256 {
         return true;
     }
-    b >= 256
+    y >= 256
 }
 
 // Eight XORs: of the words of `p` from a and of `q` from b, in those of `row` from c.
