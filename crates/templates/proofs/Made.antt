@@ -1,5 +1,5 @@
 -- Operands that are made of their two words. Assumes nothing.
-use mathlib.Core.Path.{_≡_, ap₂, sym, ap}
+use mathlib.Core.Path.{_≡_, ap₂, ap}
 use mathlib.Core.List.{[], _∷_}
 use Prim.Native.Nat.{ℕ, _+_, _^_}
 use native.Mathlib.Omega.{arith}

@@ -1,4 +1,4 @@
--- `templates::from_dword_whh` meets its contract. Assumes nothing.
+-- `templates::AddOperand::from_dword_whh` meets its contract: two halfwords and a word. Assumes nothing.
 use Rattle.templates.proofs.Made.{operand}
 use borrow.Author.Needs.{needs}
 use Rattle.templates.proofs.AddOperand.from_dword_whh.Statement.{statement}
