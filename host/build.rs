@@ -8,8 +8,14 @@ fn main() {
     let here = PathBuf::from(env::var_os("CARGO_MANIFEST_DIR").expect("cargo sets CARGO_MANIFEST_DIR"));
     let root = here.parent().expect("the host stands in a repository").to_path_buf();
     println!("cargo:rerun-if-changed=build.rs");
-    println!("cargo:rerun-if-changed={}", root.join("crates").display());
     println!("cargo:rerun-if-changed={}", root.join("crates.txt").display());
+    for entry in fs::read_dir(root.join("crates")).into_iter().flatten().flatten() {
+        // What the archive is made of; a crate's must-fail edits and recorded outputs have no part in it.
+        let folders = ["src", "specs", "proofs"].map(|name| entry.path().join(name));
+        for folder in folders.iter().filter(|folder| folder.is_dir()) {
+            println!("cargo:rerun-if-changed={}", folder.display());
+        }
+    }
 
     match Command::new("rt")
         .args(["staticlib", "keccak_tables"])

@@ -7,8 +7,17 @@ mod keys;
 mod refusals;
 mod tables;
 
+use keccak_tables::{BusInteraction, Refusal};
+
 use crate::comparison::Comparison;
 use crate::inputs::Words;
+use crate::lent::Lent;
+
+/// A call for a tuple of a row by its index.
+type TupleCall = fn(&[u64], usize, &mut [u64]) -> Result<BusInteraction, Refusal>;
+
+/// A call that takes a list of operations and a slice to write to.
+type ListCall = fn(&[u64], &mut [u64]) -> Result<(), Refusal>;
 
 /// The whole area: `n` drawn operations, and everything that is not drawn.
 pub fn compare(comparison: &mut Comparison, seed: u64, n: usize) {
@@ -21,7 +30,7 @@ pub fn compare(comparison: &mut Comparison, seed: u64, n: usize) {
 }
 
 /// The numbers of a tuple's answer: bus, side, multiplicity, length.
-fn answer_numbers(tuple: &keccak_tables::BusInteraction) -> [u64; 4] {
+fn answer_numbers(tuple: &BusInteraction) -> [u64; 4] {
     [
         tuple.bus.number(),
         tuple.side.number(),
@@ -41,17 +50,11 @@ fn expected_numbers(tuple: &oracle::Tuple) -> [u64; 4] {
 }
 
 /// Every tuple of a row, by our call for a tuple of this table and by the Rust's list.
-fn tuples(
-    comparison: &mut Comparison,
-    words: &mut Words,
-    row: &[u64],
-    call: fn(&[u64], usize, &mut [u64]) -> Result<keccak_tables::BusInteraction, keccak_tables::Refusal>,
-    expected: &[oracle::Tuple],
-) {
+fn tuples(comparison: &mut Comparison, words: &mut Words, row: &[u64], call: TupleCall, expected: &[oracle::Tuple]) {
     for (index, theirs) in expected.iter().enumerate() {
         let input = || format!("tuple {index} of the row {row:?}");
         let room = theirs.values.len() + words.below(3) as usize;
-        let mut out = crate::lent::Lent::drawn(room, words);
+        let mut out = Lent::drawn(room, words);
         if let Some(ours) = comparison.done(input, call(row, index, out.slice())) {
             comparison.equal(|_| input(), &answer_numbers(&ours), &expected_numbers(theirs));
             out.holds(comparison, |_| input(), &theirs.values);

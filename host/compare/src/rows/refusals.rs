@@ -2,11 +2,12 @@
 //! panics there or has no such call); and every lent word as it was.
 
 use keccak_tables::keccak::LAST_ADDRESS;
-use keccak_tables::{BusInteraction, MAX_OPS, OP_WORDS, P, Refusal, bitwise, is_wh, keccak, keccak_rc, keccak_rnd};
+use keccak_tables::{MAX_OPS, OP_WORDS, P, Refusal, bitwise, is_wh, keccak, keccak_rc, keccak_rnd};
 
 use crate::comparison::Comparison;
 use crate::inputs::Words;
 use crate::lent::Lent;
+use crate::rows::{ListCall, TupleCall};
 use crate::untouched::Untouched;
 
 /// The detail of a list with too many operations, and of a count of them.
@@ -141,15 +142,8 @@ fn constant_calls(comparison: &mut Comparison, words: &mut Words) {
     }
 }
 
-/// A table whose tuples are asked for: its name, its columns, the lengths of its tuples, and the call.
-type TupleCall = (
-    &'static str,
-    usize,
-    &'static [usize],
-    fn(&[u64], usize, &mut [u64]) -> Result<BusInteraction, Refusal>,
-);
-
-const TUPLE_CALLS: [TupleCall; 3] = [
+/// The tables whose tuples are asked for: name, columns, the lengths of the tuples, and the call.
+const TUPLE_CALLS: [(&str, usize, &[usize], TupleCall); 3] = [
     (
         "bitwise",
         bitwise::NUM_COLUMNS,
@@ -207,14 +201,11 @@ fn not_elements<T>(
     }
 }
 
-/// The calls that take a list, with the words that each needs for n operations.
-type ListCall = (
-    &'static str,
-    fn(usize) -> usize,
-    fn(&[u64], &mut [u64]) -> Result<(), Refusal>,
-);
+/// The words that a call needs for n operations.
+type Needed = fn(usize) -> usize;
 
-const LIST_CALLS: [ListCall; 4] = [
+/// The calls that take a list, with the words that each needs.
+const LIST_CALLS: [(&str, Needed, ListCall); 4] = [
     (
         "generate_keccak_trace",
         |n| n.next_power_of_two().max(4) * 486,
@@ -268,7 +259,7 @@ fn operation_calls(comparison: &mut Comparison, words: &mut Words) {
 fn high_addresses(
     comparison: &mut Comparison,
     words: &mut Words,
-    (name, needed, call): (&str, usize, fn(&[u64], &mut [u64]) -> Result<(), Refusal>),
+    (name, needed, call): (&str, usize, ListCall),
     n: usize,
 ) {
     for at in 0..n {
