@@ -12,7 +12,7 @@ usage: oracle row bitwise INDEX | row keccak_rc ROUND | table keccak_rc N | padd
        oracle values core | values round                         (rows on standard input)
        oracle tuples bitwise | tuples keccak_rc | tuples is_wh | tuples core SYSCALL | tuples round
                                                                  (rows on standard input)
-       oracle operations SEED N | sample tables | sample core | sample round
+       oracle operations SEED N | sample tables | sample core | sample round | sample rows
 Words on standard input are decimal, separated by white space.";
 
 /// One line of numbers.
@@ -58,6 +58,7 @@ fn answer(arguments: &[&str]) -> Result<Vec<Line>, String> {
         ["sample", "tables"] => sample::tables(),
         ["sample", "core"] => sample::core(),
         ["sample", "round"] => sample::round(),
+        ["sample", "rows"] => sample::rows(),
         _ => return Err(USAGE.into()),
     })
 }

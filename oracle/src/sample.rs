@@ -115,11 +115,7 @@ pub fn core() -> Vec<Line> {
     rows.extend(Generator::new(3).words(3 * CORE_COLUMNS));
 
     let mut lines = operation_lines(&operations);
-    lines.extend(
-        (0..)
-            .zip(is_wh_keys(&operations).chunks_exact(2))
-            .map(|(k, key)| line(10, &[k], key)),
-    );
+    lines.extend(numbered(10, &is_wh_keys(&operations), 2));
     for (k, row) in (0..).zip(rows.chunks_exact(CORE_COLUMNS)) {
         lines.push(line(11, &[k], row));
         lines.push(line(12, &[k], &core_values(row)));
@@ -145,6 +141,36 @@ pub fn round() -> Vec<Line> {
     lines
 }
 
+/// The sample of rows, for a program that replays rows alone: bitwise rows, constant rows, five operations, their keys and
+/// their core table, and the digests of the round table of the first two.
+pub fn rows() -> Vec<Line> {
+    let chosen = [0, 266_804, 1_048_575];
+    let drawn = Generator::new(6).words(50).into_iter().map(|word| word % 1_048_576);
+    let mut lines: Vec<Line> = chosen
+        .into_iter()
+        .chain(drawn)
+        .map(|index| line(17, &[index], &bitwise_row(index as usize)))
+        .collect();
+    lines.extend(numbered(3, &keccak_rc_table(7), KECCAK_RC_COLUMNS));
+
+    let operations = operations(2, 5);
+    lines.extend(operation_lines(&operations));
+    lines.extend(numbered(10, &is_wh_keys(&operations), 2));
+    lines.extend(numbered(11, &core_table(&operations), CORE_COLUMNS));
+    let digests = round_table(&operations[..2 * OPERATION_WORDS])
+        .chunks_exact(ROUND_COLUMNS)
+        .map(digest)
+        .collect::<Vec<u64>>();
+    lines.extend(numbered(18, &digests, 1));
+    lines
+}
+
+/// The digest of words below p: from 0, for each word in turn the digest becomes (6364136223846793005·digest + word) mod p.
+pub fn digest(words: &[u64]) -> u64 {
+    let step = |digest, &word| element(Generator::FACTOR) * digest + element(word);
+    words.iter().fold(element(0), step).value()
+}
+
 /// A tuple as numbers: bus, side, multiplicity, length, values.
 pub fn tuple_numbers(tuple: &Tuple) -> Vec<u64> {
     let head = [
@@ -157,10 +183,14 @@ pub fn tuple_numbers(tuple: &Tuple) -> Vec<u64> {
 }
 
 fn operation_lines(operations: &[u64]) -> Vec<Line> {
-    let lines = operations.chunks_exact(OPERATION_WORDS);
+    numbered(9, operations, OPERATION_WORDS)
+}
+
+/// Words as lines of `width`, numbered from 0.
+fn numbered(kind: u64, words: &[u64], width: usize) -> Vec<Line> {
     (0..)
-        .zip(lines)
-        .map(|(k, operation)| line(9, &[k], operation))
+        .zip(words.chunks_exact(width))
+        .map(|(k, words)| line(kind, &[k], words))
         .collect()
 }
 

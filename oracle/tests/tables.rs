@@ -396,3 +396,14 @@ fn samples_are_fixed() {
         [1_097, 1_076, 4_193]
     );
 }
+
+#[test]
+fn sampled_rows_are_fixed() {
+    let rows = sample::rows();
+    let of_kind = |kind| rows.iter().filter(|line| line[0] == kind).count();
+    assert_eq!([17, 3, 9, 10, 11, 18].map(of_kind), [53, 32, 5, 125, 8, 64]);
+    assert_eq!(sample::digest(&[]), 0);
+    assert_eq!(sample::digest(&[1, 2]), Generator::FACTOR + 2);
+    // Padding rows of a round table are zero.
+    assert!(rows[rows.len() - 16..].iter().all(|line| line[2] == 0));
+}

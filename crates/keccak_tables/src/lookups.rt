@@ -1,0 +1,127 @@
+// The tables that are looked up: bitwise rows and their counters, round constants, IS_WH keys.
+use super::FlatAnswer;
+use super::FlatKey;
+use super::FlatNumber;
+use super::FlatTuple;
+use super::flat_answer;
+use super::flat_key;
+use super::flat_number;
+use super::flat_tuple;
+use is_wh::IsWhKey;
+ghost use mathlib.Core.Path.{_≡_};
+ghost use Rattle.answer.specs.Refusal.{answerOf, numberOf, overwrite, afterwards};
+ghost use Rattle.lookup.specs.Call.{tupleAnswerOf, tupleAfter};
+ghost use Rattle.bitwise.specs.Columns as bitwise;
+ghost use Rattle.bitwise.specs.Row.{bitwiseRow, row-index, indexRefusal};
+ghost use Rattle.bitwise.specs.Row as bitwise-row;
+ghost use Rattle.bitwise.specs.Counters.{counterAt, charge, bumpRefusal};
+ghost use Rattle.bitwise.specs.Tuples.{bitwiseTuple};
+ghost use Rattle.keccak_rc.specs.Columns as rc;
+ghost use Rattle.keccak_rc.specs.Row.{rcRow};
+ghost use Rattle.keccak_rc.specs.Row as rc-row;
+ghost use Rattle.keccak_rc.specs.Table.{rcTable, traceRefusal, updated, updateRefusal};
+ghost use Rattle.keccak_rc.specs.Tuples as rc-tuples;
+ghost use Rattle.is_wh.specs.Columns as is-wh;
+ghost use Rattle.is_wh.specs.Key.{of-dword};
+ghost use Rattle.is_wh.specs.Tuples.{isWhTuple};
+ghost use Rattle.is_wh.specs.Tuples as is-wh-tuples;
+ghost use Rattle.keccak_tables.specs.Flat.{flatAnswer, flatNumber, flatTuple, flatKey};
+
+#[no_mangle]
+pub extern "C" fn keccak_tables_generate_bitwise_row(index: usize, row: &mut [u64]) -> FlatAnswer
+    ensures answer { λ r. ⌜ r ≡ flatAnswer (answerOf (bitwise-row.rowRefusal index (now (row .entry)))) ⌝ }
+    ensures words { λ _. ⌜ now (row .exit) ≡ afterwards (bitwise-row.rowRefusal index (now (row .entry))) (overwrite (bitwiseRow index) (now (row .entry))) (now (row .entry)) ⌝ }
+{
+    flat_answer(bitwise::generate_bitwise_row(index, row))
+}
+
+#[no_mangle]
+pub extern "C" fn keccak_tables_bitwise_row_index(x: u8, y: u8, z: u8) -> FlatNumber
+    ensures { λ r. ⌜ r ≡ flatNumber (numberOf (row-index x y z) (indexRefusal z)) ⌝ }
+{
+    flat_number(bitwise::row_index(x, y, z))
+}
+
+#[no_mangle]
+pub extern "C" fn keccak_tables_bitwise_bump(
+    counters: &mut [u64],
+    kind: usize,
+    x: u8,
+    y: u8,
+    z: u8,
+) -> FlatAnswer
+    ensures answer { λ r. ⌜ r ≡ flatAnswer (answerOf (bumpRefusal (now (counters .entry)) kind x y z)) ⌝ }
+    ensures words { λ _. ⌜ now (counters .exit) ≡ afterwards (bumpRefusal (now (counters .entry)) kind x y z) (charge (now (counters .entry)) (counterAt kind x y z)) (now (counters .entry)) ⌝ }
+{
+    flat_answer(bitwise::bump(counters, kind, x, y, z))
+}
+
+#[no_mangle]
+pub extern "C" fn keccak_tables_bitwise_bus_interaction(
+    row: &[u64],
+    index: usize,
+    out: &mut [u64],
+) -> FlatTuple
+    ensures answer { λ r. ⌜ r ≡ flatTuple (tupleAnswerOf bitwise.NUM-COLUMNS bitwise.NUM-LOOKUP-TYPES bitwiseTuple (now (row .entry)) index (now (out .entry))) ⌝ }
+    ensures words { λ _. ⌜ now (out .exit) ≡ tupleAfter bitwise.NUM-COLUMNS bitwise.NUM-LOOKUP-TYPES bitwiseTuple (now (row .entry)) index (now (out .entry)) ⌝ }
+{
+    flat_tuple(bitwise::bus_interaction(row, index, out))
+}
+
+#[no_mangle]
+pub extern "C" fn keccak_tables_keccak_rc_generate_row(round: usize, out: &mut [u64]) -> FlatAnswer
+    ensures answer { λ r. ⌜ r ≡ flatAnswer (answerOf (rc-row.rowRefusal round (now (out .entry)))) ⌝ }
+    ensures words { λ _. ⌜ now (out .exit) ≡ afterwards (rc-row.rowRefusal round (now (out .entry))) (overwrite (rcRow round) (now (out .entry))) (now (out .entry)) ⌝ }
+{
+    flat_answer(keccak_rc::generate_row(round, out))
+}
+
+#[no_mangle]
+pub extern "C" fn keccak_tables_generate_keccak_rc_trace(table: &mut [u64]) -> FlatAnswer
+    ensures answer { λ r. ⌜ r ≡ flatAnswer (answerOf (traceRefusal (now (table .entry)))) ⌝ }
+    ensures words { λ _. ⌜ now (table .exit) ≡ afterwards (traceRefusal (now (table .entry))) (overwrite rcTable (now (table .entry))) (now (table .entry)) ⌝ }
+{
+    flat_answer(keccak_rc::generate_keccak_rc_trace(table))
+}
+
+#[no_mangle]
+pub extern "C" fn keccak_tables_keccak_rc_update_multiplicities(
+    table: &mut [u64],
+    n: u64,
+) -> FlatAnswer
+    ensures answer { λ r. ⌜ r ≡ flatAnswer (answerOf (updateRefusal (now (table .entry)) n)) ⌝ }
+    ensures words { λ _. ⌜ now (table .exit) ≡ afterwards (updateRefusal (now (table .entry)) n) (updated 24 n (now (table .entry))) (now (table .entry)) ⌝ }
+{
+    flat_answer(keccak_rc::update_multiplicities(table, n))
+}
+
+#[no_mangle]
+pub extern "C" fn keccak_tables_keccak_rc_bus_interaction(
+    row: &[u64],
+    index: usize,
+    out: &mut [u64],
+) -> FlatTuple
+    ensures answer { λ r. ⌜ r ≡ flatTuple (tupleAnswerOf rc.NUM-COLUMNS rc-tuples.NUM-TUPLES rc-tuples.tupleAt (now (row .entry)) index (now (out .entry))) ⌝ }
+    ensures words { λ _. ⌜ now (out .exit) ≡ tupleAfter rc.NUM-COLUMNS rc-tuples.NUM-TUPLES rc-tuples.tupleAt (now (row .entry)) index (now (out .entry)) ⌝ }
+{
+    flat_tuple(keccak_rc::bus_interaction(row, index, out))
+}
+
+#[no_mangle]
+pub extern "C" fn keccak_tables_is_wh_key(value: u64) -> FlatKey
+    ensures { λ r. ⌜ r ≡ flatKey (of-dword value) ⌝ }
+{
+    flat_key(IsWhKey::of_dword(value))
+}
+
+#[no_mangle]
+pub extern "C" fn keccak_tables_is_wh_bus_interaction(
+    row: &[u64],
+    index: usize,
+    out: &mut [u64],
+) -> FlatTuple
+    ensures answer { λ r. ⌜ r ≡ flatTuple (tupleAnswerOf is-wh.NUM-COLUMNS is-wh-tuples.NUM-TUPLES isWhTuple (now (row .entry)) index (now (out .entry))) ⌝ }
+    ensures words { λ _. ⌜ now (out .exit) ≡ tupleAfter is-wh.NUM-COLUMNS is-wh-tuples.NUM-TUPLES isWhTuple (now (row .entry)) index (now (out .entry)) ⌝ }
+{
+    flat_tuple(is_wh::bus_interaction(row, index, out))
+}

@@ -1,0 +1,54 @@
+// The round table: a row, the table of a list of operations, its height, its padding's lookups.
+use super::FlatAnswer;
+use super::FlatNumber;
+use super::flat_answer;
+use super::flat_number;
+ghost use mathlib.Core.Path.{_≡_};
+ghost use lib.ListN.{length};
+ghost use Rattle.lists.specs.Tab.{tab, word};
+ghost use Rattle.bits.specs.Bits.{wordAt};
+ghost use Rattle.answer.specs.Refusal.{answerOf, numberOf, overwrite, afterwards};
+ghost use Rattle.keccak.specs.Height.{MIN-ROWS};
+ghost use Rattle.keccak.specs.Row.{opAt};
+ghost use Rattle.keccak.specs.Refusals.{opCount, countRefusal};
+ghost use Rattle.keccak_rnd.specs.Row.{roundRow, roundHeight, roundTable, padding-are-bytes};
+ghost use Rattle.keccak_rnd.specs.Refusals.{rowRefusal, traceRefusal};
+ghost use Rattle.keccak_tables.specs.Flat.{flatAnswer, flatNumber};
+
+#[no_mangle]
+pub extern "C" fn keccak_tables_keccak_rnd_row(
+    timestamp: u64,
+    start: &[u64],
+    round: usize,
+    row: &mut [u64],
+) -> FlatAnswer
+    ensures answer { λ r. ⌜ r ≡ flatAnswer (answerOf (rowRefusal round (now (start .entry)) (now (row .entry)))) ⌝ }
+    ensures words { λ _. ⌜ now (row .exit) ≡ afterwards (rowRefusal round (now (start .entry)) (now (row .entry))) (overwrite (roundRow (wordAt timestamp) round (tab 25 (word (now (start .entry))))) (now (row .entry))) (now (row .entry)) ⌝ }
+{
+    flat_answer(keccak_rnd::keccak_rnd_row(timestamp, start, round, row))
+}
+
+#[no_mangle]
+pub extern "C" fn keccak_tables_generate_keccak_rnd_trace(
+    ops: &[u64],
+    table: &mut [u64],
+) -> FlatAnswer
+    ensures answer { λ r. ⌜ r ≡ flatAnswer (answerOf (traceRefusal (length (now (table .entry))) (now (ops .entry)))) ⌝ }
+    ensures words { λ _. ⌜ now (table .exit) ≡ afterwards (traceRefusal (length (now (table .entry))) (now (ops .entry))) (overwrite (roundTable 24 MIN-ROWS (opCount (now (ops .entry))) (opAt (now (ops .entry)))) (now (table .entry))) (now (table .entry)) ⌝ }
+{
+    flat_answer(keccak_rnd::generate_keccak_rnd_trace(ops, table))
+}
+
+#[no_mangle]
+pub extern "C" fn keccak_tables_keccak_rnd_height(n: usize) -> FlatNumber
+    ensures { λ r. ⌜ r ≡ flatNumber (numberOf (roundHeight 24 MIN-ROWS n) (countRefusal n)) ⌝ }
+{
+    flat_number(keccak_rnd::keccak_rnd_height(n))
+}
+
+#[no_mangle]
+pub extern "C" fn keccak_tables_padding_are_bytes(n: usize) -> FlatNumber
+    ensures { λ r. ⌜ r ≡ flatNumber (numberOf (padding-are-bytes 24 MIN-ROWS n) (countRefusal n)) ⌝ }
+{
+    flat_number(keccak_rnd::padding_are_bytes(n))
+}

@@ -1,0 +1,35 @@
+//! The proved tables against the published Rust. `differential rows [SEED [N]]` compares rows; the last line reads
+//! `compared W words, 0 differences`, and a difference names its input and makes the exit status 1.
+
+use std::process::ExitCode;
+
+use compare::comparison::Comparison;
+use compare::rows;
+
+const USAGE: &str = "usage: differential rows [SEED [N]]    (seed 1 and 300 drawn operations where none is given)";
+
+fn main() -> ExitCode {
+    let arguments: Vec<String> = std::env::args().skip(1).collect();
+    let arguments: Vec<&str> = arguments.iter().map(String::as_str).collect();
+    let (area, numbers) = match arguments.split_first() {
+        Some((&area, numbers)) if numbers.len() <= 2 => (area, numbers),
+        _ => return usage(),
+    };
+    let Ok(numbers) = numbers.iter().map(|text| text.parse()).collect::<Result<Vec<u64>, _>>() else {
+        return usage();
+    };
+    let seed = numbers.first().copied().unwrap_or(1);
+    let n = numbers.get(1).map_or(300, |&n| n as usize);
+
+    let mut comparison = Comparison::default();
+    match area {
+        "rows" => rows::compare(&mut comparison, seed, n),
+        _ => return usage(),
+    }
+    comparison.finish()
+}
+
+fn usage() -> ExitCode {
+    eprintln!("{USAGE}");
+    ExitCode::from(2)
+}

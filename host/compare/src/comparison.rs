@@ -1,0 +1,146 @@
+//! A run: counts the words compared, tells each difference, and says per group what was compared.
+
+use std::process::ExitCode;
+
+use keccak_tables::Refusal;
+
+/// After so many differences a run ends.
+const ENOUGH: u64 = 20;
+
+/// A differential run.
+#[derive(Default)]
+pub struct Comparison {
+    group: Option<Group>,
+    words: u64,
+    differences: u64,
+}
+
+struct Group {
+    name: &'static str,
+    items: u64,
+    words: u64,
+}
+
+impl Comparison {
+    /// Begins a group of comparisons.
+    pub fn group(&mut self, name: &'static str) {
+        self.end_group();
+        self.group = Some(Group {
+            name,
+            items: 0,
+            words: 0,
+        });
+    }
+
+    /// Ours and theirs are to be equal. `input` names the input, given the place of the first word that differs.
+    pub fn equal(&mut self, input: impl FnOnce(usize) -> String, ours: &[u64], theirs: &[u64]) {
+        let group = self.group.as_mut().expect("a comparison belongs to a group");
+        group.items += 1;
+        group.words += theirs.len() as u64;
+        if ours == theirs {
+            return;
+        }
+        let place = (0..ours.len().max(theirs.len()))
+            .find(|&place| ours.get(place) != theirs.get(place))
+            .expect("the two differ");
+        println!(
+            "DIFFERENCE in '{}': word {place} is {}, expected {}; {}",
+            group.name,
+            shown(ours.get(place)),
+            shown(theirs.get(place)),
+            input(place)
+        );
+        self.differences += 1;
+        if self.differences >= ENOUGH {
+            self.end_group();
+            println!(
+                "compared {} words, {} differences or more",
+                self.words, self.differences
+            );
+            std::process::exit(1);
+        }
+    }
+
+    /// A call is to do its work.
+    pub fn done<T>(&mut self, input: impl FnOnce() -> String, answer: Result<T, Refusal>) -> Option<T> {
+        let (number, detail) = numbers(&answer);
+        self.equal(|_| input(), &[number, detail], &[0, 0]);
+        answer.ok()
+    }
+
+    /// A call is to be refused with this number and detail.
+    pub fn refused<T>(&mut self, input: impl FnOnce() -> String, answer: Result<T, Refusal>, number: u64, detail: u64) {
+        let (ours, our_detail) = numbers(&answer);
+        self.equal(|_| input(), &[ours, our_detail], &[number, detail]);
+    }
+
+    /// How many comparisons found a difference.
+    pub fn differences(&self) -> u64 {
+        self.differences
+    }
+
+    /// Ends the run: the last line says how much was compared.
+    pub fn finish(mut self) -> ExitCode {
+        self.end_group();
+        println!("compared {} words, {} differences", self.words, self.differences);
+        if self.differences == 0 {
+            ExitCode::SUCCESS
+        } else {
+            ExitCode::FAILURE
+        }
+    }
+
+    fn end_group(&mut self) {
+        if let Some(group) = self.group.take() {
+            self.words += group.words;
+            println!("{}: {} comparisons, {} words", group.name, group.items, group.words);
+        }
+    }
+}
+
+/// Number and detail of an answer, 0 and 0 where the call did its work.
+fn numbers<T>(answer: &Result<T, Refusal>) -> (u64, u64) {
+    match answer {
+        Ok(_) => (0, 0),
+        Err(refusal) => (refusal.number(), refusal.detail()),
+    }
+}
+
+fn shown(word: Option<&u64>) -> String {
+    word.map_or_else(|| "missing".into(), u64::to_string)
+}
+
+#[cfg(test)]
+mod tests {
+    use super::*;
+
+    fn run(check: impl FnOnce(&mut Comparison)) -> (u64, u64) {
+        let mut comparison = Comparison::default();
+        comparison.group("test");
+        check(&mut comparison);
+        comparison.end_group();
+        (comparison.words, comparison.differences)
+    }
+
+    #[test]
+    fn unequal_words_and_lengths_are_differences() {
+        let input = |_| "test".to_string();
+        assert_eq!(run(|c| c.equal(input, &[1, 2], &[1, 2])), (2, 0));
+        assert_eq!(run(|c| c.equal(input, &[1, 2], &[1, 3])), (2, 1));
+        assert_eq!(run(|c| c.equal(input, &[1], &[1, 3])), (2, 1));
+        assert_eq!(run(|c| c.equal(input, &[1, 3], &[1])), (1, 1));
+    }
+
+    #[test]
+    fn a_refusal_is_its_number_and_its_detail() {
+        let input = || "test".to_string();
+        let refusal = Refusal::PastEnd { limit: 10 };
+        assert_eq!(run(|c| c.refused(input, Err::<(), _>(refusal), 1, 10)), (2, 0));
+        assert_eq!(run(|c| c.refused(input, Err::<(), _>(refusal), 1, 16)), (2, 1));
+        assert_eq!(run(|c| c.refused(input, Ok(()), 1, 10)), (2, 1));
+        assert_eq!(
+            run(|c| c.done(input, Err::<(), _>(refusal)).map_or((), |()| ())),
+            (2, 1)
+        );
+    }
+}

@@ -1,0 +1,127 @@
+//! The bitwise table: every row, every index, counters, tuples.
+
+use keccak_tables::{P, bitwise};
+use oracle::Lookup;
+
+use crate::comparison::Comparison;
+use crate::inputs::Words;
+use crate::lent::Lent;
+use crate::rows::tuples;
+
+pub fn compare(comparison: &mut Comparison, words: &mut Words) {
+    comparison.group("bitwise rows, all 2^20, by both of the Rust's writers");
+    let mut row = [0; bitwise::NUM_PRECOMPUTED_COLS];
+    for index in 0..bitwise::NUM_ROWS {
+        let input = || format!("bitwise row {index}");
+        comparison.done(input, bitwise::generate_bitwise_row(index, &mut row));
+        comparison.equal(|_| input(), &row, &oracle::bitwise_row(index));
+        comparison.equal(
+            |_| input(),
+            &row,
+            &oracle::bitwise_table_row(index)[..bitwise::NUM_PRECOMPUTED_COLS],
+        );
+    }
+
+    comparison.group("bitwise rows into longer slices, with guards");
+    for _ in 0..2000 {
+        let index = words.below(1 << 20) as usize;
+        let mut row = Lent::drawn(bitwise::NUM_PRECOMPUTED_COLS + words.below(12) as usize, words);
+        let input = || format!("bitwise row {index}");
+        comparison.done(input, bitwise::generate_bitwise_row(index, row.slice()));
+        row.holds(comparison, |_| input(), &oracle::bitwise_row(index));
+    }
+
+    comparison.group("indexes of bitwise rows, every X, Y and Z");
+    for z in 0..16 {
+        for (x, y) in (0..=255).flat_map(|x| (0..=255).map(move |y| (x, y))) {
+            let input = || format!("row_index({x}, {y}, {z})");
+            if let Some(index) = comparison.done(input, bitwise::row_index(x, y, z)) {
+                comparison.equal(
+                    |_| input(),
+                    &[index as u64],
+                    &[oracle::bitwise_row_index(x, y, z) as u64],
+                );
+            }
+        }
+    }
+
+    comparison.group("bitwise counters after 30,000 drawn lookups, all 10,485,760");
+    many_counts(comparison, words);
+
+    comparison.group("one lookup on a counter that holds 0, 1, a drawn word, p - 2, p - 1");
+    single_counts(comparison, words);
+
+    comparison.group("tuples of bitwise rows");
+    for k in 0..400 {
+        let row: Vec<u64> = if k % 2 == 0 {
+            let index = words.below(1 << 20) as usize;
+            let fixed = oracle::bitwise_row(index).to_vec();
+            fixed.into_iter().chain((0..10).map(|_| words.element())).collect()
+        } else {
+            (0..bitwise::NUM_COLUMNS).map(|_| words.element()).collect()
+        };
+        tuples(
+            comparison,
+            words,
+            &row,
+            bitwise::bus_interaction,
+            &oracle::bitwise_tuples(&row),
+        );
+    }
+}
+
+/// A lookup; half of them fall on a few rows, so that counters rise above 1.
+fn lookup(words: &mut Words) -> Lookup {
+    let few = words.below(2) == 0;
+    let byte = |words: &mut Words| if few { words.below(3) as u8 } else { words.word() as u8 };
+    Lookup {
+        kind: words.below(10) as usize,
+        x: byte(words),
+        y: byte(words),
+        z: words.below(16) as u8,
+    }
+}
+
+fn many_counts(comparison: &mut Comparison, words: &mut Words) {
+    let lookups: Vec<Lookup> = (0..30_000).map(|_| lookup(words)).collect();
+    let mut counters = vec![0; bitwise::NUM_COUNTERS + 5];
+    for &Lookup { kind, x, y, z } in &lookups {
+        let answer = bitwise::bump(&mut counters, kind, x, y, z);
+        comparison.done(|| format!("a lookup of kind {kind} at {x}, {y}, {z}"), answer);
+    }
+    let mut expected = vec![0; counters.len()];
+    for (place, count) in oracle::bitwise_counts(&lookups) {
+        expected[place] = count;
+    }
+    comparison.equal(
+        |place| format!("the counter at {place}: row {}, kind {}", place / 10, place % 10),
+        &counters,
+        &expected,
+    );
+}
+
+fn single_counts(comparison: &mut Comparison, words: &mut Words) {
+    let old = words.take(bitwise::NUM_COUNTERS);
+    let mut counters = old.clone();
+    for before in [0, 1, words.below(P), P - 2, P - 1] {
+        for _ in 0..4 {
+            let lookup = lookup(words);
+            let Lookup { kind, x, y, z } = lookup;
+            let place = lookup.counter();
+            counters[place] = before;
+            let input = || format!("a lookup of kind {kind} at {x}, {y}, {z} on {before}");
+            comparison.done(input, bitwise::bump(&mut counters, kind, x, y, z));
+            comparison.equal(
+                |_| input(),
+                &[counters[place]],
+                &[oracle::bitwise_count(before, lookup)],
+            );
+            counters[place] = old[place];
+        }
+    }
+    comparison.equal(
+        |place| format!("the counter at {place}, which nothing looked up"),
+        &counters,
+        &old,
+    );
+}

@@ -1,0 +1,35 @@
+//! IS_WH: the key of a number, and the tuples of a row of keys.
+
+use keccak_tables::is_wh::{self, IsWhKey};
+
+use crate::comparison::Comparison;
+use crate::inputs::{Words, addresses};
+use crate::rows::tuples;
+
+pub fn compare(comparison: &mut Comparison, words: &mut Words) {
+    comparison.group("keys of numbers");
+    let mut numbers = addresses();
+    numbers.extend((0..64).flat_map(|bit| [1 << bit, (1 << bit) - 1, u64::MAX << bit]));
+    numbers.push(u64::MAX);
+    numbers.extend(words.take(2000));
+    for number in numbers {
+        let key = IsWhKey::of_dword(number);
+        comparison.equal(
+            |_| format!("the key of {number}"),
+            &[key.word, key.half],
+            &oracle::is_wh_key(number),
+        );
+    }
+
+    comparison.group("tuples of rows of keys");
+    for _ in 0..400 {
+        let row: Vec<u64> = (0..is_wh::NUM_COLUMNS).map(|_| words.element()).collect();
+        tuples(
+            comparison,
+            words,
+            &row,
+            is_wh::bus_interaction,
+            &oracle::is_wh_tuples(&row),
+        );
+    }
+}

@@ -1,0 +1,345 @@
+//! Refusals: number and detail of each listed condition and of its neighbours, against the interface's list (the Rust
+//! panics there or has no such call); and every lent word as it was.
+
+use keccak_tables::keccak::LAST_ADDRESS;
+use keccak_tables::{MAX_OPS, OP_WORDS, P, Refusal, bitwise, is_wh, keccak, keccak_rc, keccak_rnd};
+
+use crate::comparison::Comparison;
+use crate::inputs::Words;
+use crate::lent::Lent;
+use crate::rows::{ListCall, TupleCall};
+use crate::untouched::Untouched;
+
+/// The detail of a list with too many operations, and of a count of them.
+const TOO_MANY: u64 = MAX_OPS as u64 + 1;
+
+pub fn compare(comparison: &mut Comparison, words: &mut Words) {
+    comparison.group("refusals: bitwise rows, indexes and counters");
+    bitwise_calls(comparison, words);
+    comparison.group("refusals: constant rows and tables");
+    constant_calls(comparison, words);
+    comparison.group("refusals: tuples");
+    tuple_calls(comparison, words);
+    comparison.group("refusals: calls that take operations");
+    operation_calls(comparison, words);
+    comparison.group("refusals: round rows and numbers of operations");
+    round_rows(comparison, words);
+    counts(comparison);
+}
+
+/// One call on a drawn slice of `length` words. `expected` is the refusal's number and detail, or none where the call is
+/// accepted; refused, it leaves every word as it was.
+fn on_slice<T>(
+    comparison: &mut Comparison,
+    words: &mut Words,
+    length: usize,
+    input: &str,
+    expected: Option<(u64, u64)>,
+    call: impl FnOnce(&mut [u64]) -> Result<T, Refusal>,
+) {
+    let mut lent = Lent::drawn(length, words);
+    let answer = call(lent.slice());
+    let input = || format!("{input}, a slice of {length} words");
+    match expected {
+        None => {
+            comparison.done(input, answer);
+        }
+        Some((number, detail)) => {
+            comparison.refused(input, answer, number, detail);
+            lent.kept(comparison, |_| input());
+        }
+    }
+}
+
+fn bitwise_calls(comparison: &mut Comparison, words: &mut Words) {
+    let end = bitwise::NUM_ROWS;
+    for index in [0, 1, end - 1, end, end + 1, usize::MAX] {
+        for length in [0, 1, 10, 11, 12] {
+            let expected = match (index, length) {
+                _ if index >= end => Some((1, 1_048_576)),
+                (_, 0..11) => Some((3, 11)),
+                _ => None,
+            };
+            let input = format!("generate_bitwise_row({index})");
+            let call = |row: &mut [u64]| bitwise::generate_bitwise_row(index, row);
+            on_slice(comparison, words, length, &input, expected, call);
+        }
+    }
+    for z in [15, 16, 17, 255] {
+        let input = || format!("row_index(1, 2, {z})");
+        match z {
+            15 => {
+                comparison.done(input, bitwise::row_index(1, 2, z));
+            }
+            _ => comparison.refused(input, bitwise::row_index(1, 2, z), 1, 16),
+        }
+    }
+    for kind in [0, 9, 10, 11, usize::MAX] {
+        for z in [0, 15, 16, 255] {
+            for length in [0, 1, 1000] {
+                let expected = match (kind, z) {
+                    (10.., _) => (1, 10),
+                    (_, 16..) => (1, 16),
+                    _ => (3, 10_485_760),
+                };
+                let input = format!("bump of kind {kind}, z = {z}");
+                let call = |counters: &mut [u64]| bitwise::bump(counters, kind, 3, 4, z);
+                on_slice(comparison, words, length, &input, Some(expected), call);
+            }
+        }
+    }
+    let end = bitwise::NUM_COUNTERS;
+    let call = |counters: &mut [u64]| bitwise::bump(counters, 0, 0, 0, 0);
+    on_slice(comparison, words, end - 1, "bump at 0", Some((3, end as u64)), call);
+    // A counter that is p or more, the first, one between and the last; then the same place holding p - 1.
+    for (kind, x, y, z) in [(0, 0, 0, 0), (6, 1, 2, 3), (9, 255, 255, 15)] {
+        let place = (usize::from(x) + 256 * usize::from(y) + 65_536 * usize::from(z)) * 10 + kind;
+        for (word, refused) in [(P, true), (P + 1, true), (u64::MAX, true), (P - 1, false)] {
+            let mut counters = Lent::new(&vec![0; end], words);
+            counters.slice()[place] = word;
+            let mut counters = Lent::new(counters.slice(), words);
+            let answer = bitwise::bump(counters.slice(), kind, x, y, z);
+            let input = || format!("bump of the counter at {place}, which holds {word}");
+            if refused {
+                comparison.refused(input, answer, 5, place as u64);
+                counters.kept(comparison, |_| input());
+            } else {
+                comparison.done(input, answer);
+            }
+        }
+    }
+}
+
+fn constant_calls(comparison: &mut Comparison, words: &mut Words) {
+    for round in [0, 23, 24, 31, 32, 33, usize::MAX] {
+        for length in [0, 8, 9, 10] {
+            let expected = match (round, length) {
+                (32.., _) => Some((1, 32)),
+                (_, 0..9) => Some((3, 9)),
+                _ => None,
+            };
+            let input = format!("generate_row({round})");
+            let call = |out: &mut [u64]| keccak_rc::generate_row(round, out);
+            on_slice(comparison, words, length, &input, expected, call);
+        }
+    }
+    for length in [0, 319, 320, 321] {
+        let short = (length < 320).then_some((3, 320));
+        on_slice(
+            comparison,
+            words,
+            length,
+            "the constant table",
+            short,
+            keccak_rc::generate_keccak_rc_trace,
+        );
+        for n in [0, 1, TOO_MANY - 1, TOO_MANY, u64::MAX] {
+            let expected = if n >= TOO_MANY { Some((1, TOO_MANY)) } else { short };
+            let input = format!("update_multiplicities to {n}");
+            let call = |table: &mut [u64]| keccak_rc::update_multiplicities(table, n);
+            on_slice(comparison, words, length, &input, expected, call);
+        }
+    }
+}
+
+/// The tables whose tuples are asked for: name, columns, the lengths of the tuples, and the call.
+const TUPLE_CALLS: [(&str, usize, &[usize], TupleCall); 3] = [
+    (
+        "bitwise",
+        bitwise::NUM_COLUMNS,
+        &[2, 2, 2, 2, 1, 1, 4, 4, 4, 4],
+        bitwise::bus_interaction,
+    ),
+    ("keccak_rc", keccak_rc::NUM_COLUMNS, &[9], keccak_rc::bus_interaction),
+    ("is_wh", is_wh::NUM_COLUMNS, &[1, 1, 1, 1, 2], is_wh::bus_interaction),
+];
+
+fn tuple_calls(comparison: &mut Comparison, words: &mut Words) {
+    for (name, width, lengths, call) in TUPLE_CALLS {
+        let count = lengths.len();
+        for index in [0, count - 1, count, count + 1, usize::MAX] {
+            let size = lengths.get(index).copied().unwrap_or(1);
+            for columns in [0, width - 1, width, width + 1] {
+                for room in [0, size - 1, size, size + 1] {
+                    let expected = if index >= count {
+                        Some((1, count as u64))
+                    } else if columns < width {
+                        Some((3, width as u64))
+                    } else if room < size {
+                        Some((3, size as u64))
+                    } else {
+                        None
+                    };
+                    let row: Vec<u64> = (0..columns).map(|_| words.below(P)).collect();
+                    let input = format!("tuple {index} of the {name} row {row:?}");
+                    on_slice(comparison, words, room, &input, expected, |out| call(&row, index, out));
+                }
+            }
+        }
+        not_elements(comparison, words, name, width, |row, out| call(row, 0, out));
+    }
+}
+
+/// Each column in turn p, p + 1 and 2^64 - 1: refused, by the first such column. The word after the row is not read.
+fn not_elements<T>(
+    comparison: &mut Comparison,
+    words: &mut Words,
+    name: &str,
+    width: usize,
+    call: impl Fn(&[u64], &mut [u64]) -> Result<T, Refusal>,
+) {
+    for place in 0..=width {
+        for word in [P - 1, P, P + 1, u64::MAX] {
+            let mut row: Vec<u64> = (0..=width).map(|_| words.below(P)).collect();
+            row[place] = word;
+            // A later one is not the first.
+            row[width] = u64::MAX;
+            let expected = (word >= P && place < width).then_some((5, place as u64));
+            let input = format!("the {name} row {row:?}");
+            on_slice(comparison, words, 10, &input, expected, |out| call(&row, out));
+        }
+    }
+}
+
+/// The words that a call needs for n operations.
+type Needed = fn(usize) -> usize;
+
+/// The calls that take a list, with the words that each needs.
+const LIST_CALLS: [(&str, Needed, ListCall); 4] = [
+    (
+        "generate_keccak_trace",
+        |n| n.next_power_of_two().max(4) * 486,
+        keccak::generate_keccak_trace,
+    ),
+    (
+        "generate_keccak_rnd_trace",
+        |n| (24 * n).next_power_of_two().max(4) * 1480,
+        keccak_rnd::generate_keccak_rnd_trace,
+    ),
+    ("is_wh_keys", |n| 50 * n, keccak::is_wh_keys),
+    (
+        "keccak_row of the last",
+        |_| 486,
+        |ops, row| keccak::keccak_row(ops, (ops.len() / OP_WORDS).saturating_sub(1), row),
+    ),
+];
+
+fn operation_calls(comparison: &mut Comparison, words: &mut Words) {
+    for (name, needed, call) in LIST_CALLS {
+        for n in [0, 1, 3, 5] {
+            let of_a_row = name.starts_with("keccak_row");
+            let none = (of_a_row && n == 0).then_some((1, 0));
+            let needed = needed(n);
+            for past in [0, 1, 51] {
+                let mut ops = words.operations(n);
+                ops.extend(words.take(past));
+                for length in [0, needed.saturating_sub(1), needed, needed + 1] {
+                    let expected = none
+                        .or((past > 0).then_some((2, 2)))
+                        .or((length < needed).then_some((3, needed as u64)));
+                    let input = format!("{name} on {n} operations and {past} words");
+                    on_slice(comparison, words, length, &input, expected, |out| call(&ops, out));
+                }
+            }
+            high_addresses(comparison, words, (name, needed, call), n);
+        }
+    }
+    let ops = words.operations(3);
+    for index in [0, 2, 3, 4, usize::MAX] {
+        let expected = (index >= 3).then_some((1, 3));
+        let input = format!("keccak_row({index}) of 3 operations");
+        on_slice(comparison, words, 486, &input, expected, |row| {
+            keccak::keccak_row(&ops, index, row)
+        });
+    }
+    too_many(comparison, words);
+}
+
+/// Each operation in turn at an address past the last one, and a second one after it; shorter slices are refused first.
+fn high_addresses(
+    comparison: &mut Comparison,
+    words: &mut Words,
+    (name, needed, call): (&str, usize, ListCall),
+    n: usize,
+) {
+    for at in 0..n {
+        for address in [LAST_ADDRESS, LAST_ADDRESS + 1, LAST_ADDRESS + 2, u64::MAX] {
+            let mut ops = words.operations(n);
+            ops[at * OP_WORDS + 1] = address;
+            let high = address > LAST_ADDRESS;
+            if high && at + 1 < n {
+                ops[(n - 1) * OP_WORDS + 1] = u64::MAX - 1;
+            }
+            let input = format!("{name}, operation {at} of {n} at address {address}");
+            let expected = high.then_some((4, address));
+            on_slice(comparison, words, needed, &input, expected, |out| call(&ops, out));
+            if needed > 0 {
+                let expected = Some((3, needed as u64));
+                on_slice(comparison, words, needed - 1, &input, expected, |out| call(&ops, out));
+            }
+        }
+    }
+}
+
+/// More operations than a list may have, as many as it may have and a word, and as many: none of them is read, because a
+/// check of the lengths refuses each.
+fn too_many(comparison: &mut Comparison, words: &mut Words) {
+    let Some(untouched) = Untouched::new((MAX_OPS + 2) * OP_WORDS) else {
+        println!(
+            "no addresses for a list of {} operations: lists about the limit are not tried",
+            MAX_OPS + 2
+        );
+        return;
+    };
+    for (name, needed, call) in LIST_CALLS {
+        for (operations, past, expected) in [
+            (MAX_OPS, 0, (3, needed(MAX_OPS) as u64)),
+            (MAX_OPS, 1, (2, 2)),
+            (MAX_OPS + 1, 0, (1, TOO_MANY)),
+            (MAX_OPS + 1, 1, (1, TOO_MANY)),
+            (MAX_OPS + 2, 0, (1, TOO_MANY)),
+        ] {
+            let ops = &untouched.words()[..operations * OP_WORDS + past];
+            let input = format!("{name} on {operations} operations and {past} words");
+            on_slice(comparison, words, 8, &input, Some(expected), |out| call(ops, out));
+        }
+    }
+}
+
+fn round_rows(comparison: &mut Comparison, words: &mut Words) {
+    for round in [0, 23, 24, 25, usize::MAX] {
+        for lanes in [0, 24, 25, 26] {
+            for length in [0, 1479, 1480, 1481] {
+                let expected = match (round, lanes, length) {
+                    (24.., _, _) => Some((1, 24)),
+                    (_, 0..25, _) => Some((3, 25)),
+                    (_, _, 0..1480) => Some((3, 1480)),
+                    _ => None,
+                };
+                let start = words.take(lanes);
+                let input = format!("keccak_rnd_row of round {round} from {lanes} lanes");
+                let call = |row: &mut [u64]| keccak_rnd::keccak_rnd_row(1, &start, round, row);
+                on_slice(comparison, words, length, &input, expected, call);
+            }
+        }
+    }
+}
+
+fn counts(comparison: &mut Comparison) {
+    for n in [MAX_OPS, MAX_OPS + 1, MAX_OPS + 2, usize::MAX] {
+        let answers = [
+            keccak::keccak_height(n).map(drop),
+            keccak_rnd::keccak_rnd_height(n).map(drop),
+            keccak_rnd::padding_are_bytes(n).map(drop),
+        ];
+        for answer in answers {
+            let input = || format!("a height or padding lookups for n = {n}");
+            match n {
+                MAX_OPS => {
+                    comparison.done(input, answer);
+                }
+                _ => comparison.refused(input, answer, 1, TOO_MANY),
+            }
+        }
+    }
+}

@@ -1,0 +1,200 @@
+//! Core and round tables, their single rows, keys and heights.
+
+use keccak_tables::{MAX_OPS, OP_WORDS, keccak, keccak_rnd};
+
+use crate::comparison::Comparison;
+use crate::inputs::{Words, addresses, operation_of_row, states};
+use crate::lent::Lent;
+
+pub fn compare(comparison: &mut Comparison, words: &mut Words, n: usize) {
+    comparison.group("tables and keys of 0 to 40 drawn operations");
+    for n in 0..=40 {
+        let ops = words.operations(n);
+        tables(comparison, words, &ops);
+    }
+
+    comparison.group("tables and keys of drawn operations, in lists of 1 to 40");
+    let mut left = n;
+    while left > 0 {
+        let n = (1 + words.below(40) as usize).min(left);
+        let ops = words.operations(n);
+        tables(comparison, words, &ops);
+        left -= n;
+    }
+
+    comparison.group("tables and keys at every edge of the address");
+    let ops: Vec<u64> = addresses()
+        .into_iter()
+        .flat_map(|address| {
+            let mut operation = words.operation();
+            operation.address = address;
+            operation.words()
+        })
+        .collect();
+    tables(comparison, words, &ops);
+
+    comparison.group("tables of the zero state, all ones, single bits and single lanes");
+    for states in states().chunks(32) {
+        let ops: Vec<u64> = states
+            .iter()
+            .flat_map(|&input| {
+                let mut operation = words.operation();
+                operation.input = input;
+                operation.output = input;
+                operation.words()
+            })
+            .collect();
+        tables(comparison, words, &ops);
+    }
+
+    comparison.group("single core rows");
+    for n in [1, 2, 7, 24] {
+        let ops = words.operations(n);
+        core_rows(comparison, words, &ops);
+    }
+
+    comparison.group("single round rows, every round, START as the Rust's rows have it");
+    for _ in 0..12 {
+        let ops = words.operations(1);
+        round_rows(comparison, words, &ops);
+    }
+
+    comparison.group("heights and padding lookups");
+    heights(comparison);
+}
+
+/// Both tables and the keys of a list, each into a slice that is a little longer than it has to be.
+fn tables(comparison: &mut Comparison, words: &mut Words, ops: &[u64]) {
+    let n = ops.len() / OP_WORDS;
+
+    let expected = oracle::core_table(ops);
+    let mut table = Lent::drawn(expected.len() + words.below(9) as usize, words);
+    let answer = keccak::generate_keccak_trace(ops, table.slice());
+    comparison.done(|| format!("the core table of {n} operations {ops:?}"), answer);
+    table.holds(comparison, in_table("core", ops, keccak::NUM_COLUMNS, 1), &expected);
+
+    let expected = oracle::round_table(ops);
+    let mut table = Lent::drawn(expected.len() + words.below(9) as usize, words);
+    let answer = keccak_rnd::generate_keccak_rnd_trace(ops, table.slice());
+    comparison.done(|| format!("the round table of {n} operations {ops:?}"), answer);
+    table.holds(
+        comparison,
+        in_table("round", ops, keccak_rnd::NUM_COLUMNS, keccak_rnd::ROUNDS),
+        &expected,
+    );
+
+    let expected = oracle::is_wh_keys(ops);
+    let mut keys = Lent::drawn(expected.len() + words.below(9) as usize, words);
+    comparison.done(
+        || format!("the keys of {n} operations {ops:?}"),
+        keccak::is_wh_keys(ops, keys.slice()),
+    );
+    keys.holds(comparison, in_table("keys", ops, keccak::KEY_WORDS, 1), &expected);
+}
+
+/// Names the place in a table and the operation behind it.
+fn in_table<'a>(name: &'a str, ops: &'a [u64], width: usize, rows: usize) -> impl FnOnce(usize) -> String + 'a {
+    move |place| {
+        let (row, column) = (place / width, place % width);
+        format!(
+            "{name}, row {row}, column {column}: {}",
+            operation_of_row(ops, row, rows)
+        )
+    }
+}
+
+/// Each operation's row by itself.
+fn core_rows(comparison: &mut Comparison, words: &mut Words, ops: &[u64]) {
+    let expected = oracle::core_table(ops);
+    for (index, expected) in expected
+        .chunks_exact(keccak::NUM_COLUMNS)
+        .take(ops.len() / OP_WORDS)
+        .enumerate()
+    {
+        let mut row = Lent::drawn(keccak::NUM_COLUMNS + words.below(4) as usize, words);
+        let input = || operation_of_row(ops, index, 1);
+        comparison.done(input, keccak::keccak_row(ops, index, row.slice()));
+        row.holds(comparison, |_| input(), expected);
+    }
+}
+
+/// Each of the 24 rows by itself, from the lanes that stand in the Rust's row.
+fn round_rows(comparison: &mut Comparison, words: &mut Words, ops: &[u64]) {
+    let expected = oracle::round_table(ops);
+    let rows = expected.chunks_exact(keccak_rnd::NUM_COLUMNS).take(keccak_rnd::ROUNDS);
+    for (round, expected) in rows.enumerate() {
+        let mut start: Vec<u64> = expected[3..203].chunks_exact(8).map(number).collect();
+        start.extend(words.take(words_past(round)));
+        let mut row = Lent::drawn(keccak_rnd::NUM_COLUMNS + words.below(4) as usize, words);
+        let input = || format!("round {round} from {start:?}");
+        comparison.done(input, keccak_rnd::keccak_rnd_row(ops[0], &start, round, row.slice()));
+        row.holds(comparison, |_| input(), expected);
+    }
+}
+
+/// START may be lent longer than its 25 lanes.
+fn words_past(round: usize) -> usize {
+    round % 3
+}
+
+/// Eight bytes as a number, lowest first.
+fn number(bytes: &[u64]) -> u64 {
+    bytes.iter().rev().fold(0, |number, byte| number << 8 | byte)
+}
+
+/// Heights against the Rust's tables where these are small, and against its expression everywhere; padding lookups
+/// against its function.
+fn heights(comparison: &mut Comparison) {
+    let mut words = Words::new(0);
+    for n in [0, 1, 2, 3, 4, 5, 10, 11, 21, 22, 42, 43, 64, 65, 85, 86] {
+        let ops = words.operations(n);
+        let input = |_| format!("heights for n = {n}");
+        let core = keccak::keccak_height(n).map_or(0, |rows| rows as u64);
+        let round = keccak_rnd::keccak_rnd_height(n).map_or(0, |rows| rows as u64);
+        comparison.equal(
+            input,
+            &[core, round],
+            &[
+                (oracle::core_table(&ops).len() / keccak::NUM_COLUMNS) as u64,
+                (oracle::round_table(&ops).len() / keccak_rnd::NUM_COLUMNS) as u64,
+            ],
+        );
+    }
+    for n in counts() {
+        let core = comparison.done(|| format!("the core height for n = {n}"), keccak::keccak_height(n));
+        let round = comparison.done(
+            || format!("the round height for n = {n}"),
+            keccak_rnd::keccak_rnd_height(n),
+        );
+        let padding = comparison.done(
+            || format!("padding lookups for n = {n}"),
+            keccak_rnd::padding_are_bytes(n),
+        );
+        let (Some(core), Some(round), Some(padding)) = (core, round, padding) else {
+            continue;
+        };
+        comparison.equal(
+            |_| format!("heights and padding lookups for n = {n}"),
+            &[core as u64, round as u64, padding],
+            &[
+                n.next_power_of_two().max(4) as u64,
+                (n * 24).next_power_of_two().max(4) as u64,
+                oracle::padding_are_bytes(n),
+            ],
+        );
+    }
+}
+
+/// Numbers of operations about every change of either height, and at the limit.
+fn counts() -> Vec<usize> {
+    let mut counts: Vec<usize> = (0..=200).collect();
+    for power in 2..=31 {
+        let rows = 1usize << power;
+        for at in [rows, rows / 24] {
+            counts.extend(at.saturating_sub(2)..=at + 2);
+        }
+    }
+    counts.extend(MAX_OPS - 2..=MAX_OPS);
+    counts.retain(|&n| n <= MAX_OPS);
+    counts
+}

@@ -1,0 +1,41 @@
+//! The core table: a row for each operation. Operations are a flat list, [`OP_WORDS`](crate::OP_WORDS) words each.
+
+use crate::ffi;
+use crate::operation::OP_WORDS;
+use crate::refusal::Refusal;
+
+/// The columns of a row: 2 timestamp words, 8 address bytes, 200 INPUT, 200 OUTPUT, 25 pointers of 3 limbs, MU.
+pub const NUM_COLUMNS: usize = 486;
+
+/// The words of an operation's keys: two for each lane.
+pub const KEY_WORDS: usize = 50;
+
+/// The highest accepted address, 2^64 - 193.
+pub const LAST_ADDRESS: u64 = u64::MAX - 192;
+
+/// Writes the row of operation `index` of a list to the front of `row`.
+pub fn keccak_row(ops: &[u64], index: usize, row: &mut [u64]) -> Result<(), Refusal> {
+    ffi::keccak_row(ops, index, row).into()
+}
+
+/// Writes the core table of a list of operations to the front of `table`, which has room for [`keccak_height`] rows.
+pub fn generate_keccak_trace(ops: &[u64], table: &mut [u64]) -> Result<(), Refusal> {
+    ffi::generate_keccak_trace(ops, table).into()
+}
+
+/// The core table of a list of operations, in memory of its own.
+pub fn keccak_table(ops: &[u64]) -> Result<Vec<u64>, Refusal> {
+    let mut table = vec![0; keccak_height(ops.len() / OP_WORDS)? * NUM_COLUMNS];
+    generate_keccak_trace(ops, &mut table)?;
+    Ok(table)
+}
+
+/// Writes the IS_WH keys of a list of operations: for each lane the pointer's upper 32 bits, then its bits 16 to 31.
+pub fn is_wh_keys(ops: &[u64], out: &mut [u64]) -> Result<(), Refusal> {
+    ffi::is_wh_keys(ops, out).into()
+}
+
+/// The rows of the core table of `n` operations: a power of two, 4 or more.
+pub fn keccak_height(n: usize) -> Result<usize, Refusal> {
+    Result::from(ffi::keccak_height(n)).map(|rows| rows as usize)
+}

@@ -1,0 +1,37 @@
+//! The table of round constants: rows, multiplicities and tuples.
+
+use crate::ffi;
+use crate::refusal::Refusal;
+use crate::tuple::BusInteraction;
+
+/// The rows of the table: 24 rounds, then 8 rows with a zero constant.
+pub const NUM_ROWS: usize = 32;
+
+/// The columns that the row's number fixes: the round, then the 8 bytes of its constant.
+pub const NUM_PRECOMPUTED_COLS: usize = 9;
+
+/// All columns: the fixed ones, then the multiplicity.
+pub const NUM_COLUMNS: usize = 10;
+
+/// The words of the table.
+pub const TABLE_WORDS: usize = NUM_ROWS * NUM_COLUMNS;
+
+/// Writes the nine fixed columns of a row to the front of `out`.
+pub fn generate_row(round: usize, out: &mut [u64]) -> Result<(), Refusal> {
+    ffi::keccak_rc_generate_row(round, out).into()
+}
+
+/// Writes the whole table, every multiplicity being 0.
+pub fn generate_keccak_rc_trace(table: &mut [u64]) -> Result<(), Refusal> {
+    ffi::generate_keccak_rc_trace(table).into()
+}
+
+/// Sets the multiplicities of the rounds 0 to 23 to the number of operations.
+pub fn update_multiplicities(table: &mut [u64], n: u64) -> Result<(), Refusal> {
+    ffi::keccak_rc_update_multiplicities(table, n).into()
+}
+
+/// Tuple `index` of a row of ten columns, of which it has one; its values go to the front of `out`.
+pub fn bus_interaction(row: &[u64], index: usize, out: &mut [u64]) -> Result<BusInteraction, Refusal> {
+    BusInteraction::from_flat(ffi::keccak_rc_bus_interaction(row, index, out))
+}

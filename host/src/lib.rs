@@ -1,0 +1,44 @@
+//! Safe bindings to the proved Keccak tables.
+//!
+//! Rows, tables, counters and lists of operations are slices of `u64` that the caller lends. A call either does its work,
+//! and then the slice holds exactly what the table's definition says, words past it untouched; or it answers a
+//! [`Refusal`], and then every lent word is as it was. No call panics, and none has a condition that the caller must meet.
+//!
+//! The functions behind these are written in Rattle and proved against their contracts
+//! (`crates/keccak_tables/src`); this crate only turns slices into pointers and flat answers into `Result`s.
+//!
+//! ```
+//! use keccak_tables::{Operation, Refusal, keccak, keccak_rnd};
+//!
+//! let operation = Operation { timestamp: 5, address: 4096, input: [0; 25], output: [0; 25] };
+//! let list = operation.words();
+//! let mut table = vec![0; keccak_rnd::keccak_rnd_height(1)? * keccak_rnd::NUM_COLUMNS];
+//! keccak_rnd::generate_keccak_rnd_trace(&list, &mut table)?;
+//! assert_eq!(table[0], 5);
+//!
+//! let refused = keccak::generate_keccak_trace(&list, &mut []);
+//! assert_eq!(refused, Err(Refusal::TooShort { needed: 4 * 486 }));
+//! # Ok::<(), Refusal>(())
+//! ```
+
+#![deny(unsafe_code)]
+#![warn(missing_docs)]
+
+pub mod bitwise;
+pub mod is_wh;
+pub mod keccak;
+pub mod keccak_rc;
+pub mod keccak_rnd;
+
+#[allow(unsafe_code)]
+mod ffi;
+mod operation;
+mod refusal;
+mod tuple;
+
+pub use operation::{MAX_OPS, OP_WORDS, Operation};
+pub use refusal::{Lent, Refusal};
+pub use tuple::{Bus, BusInteraction, Side};
+
+/// The prime p = 2^64 - 2^32 + 1: a field element is a word below it.
+pub const P: u64 = 0xFFFF_FFFF_0000_0001;

@@ -1,0 +1,32 @@
+//! Operations, and their flat form: 52 words each.
+
+/// The words of an operation in a flat list: timestamp, address, 25 input lanes, 25 output lanes.
+pub const OP_WORDS: usize = 52;
+
+/// The most operations in one list.
+pub const MAX_OPS: usize = 89_478_485;
+
+/// One call of the permutation. Lane (x, y) is at x + 5y.
+#[derive(Debug, Clone, Copy, PartialEq, Eq)]
+pub struct Operation {
+    /// When it was made.
+    pub timestamp: u64,
+    /// Where the state lies in memory.
+    pub address: u64,
+    /// The state before.
+    pub input: [u64; 25],
+    /// The state after, which no writer checks.
+    pub output: [u64; 25],
+}
+
+impl Operation {
+    /// Its 52 words in a flat list.
+    pub fn words(&self) -> [u64; OP_WORDS] {
+        let mut words = [0; OP_WORDS];
+        words[0] = self.timestamp;
+        words[1] = self.address;
+        words[2..27].copy_from_slice(&self.input);
+        words[27..].copy_from_slice(&self.output);
+        words
+    }
+}

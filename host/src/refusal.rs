@@ -1,0 +1,112 @@
+//! What a call answers where it refuses.
+
+use std::fmt;
+
+/// Which of the lent slices is not whole.
+#[derive(Debug, Clone, Copy, PartialEq, Eq, Hash)]
+pub enum Lent {
+    /// A core table.
+    Core,
+    /// A round table.
+    Round,
+    /// A list: of operations, or of pairs.
+    List,
+}
+
+/// Why a call did nothing. A call's checks are made in this order, each over all its arguments.
+#[derive(Debug, Clone, Copy, PartialEq, Eq, Hash)]
+pub enum Refusal {
+    /// 1: an index, kind, count or round past its end.
+    PastEnd {
+        /// The least number refused.
+        limit: u64,
+    },
+    /// 2: a table or list that is not whole rows or operations.
+    NotWhole {
+        /// Which one.
+        which: Lent,
+    },
+    /// 3: a lent slice that is too short.
+    TooShort {
+        /// The length needed.
+        needed: u64,
+    },
+    /// 4: an operation's lanes would pass 2^64.
+    HighAddress {
+        /// The first such address.
+        address: u64,
+    },
+    /// 5: a word that is not below p.
+    NotElement {
+        /// Its place in the lent slice.
+        place: u64,
+    },
+    /// 6: a wrong mark or a cut record in an operation file.
+    BadRecord {
+        /// The byte where the record starts.
+        start: u64,
+    },
+}
+
+impl Refusal {
+    /// The number by which the interface knows the refusal.
+    pub const fn number(self) -> u64 {
+        match self {
+            Self::PastEnd { .. } => 1,
+            Self::NotWhole { .. } => 2,
+            Self::TooShort { .. } => 3,
+            Self::HighAddress { .. } => 4,
+            Self::NotElement { .. } => 5,
+            Self::BadRecord { .. } => 6,
+        }
+    }
+
+    /// The detail that goes with it.
+    pub const fn detail(self) -> u64 {
+        match self {
+            Self::PastEnd { limit } => limit,
+            Self::NotWhole { which } => which as u64,
+            Self::TooShort { needed } => needed,
+            Self::HighAddress { address } => address,
+            Self::NotElement { place } => place,
+            Self::BadRecord { start } => start,
+        }
+    }
+
+    /// What a flat answer says: nothing where the call did its work, by number 0.
+    pub(crate) fn from_flat(number: u64, detail: u64) -> Result<(), Self> {
+        Err(match number {
+            0 => return Ok(()),
+            1 => Self::PastEnd { limit: detail },
+            2 => Self::NotWhole {
+                which: match detail {
+                    0 => Lent::Core,
+                    1 => Lent::Round,
+                    _ => Lent::List,
+                },
+            },
+            3 => Self::TooShort { needed: detail },
+            4 => Self::HighAddress { address: detail },
+            5 => Self::NotElement { place: detail },
+            6 => Self::BadRecord { start: detail },
+            _ => unreachable!("the definition of the answers has no refusal {number}"),
+        })
+    }
+}
+
+impl fmt::Display for Refusal {
+    fn fmt(&self, f: &mut fmt::Formatter<'_>) -> fmt::Result {
+        match *self {
+            Self::PastEnd { limit } => write!(f, "a number is {limit} or more"),
+            Self::NotWhole { which: Lent::Core } => write!(f, "the core table is not whole rows"),
+            Self::NotWhole { which: Lent::Round } => write!(f, "the round table is not whole rows"),
+            Self::NotWhole { which: Lent::List } => write!(f, "the list is not whole"),
+            Self::TooShort { needed } => write!(f, "a slice has fewer than the {needed} words needed"),
+            Self::HighAddress { address } => write!(f, "the 25 lanes from address {address} would pass 2^64"),
+            Self::NotElement { place } => write!(f, "the word at {place} is not below p"),
+            Self::BadRecord { start } => write!(f, "the record that starts at byte {start} is cut or has a wrong mark"),
+        }
+    }
+}
+
+impl std::error::Error for Refusal {}
