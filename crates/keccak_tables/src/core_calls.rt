@@ -16,7 +16,7 @@ pub extern "C" fn keccak_tables_keccak_row(ops: &[u64], index: usize, row: &mut 
     ensures answer { λ r. ⌜ r ≡ flatAnswer (answerOf (rowRefusal (length (now (row .entry))) (now (ops .entry)) index)) ⌝ }
     ensures words { λ _. ⌜ now (row .exit) ≡ afterwards (rowRefusal (length (now (row .entry))) (now (ops .entry)) index) (overwrite (coreRow (opAt (now (ops .entry)) index)) (now (row .entry))) (now (row .entry)) ⌝ }
 {
-    flat_answer(keccak::keccak_row(ops, index, row))
+    flat_answer(keccak_trace::keccak_row(ops, index, row))
 }
 
 #[no_mangle]
@@ -24,7 +24,7 @@ pub extern "C" fn keccak_tables_generate_keccak_trace(ops: &[u64], table: &mut [
     ensures answer { λ r. ⌜ r ≡ flatAnswer (answerOf (traceRefusal (length (now (table .entry))) (now (ops .entry)))) ⌝ }
     ensures words { λ _. ⌜ now (table .exit) ≡ afterwards (traceRefusal (length (now (table .entry))) (now (ops .entry))) (overwrite (coreTable MIN-ROWS (opCount (now (ops .entry))) (opAt (now (ops .entry)))) (now (table .entry))) (now (table .entry)) ⌝ }
 {
-    flat_answer(keccak::generate_keccak_trace(ops, table))
+    flat_answer(keccak_trace::generate_keccak_trace(ops, table))
 }
 
 #[no_mangle]
@@ -32,12 +32,12 @@ pub extern "C" fn keccak_tables_is_wh_keys(ops: &[u64], out: &mut [u64]) -> Flat
     ensures answer { λ r. ⌜ r ≡ flatAnswer (answerOf (keysRefusal (length (now (out .entry))) (now (ops .entry)))) ⌝ }
     ensures words { λ _. ⌜ now (out .exit) ≡ afterwards (keysRefusal (length (now (out .entry))) (now (ops .entry))) (overwrite (keyWords (opCount (now (ops .entry))) (opAt (now (ops .entry)))) (now (out .entry))) (now (out .entry)) ⌝ }
 {
-    flat_answer(keccak::is_wh_keys(ops, out))
+    flat_answer(keccak_keys::is_wh_keys(ops, out))
 }
 
 #[no_mangle]
 pub extern "C" fn keccak_tables_keccak_height(n: usize) -> FlatNumber
     ensures { λ r. ⌜ r ≡ flatNumber (numberOf (height MIN-ROWS n) (countRefusal n)) ⌝ }
 {
-    flat_number(keccak::keccak_height(n))
+    flat_number(keccak_trace::keccak_height(n))
 }

@@ -53,7 +53,7 @@ pub extern "C" fn keccak_tables_bitwise_bump(
     ensures answer { λ r. ⌜ r ≡ flatAnswer (answerOf (bumpRefusal (now (counters .entry)) kind x y z)) ⌝ }
     ensures words { λ _. ⌜ now (counters .exit) ≡ afterwards (bumpRefusal (now (counters .entry)) kind x y z) (charge (now (counters .entry)) (counterAt kind x y z)) (now (counters .entry)) ⌝ }
 {
-    flat_answer(bitwise::bump(counters, kind, x, y, z))
+    flat_answer(bitwise_counts::bump(counters, kind, x, y, z))
 }
 
 #[no_mangle]
@@ -65,7 +65,7 @@ pub extern "C" fn keccak_tables_bitwise_bus_interaction(
     ensures answer { λ r. ⌜ r ≡ flatTuple (tupleAnswerOf bitwise.NUM-COLUMNS bitwise.NUM-LOOKUP-TYPES bitwiseTuple (now (row .entry)) index (now (out .entry))) ⌝ }
     ensures words { λ _. ⌜ now (out .exit) ≡ tupleAfter bitwise.NUM-COLUMNS bitwise.NUM-LOOKUP-TYPES bitwiseTuple (now (row .entry)) index (now (out .entry)) ⌝ }
 {
-    flat_tuple(bitwise::bus_interaction(row, index, out))
+    flat_tuple(bitwise_tuples::bus_interaction(row, index, out))
 }
 
 #[no_mangle]

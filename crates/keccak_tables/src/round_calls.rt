@@ -25,7 +25,7 @@ pub extern "C" fn keccak_tables_keccak_rnd_row(
     ensures answer { λ r. ⌜ r ≡ flatAnswer (answerOf (rowRefusal round (now (start .entry)) (now (row .entry)))) ⌝ }
     ensures words { λ _. ⌜ now (row .exit) ≡ afterwards (rowRefusal round (now (start .entry)) (now (row .entry))) (overwrite (roundRow (wordAt timestamp) round (tab 25 (word (now (start .entry))))) (now (row .entry))) (now (row .entry)) ⌝ }
 {
-    flat_answer(keccak_rnd::keccak_rnd_row(timestamp, start, round, row))
+    flat_answer(keccak_rnd_row::keccak_rnd_row(timestamp, start, round, row))
 }
 
 #[no_mangle]
@@ -36,19 +36,19 @@ pub extern "C" fn keccak_tables_generate_keccak_rnd_trace(
     ensures answer { λ r. ⌜ r ≡ flatAnswer (answerOf (traceRefusal (length (now (table .entry))) (now (ops .entry)))) ⌝ }
     ensures words { λ _. ⌜ now (table .exit) ≡ afterwards (traceRefusal (length (now (table .entry))) (now (ops .entry))) (overwrite (roundTable 24 MIN-ROWS (opCount (now (ops .entry))) (opAt (now (ops .entry)))) (now (table .entry))) (now (table .entry)) ⌝ }
 {
-    flat_answer(keccak_rnd::generate_keccak_rnd_trace(ops, table))
+    flat_answer(keccak_rnd_trace::generate_keccak_rnd_trace(ops, table))
 }
 
 #[no_mangle]
 pub extern "C" fn keccak_tables_keccak_rnd_height(n: usize) -> FlatNumber
     ensures { λ r. ⌜ r ≡ flatNumber (numberOf (roundHeight 24 MIN-ROWS n) (countRefusal n)) ⌝ }
 {
-    flat_number(keccak_rnd::keccak_rnd_height(n))
+    flat_number(keccak_rnd_trace::keccak_rnd_height(n))
 }
 
 #[no_mangle]
 pub extern "C" fn keccak_tables_padding_are_bytes(n: usize) -> FlatNumber
     ensures { λ r. ⌜ r ≡ flatNumber (numberOf (padding-are-bytes 24 MIN-ROWS n) (countRefusal n)) ⌝ }
 {
-    flat_number(keccak_rnd::padding_are_bytes(n))
+    flat_number(keccak_rnd_trace::padding_are_bytes(n))
 }

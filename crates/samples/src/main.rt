@@ -1,9 +1,9 @@
 // Prints rows that the proved code writes. The file `stdout` has the same lines from the published Rust: it is what the
 // oracle prints for `sample rows`. Each line starts with the kind of its item and its number.
 use field::Fe;
-use fips202::State;
 use libc::STDOUT_FILENO;
 use lists::put_words;
+use permutation::State;
 ghost use mathlib.Core.Path.{_≡_};
 ghost use Prim.Native.Nat.{_+_, _≤_, _<_};
 ghost use lib.ListN.{length};
@@ -148,10 +148,10 @@ fn put_operations(ops: &mut [u64])
 
 fn core_rows(ops: &[u64]) {
     let mut keys = [0u64; 250];
-    keccak::is_wh_keys(ops, &mut keys);
+    keccak_keys::is_wh_keys(ops, &mut keys);
     print_rows(10, &keys, 2);
     let mut table = [0u64; 3888];
-    keccak::generate_keccak_trace(ops, &mut table);
+    keccak_trace::generate_keccak_trace(ops, &mut table);
     print_rows(11, &table, 486);
 }
 
@@ -159,7 +159,7 @@ fn round_rows(ops: &[u64])
     requires { ⌜ 104 ≤ length (now ops) ⌝ }
 {
     let mut table = [0u64; 94720];
-    keccak_rnd::generate_keccak_rnd_trace(&ops[..104], &mut table);
+    keccak_rnd_trace::generate_keccak_rnd_trace(&ops[..104], &mut table);
     print_digests(18, &table, 1480);
 }
 
