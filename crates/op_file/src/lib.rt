@@ -67,7 +67,7 @@ fn shift_in(a: u64, b: u8) -> u64
 }
 
 // The number that the 8 bytes from k make, lowest first.
-fn word_at(s: &[u8], k: usize) -> u64
+pub fn word_at(s: &[u8], k: usize) -> u64
     requires { ⌜ k + 8 ≤ length (now s) ⌝ }
     ensures { λ r. ⌜ r ≡ fromBytes (take 8 (drop k (now (s .entry)))) ⌝ }
 {

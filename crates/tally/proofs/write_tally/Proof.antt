@@ -1,9 +1,8 @@
 -- `tally::write_tally` meets its contract: the lines fit the lent bytes. Assumes nothing.
 use lib.Seq.{length-take-le}
 use lib.ListN.{length}
-use mathlib.Core.Path.{_≡_, sym}
+use mathlib.Core.Path.{sym}
 use Prim.Native.Nat.{_≤_}
-use lib.ListN.{length-take}
 use native.Mathlib.Omega.{arith}
 use borrow.Author.Needs.{needs}
 use Rattle.tally.proofs.write_tally.Statement.{statement}
