@@ -1,12 +1,12 @@
 -- The operation file: records of 418 bytes, the first faulty one, the operations, and what `tally` says of a file.
 -- Assumes nothing.
-use Prim.Native.Nat.{ℕ, zero, suc, _+_, _*_, _/_, _%_}
+use Prim.Native.Nat.{ℕ, zero, suc, _+_, _*_}
 use mathlib.Core.Bool.{Bool, false, not}
 use mathlib.Core.List.{List, [], _∷_}
 use mathlib.Core.Option.{Option, none, some}
 use lib.ListN.{length, take, drop, getD}
 use lib.Dec.{ltb, leb, eqb}
-use Rattle.lists.specs.Tab.{pick, tab}
+use Rattle.lists.specs.Tab.{pick, tab, tableOf}
 use Rattle.lists.specs.First.{orElse}
 use Rattle.answer.specs.Limits.{MAX-OPS}
 use Rattle.answer.specs.Refusal.{refuseIf, accepted}
@@ -69,11 +69,13 @@ firstFault i at [] = none
 firstFault i at (r ∷ rs) = orElse (faultOf i at r) (firstFault (i + 1) (at + length r) rs)
 
 -- ---- the operations
--- the flat list of a file's records: word j of record i is word 52 i + j
+-- the 52 words of the record that begins a list of bytes
+unfoldable pub operationWords : List ℕ → List ℕ
+operationWords r = tab OP-WORDS (recordWord r)
+
+-- the flat list of a file's records
 unfoldable pub fileWords : List ℕ → List ℕ
-fileWords file =
-    tab (OP-WORDS * length (recordsOf file))
-    (λ k. fromBytes (take 8 (drop (RECORD-BYTES * (k / OP-WORDS) + (2 + 8 * (k % OP-WORDS))) file)))
+fileWords file = tableOf (length (recordsOf file)) OP-WORDS (λ i. operationWords (drop (i * RECORD-BYTES) file))
 
 -- ---- the sums
 -- the sum of the multiplicities on a bus over both tables of n operations as they are written; an empty file's tables are

@@ -8,7 +8,7 @@ use native.Mathlib.Omega.{arith}
 use borrow.Author.Tests.{eqb-true}
 use lib.Dec.{eqb}
 use lib.ListN.{length, take, drop, getD, set, length-take, length-drop}
-use lib.Seq.{sets, getD-take, getD-drop}
+use lib.Seq.{sets, getD-take, getD-drop, drop-drop}
 use Rattle.lists.specs.Tab.{pick, tabFrom, tab, word}
 use Rattle.lists.proofs.Laws.{length-tab, sets-append, getD-tab, tab-same, list-tab}
 use Rattle.lists.proofs.Tests.{true-not-false}
@@ -31,7 +31,7 @@ word-of r j h =
     ap fromBytes (list-tab s 8 e ∙ tab-same 8 (λ k. getD s k 0) (λ b. word r (2 + 8 * j + b)) (λ k l. getD-take 8 (drop (2 + 8 * j) r) k 0 l ∙ getD-drop (2 + 8 * j) r k 0))
     ∙ from-eight (λ b. word r (2 + 8 * j + b))
 
-record-length : (f : ℕ → ℕ) → length (recordBytes f) ≡ 418
+pub record-length : (f : ℕ → ℕ) → length (recordBytes f) ≡ 418
 unfolding recordBytes
 record-length f = ap (λ (n : ℕ). suc (suc n)) (length-tab 416 (wordByte f))
 
@@ -100,3 +100,10 @@ unfolding recordBytes
 record-stores l to f =
     ap (λ (k : ℕ). sets (set (set l to 0x4B) k 0x4F) (to + 2) (tab 416 (wordByte f))) (add-one to)
     ∙ sets-append l to (0x4B ∷ 0x4F ∷ []) (tab 416 (wordByte f))
+
+-- a word that was read at its place in a file is that of the record there
+pub word-in : {v : ℕ} (s : List ℕ) (from j : ℕ) → v ≡ fromBytes (take 8 (drop (from + 2 + 8 * j) s)) → v ≡ recordWord (drop from s) j
+unfolding recordWord
+word-in s from j q =
+    let e : from + 2 + 8 * j ≡ from + (2 + 8 * j) = omega arith in
+    q ∙ ap (λ (k : ℕ). fromBytes (take 8 (drop k s))) e ∙ ap (λ (t : List ℕ). fromBytes (take 8 t)) (sym (drop-drop (2 + 8 * j) from s))

@@ -2,20 +2,20 @@
 use op_file::word_at;
 ghost use mathlib.Core.Path.{_≡_};
 ghost use Prim.Native.Nat.{_+_, _≤_};
-ghost use lib.ListN.{length};
+ghost use lib.ListN.{length, drop};
 ghost use lib.Seq.{sets};
 ghost use Rattle.lists.specs.Tab.{tab};
-ghost use Rattle.op_file.specs.File.{recordWord};
+ghost use Rattle.op_file.specs.File.{operationWords};
 ghost use Rattle.op_record.specs.Record.{wordByte, recordBytes, wordsFrom};
 
-// The 52 words of a record, from `at` on.
-pub fn read_operation(bytes: &[u8], ops: &mut [u64], at: usize)
-    requires { ⌜ (418 ≤ length (now bytes)) × (at + 52 ≤ length (now ops)) ⌝ }
-    ensures { λ _. ⌜ now (ops .exit) ≡ sets (now (ops .entry)) at (tab 52 (recordWord (now (bytes .entry)))) ⌝ }
+// The 52 words of the record that starts at byte `from`, stored from `at` on.
+pub fn read_operation(bytes: &[u8], from: usize, ops: &mut [u64], at: usize)
+    requires { ⌜ (from + 418 ≤ length (now bytes)) × (at + 52 ≤ length (now ops)) ⌝ }
+    ensures { λ _. ⌜ now (ops .exit) ≡ sets (now (ops .entry)) at (operationWords (drop from (now (bytes .entry)))) ⌝ }
 {
     let mut j: usize = 0;
     while j < 52 {
-        ops[at + j] = word_at(bytes, 2 + 8 * j);
+        ops[at + j] = word_at(bytes, from + 2 + 8 * j);
         j += 1;
     }
 }
