@@ -39,19 +39,20 @@ record-byte : (f : ℕ → ℕ) (k : ℕ) → k < 416 → word (recordBytes f) (
 unfolding recordBytes
 record-byte f k h = let e : 2 + k ≡ suc (suc k) = omega arith in ap (word (0x4B ∷ 0x4F ∷ tab 416 (wordByte f))) e ∙ getD-tab 416 (wordByte f) k 0 h
 
+-- byte b of word j of a record
+pub written-byte : (f : ℕ → ℕ) (j b : ℕ) → j < 52 → b < 8 → word (recordBytes f) (2 + 8 * j + b) ≡ byteAt (f j) b
+unfolding wordByte
+written-byte f j b h hb =
+    let e : 2 + 8 * j + b ≡ 2 + (8 * j + b) = omega arith in
+    let q : (8 * j + b) / 8 ≡ j = omega arith in
+    let m : (8 * j + b) % 8 ≡ b = omega arith in
+    ap (word (recordBytes f)) e ∙ record-byte f (8 * j + b) (omega arith) ∙ ap₂ (λ (x y : ℕ). byteAt (f x) y) q m
+
 -- what is written is read back
 pub words-again : (f : ℕ → ℕ) (j : ℕ) → j < 52 → f j < 2 ^ 64 → recordWord (recordBytes f) j ≡ f j
-unfolding wordByte
 words-again f j h l =
     word-of (recordBytes f) j (omega (arith, record-length f))
-    ∙ lane-of-bytes (f j) (λ b. word (recordBytes f) (2 + 8 * j + b)) l each
-  where
-    each : (b : ℕ) → b < 8 → word (recordBytes f) (2 + 8 * j + b) ≡ byteAt (f j) b
-    each b hb =
-        let e : 2 + 8 * j + b ≡ 2 + (8 * j + b) = omega arith in
-        let q : (8 * j + b) / 8 ≡ j = omega arith in
-        let m : (8 * j + b) % 8 ≡ b = omega arith in
-        ap (word (recordBytes f)) e ∙ record-byte f (8 * j + b) (omega arith) ∙ ap₂ (λ (x y : ℕ). byteAt (f x) y) q m
+    ∙ lane-of-bytes (f j) (λ b. word (recordBytes f) (2 + 8 * j + b)) l (λ b hb. written-byte f j b h hb)
 
 -- what makes a record whole
 pub record Marked (r : List ℕ) : Type 0 where
