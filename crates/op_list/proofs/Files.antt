@@ -1,4 +1,5 @@
 -- A file without a fault is whole records; the lengths of lists and files. Assumes nothing.
+use mathlib.Core.Bool.{true}
 use Prim.Native.Nat.{ℕ, zero, suc, _+_, _*_, _≤_, _<_}
 use mathlib.Core.Path.{_≡_, refl, sym, ap, _∙_}
 use mathlib.Core.List.{List, [], _∷_}
@@ -16,7 +17,7 @@ use Rattle.answer.specs.Refusal.{overwrite}
 use Rattle.answer.proofs.Laws.{passed-if, refuse-yes, refuse-no, sets-overwrite}
 use Rattle.keccak.specs.Row.{opAt}
 use Rattle.keccak.specs.Refusals.{opCount}
-use Rattle.op_file.specs.File.{split, recordsOf, recordWord, operationWords, fileWords, faultOf, firstFault, sumsOf, unless, tallyOf}
+use Rattle.op_file.specs.File.{split, recordsOf, recordWord, operationWords, fileWords, faultOf, firstFault, sumsOf, unless, tallyOf, isWhole}
 use Rattle.op_file.specs.declared.Sums.{Sums}
 use Rattle.op_file.specs.declared.Tally.the-variants as tally
 use Rattle.op_record.specs.Record.{recordBytes, wordsFrom}
@@ -36,17 +37,20 @@ unfolding fileBytes
 file-length ops = length-table (opCount ops) 418 (λ i. recordBytes (wordsFrom ops (i * 52)))
 
 -- two searches that both find nothing
-neither : {A : Type 0} (a b : Option A) → orElse a b ≡ none → (a ≡ none) × (b ≡ none)
+pub neither : {A : Type 0} (a b : Option A) → orElse a b ≡ none → (a ≡ none) × (b ≡ none)
 neither none b e = (refl, e)
 neither (some x) b e = (e, absurd-some e)
   where
     absurd-some : some x ≡ none → b ≡ none
     absurd-some q = cc
 
--- a record without a fault has all its bytes
-record-whole : (i at : ℕ) (r : List ℕ) → faultOf i at r ≡ none → length r ≡ 418
+-- a record without a fault is whole
+pub fault-whole : (i at : ℕ) (r : List ℕ) → faultOf i at r ≡ none → isWhole r ≡ true
 unfolding faultOf
-record-whole i at r e = marked r (not-false _ (passed-if _ _ _ (passed-if _ _ _ e .1) .0)) .long
+fault-whole i at r e = not-false _ (passed-if _ _ _ (passed-if _ _ _ e .1) .0)
+
+record-whole : (i at : ℕ) (r : List ℕ) → faultOf i at r ≡ none → length r ≡ 418
+record-whole i at r e = marked r (fault-whole i at r e) .long
 
 split-whole : (k i at : ℕ) (s : List ℕ) → length s ≤ k → firstFault i at (split k s) ≡ none → length s ≡ length (split k s) * 418
 unfolding split firstFault

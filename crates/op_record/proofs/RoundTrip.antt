@@ -87,7 +87,7 @@ bytes-again r h =
         let e : 2 + 8 * (k / 8) + k % 8 ≡ 2 + k = omega arith in
         record-byte (recordWord r) k l
         ∙ ap (λ (w : ℕ). byteAt w (k % 8)) (word-of r (k / 8) (omega (arith, m .long)))
-        ∙ lane-byteAt (λ b. word r (2 + 8 * (k / 8) + b)) (λ b hb. h .bytes (2 + 8 * (k / 8) + b)) (k % 8) (omega arith)
+        ∙ lane-byteAt (λ b. word r (2 + 8 * (k / 8) + b)) (λ b hb. h .bytes (2 + 8 * (k / 8) + b) (omega arith)) (k % 8) (omega arith)
         ∙ ap (word r) e
 
     each : (k : ℕ) → k < 418 → word (recordBytes (recordWord r)) k ≡ word r k
@@ -108,3 +108,26 @@ unfolding recordWord
 word-in s from j q =
     let e : from + 2 + 8 * j ≡ from + (2 + 8 * j) = omega arith in
     q ∙ ap (λ (k : ℕ). fromBytes (take 8 (drop k s))) e ∙ ap (λ (t : List ℕ). fromBytes (take 8 t)) (sym (drop-drop (2 + 8 * j) from s))
+
+-- a record depends on its 52 words alone, and its words on its 418 bytes
+pub record-same : (f g : ℕ → ℕ) → ((j : ℕ) → j < 52 → f j ≡ g j) → recordBytes f ≡ recordBytes g
+unfolding recordBytes wordByte
+record-same f g h =
+    ap (λ (t : List ℕ). 0x4B ∷ 0x4F ∷ t)
+    (tab-same 416 (λ k. byteAt (f (k / 8)) (k % 8)) (λ k. byteAt (g (k / 8)) (k % 8)) (λ k l. ap (λ (w : ℕ). byteAt w (k % 8)) (h (k / 8) (omega arith))))
+
+pub word-first : (s : List ℕ) (j : ℕ) → j < 52 → 418 ≤ length s → recordWord s j ≡ recordWord (take 418 s) j
+unfolding recordWord
+word-first s j h l =
+    let a : List ℕ = take 8 (drop (2 + 8 * j) s) in
+    let b : List ℕ = take 8 (drop (2 + 8 * j) (take 418 s)) in
+    let ea : length a ≡ 8 = simp (length-take, length-drop) (omega arith) in
+    let eb : length b ≡ 8 = simp (length-take, length-drop) (omega arith) in
+    ap fromBytes
+    (list-tab a 8 ea
+    ∙ tab-same 8 (word a) (word b)
+    (λ k q.
+    getD-take 8 (drop (2 + 8 * j) s) k 0 q
+    ∙ getD-drop (2 + 8 * j) s k 0
+    ∙ sym (getD-take 8 (drop (2 + 8 * j) (take 418 s)) k 0 q ∙ getD-drop (2 + 8 * j) (take 418 s) k 0 ∙ getD-take 418 s (2 + 8 * j + k) 0 (omega arith)))
+    ∙ sym (list-tab b 8 eb))

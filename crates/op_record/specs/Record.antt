@@ -22,4 +22,4 @@ wordsFrom ops at j = word ops (at + j)
 -- a whole record of bytes
 pub record Record (r : List ℕ) : Type 0 where
   pub whole : isWhole r ≡ true
-  pub bytes : (k : ℕ) → word r k < 256
+  pub bytes : (k : ℕ) → k < 418 → word r k < 256
