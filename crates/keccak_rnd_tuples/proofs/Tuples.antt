@@ -16,7 +16,7 @@ use Rattle.keccak.specs.Tuples.{keccakValues}
 use Rattle.keccak_rnd.specs.Columns.{start, rc}
 use Rattle.keccak_rnd.specs.Tuples.{roundReceived, roundSent, rcTuple, roundTuple}
 use Rattle.keccak_rnd.proofs.Step.{keccak-same}
-use Rattle.keccak_rnd_lookups.proofs.Tuples.{at-cxz-0, at-cxz, at-cxz-left, at-dxz, at-theta, at-rot, at-chi-ands, at-chi, at-iota}
+use Rattle.keccak_rnd_lookup_tuples.proofs.Tuples.{at-cxz-0, at-cxz, at-cxz-left, at-dxz, at-theta, at-rot, at-chi-ands, at-chi, at-iota}
 use Rattle.keccak_rnd_tuples.specs.States.{stateWord}
 use Rattle.keccak_rnd_tuples.proofs.States.{state-whole, keccak-length}
 

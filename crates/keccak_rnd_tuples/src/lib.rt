@@ -2,7 +2,7 @@
 use answer::Answer;
 use field::Fe;
 use keccak_rnd::NUM_COLUMNS;
-use keccak_rnd_lookups::lookup_tuple;
+use keccak_rnd_lookup_tuples::lookup_tuple;
 use lookup::Bus;
 use lookup::BusInteraction;
 use lookup::Side;
@@ -21,7 +21,7 @@ ghost use Rattle.keccak.specs.Columns.{byXYB};
 ghost use Rattle.keccak.specs.Tuples.{keccakValues};
 ghost use Rattle.keccak_rnd.specs.Columns.{NUM-COLUMNS};
 ghost use Rattle.keccak_rnd.specs.Tuples.{NUM-TUPLES, roundTuple, rcTuple};
-ghost use Rattle.keccak_rnd_lookups.specs.Elements.{Elements};
+ghost use Rattle.keccak_rnd_lookup_tuples.specs.Elements.{Elements};
 ghost use Rattle.keccak_rnd_tuples.specs.States.{laneWord, columnWord, stateWord};
 
 pub const NUM_TUPLES: usize = 1031;
