@@ -1,0 +1,71 @@
+-- `keccak_rnd_lookup_tuples::rotated_c` meets its contract: odd bytes take no carry. Assumes nothing.
+use Prim.Native.Nat.{_+_, _*_, _/_, _%_}
+use native.Mathlib.Omega.{arith}
+use Rattle.keccak_rnd_lookup_tuples.proofs.Tuples.{odd-byte, even-byte}
+use borrow.Author.Needs.{needs}
+use Rattle.keccak_rnd_lookup_tuples.proofs.rotated_c.Statement.{statement}
+use Rattle.keccak_rnd_lookup_tuples.proofs.rotated_c.Tie as tie
+
+mul-left : tie.Need-mul-left
+mul-left c = search needs
+
+add-left : tie.Need-add-left
+add-left c = search needs
+
+add-left-2 : tie.Need-add-left-2
+add-left-2 c = search needs
+
+mul-left-2 : tie.Need-mul-left-2
+mul-left-2 c = search needs
+
+shared-slice-read-left : tie.Need-shared-slice-read-left
+shared-slice-read-left c = search needs
+
+returns : tie.Need-returns
+returns c = let a = c .before .before .before .args in odd-byte (a .row .now) (a .x) (a .b) (c .if1 .taken)
+
+mul-carry : tie.Need-mul-carry
+mul-carry c = search needs
+
+add-carry : tie.Need-add-carry
+add-carry c = search needs
+
+add-carry-2 : tie.Need-add-carry-2
+add-carry-2 c = search needs
+
+add-carry-3 : tie.Need-add-carry-3
+add-carry-3 c = search needs
+
+mul-carry-2 : tie.Need-mul-carry-2
+mul-carry-2 c = search needs
+
+shared-slice-read-carry : tie.Need-shared-slice-read-carry
+shared-slice-read-carry c = search needs
+
+add-requires : tie.Need-add-requires
+add-requires c κs =
+    let a = c .before .before .before .before .args in
+    let h = c .before .before .before .before .pre .1 in
+    (h (363 + a .x * 8 + a .b) (omega arith), h (403 + a .x * 4 + (a .b / 2 + 3) % 4) (omega arith))
+
+returns-2 : tie.Need-returns-2
+returns-2 c = let a = c .before .before .before .before .before .args in even-byte (a .row .now) (a .x) (a .b) (c .before .before .if1 .left) (c .add .ensures .0)
+
+pub rotated-c-spec : {M : Type 1} → statement M
+rotated-c-spec =
+    tie.close
+    (tie.spec
+    mul-left
+    add-left
+    add-left-2
+    mul-left-2
+    shared-slice-read-left
+    returns
+    mul-carry
+    add-carry
+    add-carry-2
+    add-carry-3
+    mul-carry-2
+    shared-slice-read-carry
+    add-requires
+    returns-2)

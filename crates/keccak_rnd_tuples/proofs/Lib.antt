@@ -1,0 +1,3 @@
+pub mod Tuples
+pub mod States
+pub mod Counts

@@ -1,0 +1,358 @@
+-- Reading in pieces is reading at once, and what a reader says at the end is what the file's records say.
+--     feed-append  a piece after another is the two as one piece
+--     whole        a whole record from its start: at its fault, or before the next record
+--     reads-file   `finish` after the whole file is `tallyOf`
+-- Assumes nothing.
+use Prim.Native.Nat.{ℕ, zero, suc, _+_, _*_, _/_, _-_, _^_, _<_, _≤_}
+use mathlib.Core.Path.{_≡_, refl, sym, ap, _∙_}
+use mathlib.Core.Bool.{Bool, true, false}
+use mathlib.Core.List.{List, [], _∷_, _++_}
+use mathlib.Core.Option.{Option, none, some}
+use mathlib.Core.Logic.{_⊎_, inl, inr, ⊎-elim}
+use native.Mathlib.Nat.{add-zero, div-div-eq-div-mul, pow-suc, mul-comm, div-one}
+use native.Mathlib.Omega.{arith}
+use lib.Dec.{ltb, leb, eqb}
+use lib.ListN.{length, take, drop, getD, take-append-drop, length-take, length-drop, drop-of-length-le}
+use lib.Seq.{take-all, take-take, drop-drop}
+use borrow.Author.Tests.{lt-ltb, le-ltb, le-leb, lt-leb, eq-eqb, ne-eqb, leb-true, leb-false}
+use Rattle.lists.specs.Tab.{pick}
+use Rattle.lists.specs.First.{orElse}
+use Rattle.answer.specs.Limits.{MAX-OPS}
+use Rattle.answer.specs.Refusal.{refuseIf}
+use Rattle.answer.specs.declared.Refusal.{Refusal}
+use Rattle.answer.specs.declared.Refusal.the-variants.{PastEnd, HighAddress, BadRecord}
+use Rattle.keccak.specs.Row.{LAST-ADDRESS, opAt}
+use Rattle.op_file.specs.File.{fromBytes, split, recordsOf, fileWords, isWhole, recordWord, faultOf, firstFault, unless, tallyOf}
+use Rattle.op_file.specs.Reader.{wrong, inAddress, shifted, stepOf, feedOf, start, countsOf, finishOf, after, Advanced}
+use Rattle.op_file.specs.declared.Cursor.{Cursor}
+use Rattle.op_file.specs.declared.Cursor.the-variants.{Reading, Refused}
+use Rattle.op_file.specs.declared.Sums.{Sums}
+use Rattle.op_file.proofs.Totals.{counts-are-sums}
+
+pub feed-append : (c : Cursor) (a b : List ℕ) → feedOf c (a ++ b) ≡ feedOf (feedOf c a) b
+unfolding feedOf
+feed-append c [] b = refl
+feed-append c (x ∷ a) b = feed-append (stepOf c x) a b
+
+pub feed-refused : (r : Refusal) (s : List ℕ) → feedOf (Refused r) s ≡ Refused r
+unfolding feedOf stepOf
+feed-refused r [] = refl
+feed-refused r (x ∷ s) = feed-refused r s
+
+pub feed-split : (c : Cursor) (k : ℕ) (s : List ℕ) → feedOf c s ≡ feedOf (feedOf c (take k s)) (drop k s)
+feed-split c k s = ap (feedOf c) (sym (take-append-drop k s)) ∙ feed-append c (take k s) (drop k s)
+
+-- the address bytes, shifted in
+unfoldable pub shifts : ℕ → List ℕ → ℕ
+shifts a [] = a
+shifts a (b ∷ s) = shifts (shifted a b) s
+
+shifted-once : (a b : ℕ) → shifted a b ≡ (a + b * 18446744073709551616) / 256
+unfolding shifted
+shifted-once a b = omega arith
+
+shifts-all : (a : ℕ) (s : List ℕ) → shifts a s ≡ (a + 18446744073709551616 * fromBytes s) / 256 ^ length s
+unfolding shifts fromBytes
+shifts-all a [] = omega (arith, div-one (a + 0))
+shifts-all a (b ∷ s) =
+    let k : ℕ = 18446744073709551616 in
+    shifts-all (shifted a b) s
+    ∙ ap (λ (x : ℕ). (x + k * fromBytes s) / 256 ^ length s) (shifted-once a b)
+    ∙ ap (λ (x : ℕ). x / 256 ^ length s) (omega arith)
+    ∙ div-div-eq-div-mul (a + k * (b + 256 * fromBytes s)) 256 (256 ^ length s)
+    ∙ ap (λ (x : ℕ). (a + k * (b + 256 * fromBytes s)) / x) (mul-comm 256 (256 ^ length s) ∙ sym (pow-suc 256 (length s)))
+
+pub shifts-eight : (a : ℕ) (s : List ℕ) → a < 18446744073709551616 → length s ≡ 8 → shifts a s ≡ fromBytes s
+shifts-eight a s l e =
+    shifts-all a s ∙ ap (λ (n : ℕ). (a + 18446744073709551616 * fromBytes s) / 256 ^ n) e ∙ omega arith
+
+pub shifts-more : (a : ℕ) (s : List ℕ) (k : ℕ) → k < length s → shifts a (take (k + 1) s) ≡ shifted (shifts a (take k s)) (getD s k 0)
+unfolding shifts
+shifts-more a [] k l = absurd (omega arith)
+shifts-more a (x ∷ s) zero l = refl
+shifts-more a (x ∷ s) (suc k) l =
+    let e : suc k + 1 ≡ suc (k + 1) = omega arith in rw e (shifts-more (shifted a x) s k (omega arith))
+
+-- bytes that are neither of the mark nor of the address
+plain-low : (k : ℕ) → k < 10 → inAddress k ≡ false
+unfolding inAddress
+plain-low k l = simp (lt-leb 10 k l)
+
+pub plain-high : (k : ℕ) → 18 ≤ k → inAddress k ≡ false
+unfolding inAddress
+plain-high k l = let h : 10 ≤ k = omega arith in simp (le-leb 10 k h, le-ltb k 18 l)
+
+in-address : (k : ℕ) → 10 ≤ k → k < 18 → inAddress k ≡ true
+unfolding inAddress
+in-address k l h = simp (le-leb 10 k l, lt-ltb k 18 h)
+
+right-past : (at b : ℕ) → 2 ≤ at → wrong at b ≡ false
+unfolding wrong
+right-past at b l = simp (ne-eqb at 0 (λ e. omega arith), ne-eqb at 1 (λ e. omega arith))
+
+module _ (n : ℕ) (few : n < MAX-OPS) where
+  step-on : (at a b : ℕ) → wrong at b ≡ false → at < 417 → stepOf (Reading n at a) b ≡ Reading n (at + 1) (pick (inAddress at) (shifted a b) a)
+  unfolding stepOf
+  step-on at a b w l = simp (lt-leb MAX-OPS n few, w, lt-leb 417 at l)
+
+  step-wrong : (at a b : ℕ) → wrong at b ≡ true → stepOf (Reading n at a) b ≡ Refused (BadRecord (418 * n))
+  unfolding stepOf
+  step-wrong at a b w = simp (lt-leb MAX-OPS n few, w)
+
+  -- the bytes after the address, but for the last; those before it
+  pub skip : (at a : ℕ) (s : List ℕ) → 2 ≤ at → ((k : ℕ) → at ≤ k → k < at + length s → inAddress k ≡ false) → at + length s ≤ 417 → feedOf (Reading n at a) s ≡ Reading n (at + length s) a
+  unfolding feedOf
+  skip at a [] l p h = ap (λ (k : ℕ). Reading n k a) (sym (add-zero at))
+  skip at a (x ∷ s) l p h =
+      ap (λ (c : Cursor). feedOf c s) (step-on at a x (right-past at x l) (omega arith) ∙ ap (λ (t : Bool). Reading n (at + 1) (pick t (shifted a x) a)) (p at (omega arith) (omega arith)))
+      ∙ skip (at + 1) a s (omega arith) (λ k g u. p k (omega arith) (omega arith)) (omega arith)
+      ∙ ap (λ (k : ℕ). Reading n k a) (omega arith)
+
+  address : (at a : ℕ) (s : List ℕ) → 10 ≤ at → at + length s ≤ 18 → feedOf (Reading n at a) s ≡ Reading n (at + length s) (shifts a s)
+  unfolding feedOf shifts
+  address at a [] l h = ap (λ (k : ℕ). Reading n k a) (sym (add-zero at))
+  address at a (x ∷ s) l h =
+      ap (λ (c : Cursor). feedOf c s) (step-on at a x (right-past at x (omega arith)) (omega arith) ∙ ap (λ (t : Bool). Reading n (at + 1) (pick t (shifted a x) a)) (in-address at l (omega arith)))
+      ∙ address (at + 1) (shifted a x) s (omega arith) (omega arith)
+      ∙ ap (λ (k : ℕ). Reading n k (shifts (shifted a x) s)) (omega arith)
+
+  -- a record that is cut: refused, or read on
+  abbrev Cut : ℕ → ℕ → List ℕ → Type 0
+  Cut at a s = (feedOf (Reading n at a) s ≡ Refused (BadRecord (418 * n))) ⊎ ((b : ℕ) × (feedOf (Reading n at a) s ≡ Reading n (at + length s) b))
+
+  cut-by : (at a x : ℕ) (s : List ℕ) (t : Bool) → wrong at x ≡ t → at + suc (length s) ≤ 417 → Cut (at + 1) (pick (inAddress at) (shifted a x) a) s → Cut at a (x ∷ s)
+  unfolding feedOf
+  cut-by at a x s true w h r = inl (ap (λ (c : Cursor). feedOf c s) (step-wrong at a x w) ∙ feed-refused (BadRecord (418 * n)) s)
+  cut-by at a x s false w h r =
+      let e = ap (λ (c : Cursor). feedOf c s) (step-on at a x w (omega arith)) in
+      ⊎-elim
+      (λ q. inl (e ∙ q))
+      (λ q. inr (q .0, e ∙ q .1 ∙ ap (λ (k : ℕ). Reading n k (q .0)) (omega arith)))
+      r
+
+  cut : (at a : ℕ) (s : List ℕ) → at + length s ≤ 417 → Cut at a s
+  unfolding feedOf
+  cut at a [] h = inr (a, ap (λ (k : ℕ). Reading n k a) (sym (add-zero at)))
+  cut at a (x ∷ s) h = cut-by at a x s (wrong at x) refl h (cut (at + 1) (pick (inAddress at) (shifted a x) a) s (omega arith))
+
+  -- the last byte of a record
+  last : (A : ℕ) (s : List ℕ) → length s ≡ 1 → feedOf (Reading n 417 A) s ≡ pick (ltb LAST-ADDRESS A) (Refused (HighAddress A)) (Reading (n + 1) 0 0)
+  unfolding feedOf stepOf wrong
+  last A [] e = absurd (omega arith)
+  last A (z ∷ []) e = simp (lt-leb MAX-OPS n few)
+  last A (z ∷ y ∷ s) e = absurd (omega arith)
+
+  -- what follows the mark, where it is right
+  body : (a : ℕ) (t : List ℕ) → a < 18446744073709551616 → length t ≡ 416 → feedOf (Reading n 2 a) t ≡ pick (ltb LAST-ADDRESS (fromBytes (take 8 (drop 8 t)))) (Refused (HighAddress (fromBytes (take 8 (drop 8 t))))) (Reading (n + 1) 0 0)
+  body a t l e =
+      let u = drop 8 t in
+      let v = drop 8 u in
+      let A = fromBytes (take 8 u) in
+      let e1 : length (take 8 t) ≡ 8 = simp length-take (omega arith) in
+      let e2 : length (take 8 u) ≡ 8 = simp (length-take, length-drop) (omega arith) in
+      let e3 : length (take 399 v) ≡ 399 = simp (length-take, length-drop) (omega arith) in
+      let e4 : length (drop 399 v) ≡ 1 = simp length-drop (omega arith) in
+      let s1 : feedOf (Reading n 2 a) (take 8 t) ≡ Reading n 10 a =
+      skip 2 a (take 8 t) (omega arith) (λ k g h. plain-low k (omega arith)) (omega arith) ∙ ap (λ (k : ℕ). Reading n k a) (omega arith)
+      in
+      let s2 : feedOf (Reading n 10 a) (take 8 u) ≡ Reading n 18 A =
+      address 10 a (take 8 u) (omega arith) (omega arith)
+      ∙ ap (λ (k : ℕ). Reading n k (shifts a (take 8 u))) (omega arith)
+      ∙ ap (λ (b : ℕ). Reading n 18 b) (shifts-eight a (take 8 u) l e2)
+      in
+      let s3 : feedOf (Reading n 18 A) (take 399 v) ≡ Reading n 417 A =
+      skip 18 A (take 399 v) (omega arith) (λ k g h. plain-high k g) (omega arith) ∙ ap (λ (k : ℕ). Reading n k A) (omega arith)
+      in
+      feed-split (Reading n 2 a) 8 t
+      ∙ ap (λ (c : Cursor). feedOf c u) s1
+      ∙ feed-split (Reading n 10 a) 8 u
+      ∙ ap (λ (c : Cursor). feedOf c v) s2
+      ∙ feed-split (Reading n 18 A) 399 v
+      ∙ ap (λ (c : Cursor). feedOf c (drop 399 v)) s3
+      ∙ last A (drop 399 v) e4
+
+after-pick : (t : Bool) (x : Refusal) (n : ℕ) → pick t (Refused x) (Reading n 0 0) ≡ after (pick t (some x) none) n
+after-pick true x n = refl
+after-pick false x n = refl
+
+-- a whole record, from its start
+module _ (n : ℕ) (few : n < MAX-OPS) (a : ℕ) (small : a < 18446744073709551616) where
+  whole-by : (b0 b1 : ℕ) (t : List ℕ) (p q : Bool) → eqb b0 0x4B ≡ p → eqb b1 0x4F ≡ q → length t ≡ 416 → feedOf (Reading n 0 a) (b0 ∷ b1 ∷ t) ≡ after (faultOf n (418 * n) (b0 ∷ b1 ∷ t)) (n + 1)
+  unfolding feedOf stepOf wrong inAddress faultOf isWhole recordWord refuseIf
+  whole-by b0 b1 t false q ep eq e = simp (lt-leb MAX-OPS n few, ep, eq-eqb (length (b0 ∷ b1 ∷ t)) 418 (omega arith)) (feed-refused (BadRecord (418 * n)) t)
+  whole-by b0 b1 t true false ep eq e = simp (lt-leb MAX-OPS n few, ep, eq, eq-eqb (length (b0 ∷ b1 ∷ t)) 418 (omega arith)) (feed-refused (BadRecord (418 * n)) t)
+  whole-by b0 b1 t true true ep eq e =
+      simp (lt-leb MAX-OPS n few, ep, eq, eq-eqb (length (b0 ∷ b1 ∷ t)) 418 (omega arith))
+      (body n few a t small e ∙ after-pick (ltb LAST-ADDRESS (fromBytes (take 8 (drop 8 t)))) (HighAddress (fromBytes (take 8 (drop 8 t)))) (n + 1))
+
+  pub whole : (r : List ℕ) → length r ≡ 418 → feedOf (Reading n 0 a) r ≡ after (faultOf n (418 * n) r) (n + 1)
+  whole [] e = absurd (omega arith)
+  whole (b0 ∷ []) e = absurd (omega arith)
+  whole (b0 ∷ b1 ∷ t) e = whole-by b0 b1 t (eqb b0 0x4B) (eqb b1 0x4F) refl refl (omega arith)
+
+le-or-lt : (a b : ℕ) → (a ≤ b) ⊎ (b < a)
+le-or-lt a b = by (leb a b) refl
+  where
+    by : (t : Bool) → leb a b ≡ t → (a ≤ b) ⊎ (b < a)
+    by true e = inl (leb-true a b e)
+    by false e = inr (leb-false a b e)
+
+-- a record that the file's end cuts, or any byte past the MAX-OPS records: the file is refused
+over : (n a : ℕ) (s : List ℕ) → MAX-OPS ≤ n → 0 < length s → feedOf (Reading n 0 a) s ≡ Refused (PastEnd 89478486)
+unfolding feedOf stepOf
+over n a [] m l = absurd (omega arith)
+over n a (x ∷ s) m l = simp (le-leb MAX-OPS n m) (feed-refused (PastEnd 89478486) s)
+
+pub over-fault : (n at : ℕ) (r : List ℕ) → MAX-OPS ≤ n → faultOf n at r ≡ some (PastEnd 89478486)
+unfolding faultOf refuseIf
+over-fault n at r m = simp (le-leb MAX-OPS n m)
+
+short-fault : (n at : ℕ) (r : List ℕ) → n < MAX-OPS → length r < 418 → faultOf n at r ≡ some (BadRecord at)
+unfolding faultOf isWhole refuseIf
+short-fault n at r m l = simp (lt-leb MAX-OPS n m, ne-eqb (length r) 418 (λ e. omega arith))
+
+-- after record n, from its start
+next : (n : ℕ) (r : List ℕ) → length r ≡ 418 → feedOf (Reading n 0 0) r ≡ after (faultOf n (418 * n) r) (n + 1)
+next n r e =
+    ⊎-elim
+    (λ (m : MAX-OPS ≤ n). over n 0 r m (omega arith) ∙ ap (λ (f : Option Refusal). after f (n + 1)) (sym (over-fault n (418 * n) r m)))
+    (λ (m : n < MAX-OPS). whole n m 0 (omega arith) r e)
+    (le-or-lt MAX-OPS n)
+
+-- the end of the file within record n
+ends : (n : ℕ) (r : List ℕ) (a : Sums) (f : Option Refusal) → 0 < length r → length r < 418 → finishOf (feedOf (Reading n 0 0) r) ≡ unless (orElse (faultOf n (418 * n) r) f) a
+unfolding finishOf
+ends n r a f l h =
+    ⊎-elim
+    (λ (m : MAX-OPS ≤ n). ap finishOf (over n 0 r m l) ∙ ap (λ (g : Option Refusal). unless (orElse g f) a) (sym (over-fault n (418 * n) r m)))
+    (λ (m : n < MAX-OPS).
+    ⊎-elim
+    (λ e. ap finishOf e)
+    (λ e. ap finishOf (e .1) ∙ simp (le-ltb MAX-OPS n (omega arith), ne-eqb (0 + length r) 0 (λ z. omega arith)))
+    (cut n m 0 0 r (omega arith))
+    ∙ ap (λ (g : Option Refusal). unless (orElse g f) a) (sym (short-fault n (418 * n) r m h)))
+    (le-or-lt MAX-OPS n)
+
+-- where a record has no fault, there was room for it
+room : (n at : ℕ) (r : List ℕ) → faultOf n at r ≡ none → n < MAX-OPS
+room n at r e =
+    ⊎-elim
+    (λ (m : MAX-OPS ≤ n). let q = over-fault n at r m in let z : _≡_ {A = ℕ} 0 1 = cc in absurd (omega arith))
+    (λ (m : n < MAX-OPS). m)
+    (le-or-lt MAX-OPS n)
+
+split-none : (k : ℕ) → split k [] ≡ []
+unfolding split
+split-none zero = refl
+split-none (suc k) = refl
+
+-- what the records from the i-th on say, where k of them hold the rest of the file
+abbrev From : ℕ → ℕ → List ℕ → Type 0
+From k i s = finishOf (feedOf (Reading i 0 0) s) ≡ unless (firstFault i (418 * i) (split k s)) (countsOf (i + length (split k s)))
+
+-- the rest of the file is one record, cut
+from-cut : (k i b : ℕ) (s : List ℕ) → suc (length s) < 418 → From (suc k) i (b ∷ s)
+unfolding split firstFault
+from-cut k i b s h =
+    let e : take 418 (b ∷ s) ≡ b ∷ s = take-all 418 (b ∷ s) (omega arith) in
+    let g : length (b ∷ s) ≤ 418 = omega arith in
+    let d : drop 418 (b ∷ s) ≡ [] = drop-of-length-le (b ∷ s) g in
+    rw (e, d, split-none k) (ends i (b ∷ s) (countsOf (i + 1)) none (omega arith) h)
+
+-- a whole record, and the rest after it
+from-whole : (f : Option Refusal) (k i : ℕ) (r rest : List ℕ) → length r ≡ 418 → faultOf i (418 * i) r ≡ f → (i < MAX-OPS → From k (i + 1) rest)
+    → finishOf (feedOf (after f (i + 1)) rest) ≡ unless (orElse f (firstFault (i + 1) (418 * i + length r) (split k rest))) (countsOf (i + suc (length (split k rest))))
+unfolding finishOf
+from-whole (some x) k i r rest l e g = ap finishOf (feed-refused x rest)
+from-whole none k i r rest l e g =
+    let at : 418 * (i + 1) ≡ 418 * i + length r = omega arith in
+    let c : i + 1 + length (split k rest) ≡ i + suc (length (split k rest)) = omega arith in
+    g (room i (418 * i) r e)
+    ∙ ap (λ (m : ℕ). unless (firstFault (i + 1) m (split k rest)) (countsOf (i + 1 + length (split k rest)))) at
+    ∙ ap (λ (m : ℕ). unless (firstFault (i + 1) (418 * i + length r) (split k rest)) (countsOf m)) c
+
+reads-from : (k i : ℕ) (s : List ℕ) → length s ≤ k → i ≤ MAX-OPS → From k i s
+unfolding split firstFault feedOf finishOf
+reads-from zero i [] l m = simp (le-ltb MAX-OPS i m, add-zero)
+reads-from zero i (b ∷ s) l m = absurd (omega arith)
+reads-from (suc k) i [] l m = simp (le-ltb MAX-OPS i m, add-zero)
+reads-from (suc k) i (b ∷ s) l m =
+    ⊎-elim
+    (λ (h : 418 ≤ suc (length s)).
+    let r = take 418 (b ∷ s) in
+    let rest = drop 418 (b ∷ s) in
+    let e : length r ≡ 418 = simp length-take (omega arith) in
+    let d : length rest ≤ k = simp length-drop (omega arith) in
+    ap finishOf (feed-split (Reading i 0 0) 418 (b ∷ s) ∙ ap (λ (c : Cursor). feedOf c rest) (next i r e))
+    ∙ from-whole (faultOf i (418 * i) r) k i r rest e refl (λ (few : i < MAX-OPS). reads-from k (i + 1) rest d (omega arith)))
+    (λ (h : suc (length s) < 418). from-cut k i b s h)
+    (le-or-lt 418 (suc (length s)))
+
+-- what a reader says after the whole file is what the file's records say
+pub reads-file : (syscall : ℕ) (file : List ℕ) → finishOf (feedOf start file) ≡ tallyOf syscall file
+unfolding tallyOf recordsOf
+reads-file syscall file =
+    let n = length (split (length file) file) in
+    let e : 0 + n ≡ n = omega arith in
+    reads-from (length file) 0 file (omega arith) (omega arith)
+    ∙ ap (λ (m : ℕ). unless (firstFault 0 0 (split (length file) file)) (countsOf m)) e
+    ∙ ap (unless (firstFault 0 0 (split (length file) file))) (counts-are-sums syscall n (opAt (fileWords file)))
+
+-- the same of a file that is read in two pieces, wherever it is cut
+pub reads-pieces : (syscall : ℕ) (a b : List ℕ) → finishOf (feedOf (feedOf start a) b) ≡ tallyOf syscall (a ++ b)
+reads-pieces syscall a b = ap finishOf (sym (feed-append start a b)) ∙ reads-file syscall (a ++ b)
+
+pub feed-one : (c : Cursor) (s : List ℕ) → 0 < length s → feedOf c (take 1 s) ≡ stepOf c (getD s 0 0)
+unfolding feedOf
+feed-one c [] l = absurd (omega arith)
+feed-one c (x ∷ s) l = refl
+
+-- a part of a piece, and what is left of the piece
+pub feed-part : (c : Cursor) (i k : ℕ) (s : List ℕ) → feedOf c (drop i s) ≡ feedOf (feedOf c (take k (drop i s))) (drop (i + k) s)
+feed-part c i k s = feed-split c k (drop i s) ∙ ap (feedOf (feedOf c (take k (drop i s)))) (drop-drop k i s)
+
+pub feed-none : (c : Cursor) (i : ℕ) (s : List ℕ) → length s ≤ i → feedOf c (drop i s) ≡ c
+unfolding feedOf
+feed-none c i s l = ap (feedOf c) (drop-of-length-le s l)
+
+-- one turn of the loop over a piece
+pub feed-go : (c d : Cursor) (i used : ℕ) (s : List ℕ) → i ≤ length s → Advanced c (take (length s - i) (drop i s)) d used → (0 < used) × (i + used ≤ length s) × (feedOf c (drop i s) ≡ feedOf d (drop (i + used) s))
+feed-go c d i used s l a =
+    let e : length (take (length s - i) (drop i s)) ≡ length s - i = simp (length-take, length-drop) (omega arith) in
+    let h : used ≤ length s - i = omega (arith, a .all-there) in
+    (a .some-used, omega arith, feed-part c i used s ∙ ap (λ (x : Cursor). feedOf x (drop (i + used) s)) (sym (a .stands ∙ ap (feedOf c) (take-take used (length s - i) (drop i s) h))))
+
+-- a reader that goes on has read 418 bytes for each whole record and `at` of the next, and no more than the MAX-OPS records have
+abbrev Stand : Cursor → ℕ → Type 0
+Stand (Refused r) k = Unit {0}
+Stand (Reading n at a) k = (418 * n + at ≡ k) × (at < 418) × (k ≤ 37402006730)
+
+stand-pick : (p : Bool) (c d : Cursor) (k : ℕ) → (p ≡ true → Stand c k) → (p ≡ false → Stand d k) → Stand (pick p c d) k
+stand-pick true c d k f g = f refl
+stand-pick false c d k f g = g refl
+
+stand-step : (c : Cursor) (b k : ℕ) → Stand c k → Stand (stepOf c b) (k + 1)
+unfolding stepOf
+stand-step (Refused r) b k s = tt
+stand-step (Reading n at a) b k s =
+    stand-pick (leb MAX-OPS n) _ _ (k + 1) (λ e. tt)
+    (λ e.
+    let few = leb-false MAX-OPS n e in
+    stand-pick (wrong at b) _ _ (k + 1) (λ e. tt)
+    (λ e.
+    stand-pick (leb 417 at) _ _ (k + 1)
+    (λ e. let l = leb-true 417 at e in stand-pick (ltb LAST-ADDRESS a) _ _ (k + 1) (λ e. tt) (λ e. (omega arith, omega arith, omega arith)))
+    (λ e. let l = leb-false 417 at e in (omega arith, omega arith, omega arith))))
+
+stand-feed : (c : Cursor) (s : List ℕ) (k : ℕ) → Stand c k → Stand (feedOf c s) (k + length s)
+unfolding feedOf
+stand-feed c [] k p = rw add-zero p
+stand-feed c (b ∷ s) k p = let e : k + suc (length s) ≡ k + 1 + length s = omega arith in rw e (stand-feed (stepOf c b) s (k + 1) (stand-step c b k p))
+
+-- past the MAX-OPS bytes of a file a reader has refused it
+pub refused-past : (s : List ℕ) → 37402006730 < length s → (r : Refusal) × (feedOf start s ≡ Refused r)
+refused-past s l = by (feedOf start s) refl (stand-feed start s 0 (omega arith, omega arith, omega arith))
+  where
+    by : (c : Cursor) → feedOf start s ≡ c → Stand c (0 + length s) → (r : Refusal) × (feedOf start s ≡ Refused r)
+    by (Refused r) e p = (r, e)
+    by (Reading n at a) e p = absurd (omega arith)

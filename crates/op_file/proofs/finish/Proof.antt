@@ -1,0 +1,53 @@
+-- `op_file::finish` meets its contract: the cases of the cursor. Assumes nothing.
+use Rattle.op_file.specs.declared.Tally.the-variants.{Counted}
+use Rattle.op_file.specs.Reader.{finishOf}
+use borrow.Author.Tests.{lt-ltb, le-ltb, eq-eqb, ne-eqb}
+use mathlib.Core.Path.{ap, sym, _∙_}
+use borrow.Author.Needs.{needs}
+use Rattle.op_file.proofs.finish.Statement.{statement}
+use Rattle.op_file.proofs.finish.Tie as tie
+
+enum-known-c : tie.Need-enum-known-c
+enum-known-c c = search needs
+
+enum-known-c-2 : tie.Need-enum-known-c-2
+enum-known-c-2 c = search needs
+
+add-t8 : tie.Need-add-t8
+add-t8 c = search needs
+
+returns : tie.Need-returns
+unfolding finishOf
+returns c = sym (ap finishOf (c .before .before .c2 .given .1) ∙ simp (lt-ltb _ _ (c .if1 .taken)))
+
+sum-up-requires : tie.Need-sum-up-requires
+sum-up-requires c κs = search needs
+
+returns-2 : tie.Need-returns-2
+unfolding finishOf
+returns-2 c = ap Counted (c .sum-up .ensures) ∙ sym (ap finishOf (c .before .before .before .before .c2 .given .1) ∙ simp (le-ltb _ _ (c .before .before .if1 .left), eq-eqb _ _ (c .before .if2 .taken)))
+
+mul-t11 : tie.Need-mul-t11
+mul-t11 c = search needs
+
+returns-3 : tie.Need-returns-3
+unfolding finishOf
+returns-3 c = sym (ap finishOf (c .before .c .given .1))
+
+returns-4 : tie.Need-returns-4
+unfolding finishOf
+returns-4 c = sym (ap finishOf (c .before .before .before .c2 .given .1) ∙ simp (le-ltb _ _ (c .before .if1 .left), ne-eqb _ _ (c .if2 .left)))
+
+pub finish-spec : {M : Type 1} → statement M
+finish-spec =
+    tie.close
+    (tie.spec
+    enum-known-c
+    enum-known-c-2
+    add-t8
+    returns
+    sum-up-requires
+    returns-2
+    mul-t11
+    returns-3
+    returns-4)

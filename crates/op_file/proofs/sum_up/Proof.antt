@@ -1,0 +1,59 @@
+-- `op_file::sum_up` meets its contract: the heights and the multiples of n. Assumes nothing.
+use Rattle.op_file.specs.Reader.{countsOf}
+use borrow.Author.Needs.{needs}
+use Rattle.op_file.proofs.sum_up.Statement.{statement}
+use Rattle.op_file.proofs.sum_up.Tie as tie
+
+table-height-requires : tie.Need-table-height-requires
+table-height-requires c κs = search needs
+
+mul-table-height : tie.Need-mul-table-height
+mul-table-height c = search needs
+
+table-height-requires-2 : tie.Need-table-height-requires-2
+table-height-requires-2 c κs = search needs
+
+mul-t8 : tie.Need-mul-t8
+mul-t8 c = search needs
+
+mul-t9 : tie.Need-mul-t9
+mul-t9 c = search needs
+
+padding-requires : tie.Need-padding-requires
+padding-requires c κs = search needs
+
+add-t11 : tie.Need-add-t11
+add-t11 c = search needs
+
+mul-t12 : tie.Need-mul-t12
+mul-t12 c = search needs
+
+mul-t13 : tie.Need-mul-t13
+mul-t13 c = search needs
+
+mul-t14 : tie.Need-mul-t14
+mul-t14 c = search needs
+
+mul-t15 : tie.Need-mul-t15
+mul-t15 c = search needs
+
+returns : tie.Need-returns
+unfolding countsOf
+returns c = cc
+
+pub sum-up-spec : {M : Type 1} → statement M
+sum-up-spec =
+    tie.close
+    (tie.spec
+    table-height-requires
+    mul-table-height
+    table-height-requires-2
+    mul-t8
+    mul-t9
+    padding-requires
+    add-t11
+    mul-t12
+    mul-t13
+    mul-t14
+    mul-t15
+    returns)

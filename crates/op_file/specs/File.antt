@@ -1,0 +1,108 @@
+-- The operation file: records of 418 bytes, the first faulty one, the operations, and what `tally` says of a file.
+-- Assumes nothing.
+use Prim.Native.Nat.{ℕ, zero, suc, _+_, _*_}
+use mathlib.Core.Bool.{Bool, false, not}
+use mathlib.Core.List.{List, [], _∷_}
+use mathlib.Core.Option.{Option, none, some}
+use lib.ListN.{length, take, drop, getD}
+use lib.Dec.{ltb, leb, eqb}
+use Rattle.lists.specs.Tab.{pick, tab, tableOf}
+use Rattle.lists.specs.First.{orElse}
+use Rattle.answer.specs.Limits.{MAX-OPS}
+use Rattle.answer.specs.Refusal.{refuseIf, accepted}
+use Rattle.answer.specs.declared.Refusal.{Refusal}
+use Rattle.answer.specs.declared.Refusal.the-variants.{PastEnd, HighAddress, BadRecord}
+use Rattle.lookup.specs.declared.Bus.{Bus}
+use Rattle.lookup.specs.declared.Bus.the-variants.{ByteAlu, AreBytes, IsHalfword, IsWh, KeccakRc, Memw, Ecall}
+use Rattle.keccak.specs.Height.{MIN-ROWS, height}
+use Rattle.keccak.specs.Row.{OP-WORDS, LAST-ADDRESS, opAt}
+use Rattle.keccak.specs.Tuples.{coreTableSum}
+use Rattle.keccak.specs.declared.KeccakOperation.{KeccakOperation}
+use Rattle.keccak_rnd.specs.Row.{roundHeight}
+use Rattle.keccak_rnd.specs.Tuples.{roundTableSum}
+use Rattle.op_file.specs.declared.Sums.{Sums}
+use Rattle.op_file.specs.declared.Tally.{Tally}
+use Rattle.op_file.specs.declared.Tally.the-variants.{Counted, Refused}
+
+-- the number that bytes make, lowest first
+unfoldable pub fromBytes : List ℕ → ℕ
+fromBytes [] = 0
+fromBytes (b ∷ bs) = b + 256 * fromBytes bs
+
+-- the mark, then 52 words of 8 bytes: timestamp, address, 25 lanes of input, 25 of output
+abbrev pub RECORD-BYTES : ℕ
+RECORD-BYTES = 418
+
+-- ---- the records of a file, the last possibly cut. Each has a byte or more, so that k of them hold k bytes
+unfoldable pub split : ℕ → List ℕ → List (List ℕ)
+split zero s = []
+split (suc k) [] = []
+split (suc k) (b ∷ s) = take RECORD-BYTES (b ∷ s) ∷ split k (drop RECORD-BYTES (b ∷ s))
+
+unfoldable pub recordsOf : List ℕ → List (List ℕ)
+recordsOf file = split (length file) file
+
+-- all its bytes are there, and the first two are 4B 4F
+unfoldable pub isWhole : List ℕ → Bool
+isWhole r = pick (eqb (length r) RECORD-BYTES) (pick (eqb (getD r 0 0) 0x4B) (eqb (getD r 1 0) 0x4F) false) false
+
+-- word j of a record, j below 52; the address is word 1
+unfoldable pub recordWord : List ℕ → ℕ → ℕ
+recordWord r j = fromBytes (take 8 (drop (2 + 8 * j) r))
+
+abbrev pub addressOf : List ℕ → ℕ
+addressOf r = recordWord r 1
+
+-- ---- faults
+-- what is wrong with a record: it is the i-th, starts at byte `at` of the file, and its bytes are r. 1 as soon as any byte
+-- follows the last record that a file may have; then 6, then 4
+unfoldable pub faultOf : ℕ → ℕ → List ℕ → Option Refusal
+faultOf i at r =
+    refuseIf (leb MAX-OPS i) (PastEnd (MAX-OPS + 1))
+    (refuseIf (not (isWhole r)) (BadRecord at)
+    (refuseIf (ltb LAST-ADDRESS (addressOf r)) (HighAddress (addressOf r))
+    accepted))
+
+-- what is wrong with the first faulty record of those from the i-th on
+unfoldable pub firstFault : ℕ → ℕ → List (List ℕ) → Option Refusal
+firstFault i at [] = none
+firstFault i at (r ∷ rs) = orElse (faultOf i at r) (firstFault (i + 1) (at + length r) rs)
+
+-- ---- the operations
+-- the 52 words of the record that begins a list of bytes
+unfoldable pub operationWords : List ℕ → List ℕ
+operationWords r = tab OP-WORDS (recordWord r)
+
+-- the flat list of a file's records
+unfoldable pub fileWords : List ℕ → List ℕ
+fileWords file = tableOf (length (recordsOf file)) OP-WORDS (λ i. operationWords (drop (i * RECORD-BYTES) file))
+
+-- ---- the sums
+-- the sum of the multiplicities on a bus over both tables of n operations as they are written; an empty file's tables are
+-- not shipped. No multiplicity depends on the syscall number.
+unfoldable pub sent : ℕ → Bus → ℕ → (ℕ → KeccakOperation) → ℕ
+sent syscall b n op = pick (eqb n 0) 0 (coreTableSum b 24 syscall MIN-ROWS n op + roundTableSum b 24 MIN-ROWS n op)
+
+unfoldable pub sumsOf : ℕ → ℕ → (ℕ → KeccakOperation) → Sums
+sumsOf syscall n op =
+    record {
+      ops = n;
+      «core_rows» = height MIN-ROWS n;
+      «round_rows» = roundHeight 24 MIN-ROWS n;
+      «byte_alu» = sent syscall ByteAlu n op;
+      «are_bytes» = sent syscall AreBytes n op;
+      «keccak_rc» = sent syscall KeccakRc n op;
+      «is_halfword» = sent syscall IsHalfword n op;
+      «is_wh» = sent syscall IsWh n op;
+      memw = sent syscall Memw n op;
+      ecall = sent syscall Ecall n op;
+    }
+
+-- the first fault, or the sums
+abbrev pub unless : Option Refusal → Sums → Tally
+unless none s = Counted s
+unless (some r) s = Refused r
+
+unfoldable pub tallyOf : ℕ → List ℕ → Tally
+tallyOf syscall file =
+    unless (firstFault 0 0 (recordsOf file)) (sumsOf syscall (length (recordsOf file)) (opAt (fileWords file)))

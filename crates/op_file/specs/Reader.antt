@@ -1,0 +1,91 @@
+-- Reading a file in pieces: where a reader stands after each byte, and what the end of the file makes of it. Assumes nothing.
+use Prim.Native.Nat.{ℕ, _+_, _*_, _/_, _<_, _≤_}
+use mathlib.Core.Path.{_≡_}
+use mathlib.Core.Bool.{Bool, true, false, not}
+use mathlib.Core.List.{List, [], _∷_}
+use mathlib.Core.Option.{Option, none, some}
+use lib.ListN.{length, take}
+use lib.Dec.{ltb, leb, eqb}
+use Rattle.lists.specs.Tab.{pick}
+use Rattle.answer.specs.Limits.{MAX-OPS}
+use Rattle.answer.specs.declared.Refusal.{Refusal}
+use Rattle.answer.specs.declared.Refusal.the-variants.{PastEnd, HighAddress, BadRecord}
+use Rattle.keccak.specs.Height.{MIN-ROWS, height}
+use Rattle.keccak.specs.Row.{LAST-ADDRESS}
+use Rattle.keccak_rnd.specs.Row.{roundHeight, padding-are-bytes}
+use Rattle.op_file.specs.File.{RECORD-BYTES}
+use Rattle.op_file.specs.declared.Cursor.{Cursor}
+use Rattle.op_file.specs.declared.Cursor.the-variants as cursor
+use Rattle.op_file.specs.declared.Sums.{Sums}
+use Rattle.op_file.specs.declared.Tally.{Tally}
+use Rattle.op_file.specs.declared.Tally.the-variants as tally
+
+-- byte `at` of a record contradicts its mark
+unfoldable pub wrong : ℕ → ℕ → Bool
+wrong at b = pick (eqb at 0) (not (eqb b 0x4B)) (pick (eqb at 1) (not (eqb b 0x4F)) false)
+
+-- byte `at` of a record is one of its address
+unfoldable pub inAddress : ℕ → Bool
+inAddress at = pick (leb 10 at) (ltb at 18) false
+
+-- the address bytes come in from the top, so that after eight of them the first is the lowest
+unfoldable pub shifted : ℕ → ℕ → ℕ
+shifted a b = a / 256 + b * 72057594037927936
+
+-- n whole records, and at bytes of the next, whose address bytes so far make addr
+unfoldable pub stepOf : Cursor → ℕ → Cursor
+stepOf (cursor.Refused r) b = cursor.Refused r
+stepOf (cursor.Reading n at addr) b =
+    pick (leb MAX-OPS n)
+    (cursor.Refused (PastEnd (MAX-OPS + 1)))
+    (pick (wrong at b)
+    (cursor.Refused (BadRecord (RECORD-BYTES * n)))
+    (pick (leb 417 at)
+    (pick (ltb LAST-ADDRESS addr) (cursor.Refused (HighAddress addr)) (cursor.Reading (n + 1) 0 0))
+    (cursor.Reading n (at + 1) (pick (inAddress at) (shifted addr b) addr))))
+
+unfoldable pub feedOf : Cursor → List ℕ → Cursor
+feedOf c [] = c
+feedOf c (b ∷ bs) = feedOf (stepOf c b) bs
+
+abbrev pub start : Cursor
+start = cursor.Reading 0 0 0
+
+abbrev pub isRefused : Cursor → Bool
+isRefused (cursor.Refused r) = true
+isRefused (cursor.Reading n at addr) = false
+
+-- the sums as they are computed (proofs/Totals.antt: `counts-are-sums`)
+unfoldable pub countsOf : ℕ → Sums
+countsOf n =
+    record {
+      ops = n;
+      «core_rows» = height MIN-ROWS n;
+      «round_rows» = roundHeight 24 MIN-ROWS n;
+      «byte_alu» = 19393 * n;
+      «are_bytes» = 5284 * n + padding-are-bytes 24 MIN-ROWS n;
+      «keccak_rc» = 24 * n;
+      «is_halfword» = 25 * n;
+      «is_wh» = 25 * n;
+      memw = 26 * n;
+      ecall = n;
+    }
+
+-- what the end of the file makes of a reader: a record that it breaks off is cut
+unfoldable pub finishOf : Cursor → Tally
+finishOf (cursor.Refused r) = tally.Refused r
+finishOf (cursor.Reading n at addr) =
+    pick (ltb MAX-OPS n)
+    (tally.Refused (PastEnd (MAX-OPS + 1)))
+    (pick (eqb at 0) (tally.Counted (countsOf n)) (tally.Refused (BadRecord (RECORD-BYTES * n))))
+
+-- a reader after the whole record n: at its fault, or before the next record
+abbrev pub after : Option Refusal → ℕ → Cursor
+after none n = cursor.Reading n 0 0
+after (some r) n = cursor.Refused r
+
+-- part of a piece is read: how much of it, and where the reader then stands
+pub record Advanced (c : Cursor) (s : List ℕ) (d : Cursor) (used : ℕ) : Type 0 where
+  pub some-used : 0 < used
+  pub all-there : used ≤ length s
+  pub stands : d ≡ feedOf c (take used s)

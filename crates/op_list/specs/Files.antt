@@ -1,0 +1,26 @@
+-- A whole operation file and the flat list of its operations, both ways. Assumes nothing.
+use Prim.Native.Nat.{ℕ, _*_}
+use mathlib.Core.List.{List}
+use mathlib.Core.Option.{Option}
+use lib.ListN.{length}
+use Rattle.lists.specs.Tab.{tableOf}
+use Rattle.lists.specs.First.{orElse}
+use Rattle.answer.specs.Refusal.{accepted}
+use Rattle.answer.specs.declared.Refusal.{Refusal}
+use Rattle.keccak.specs.Row.{OP-WORDS}
+use Rattle.keccak.specs.Refusals.{opCount, tooShort, operationsRefusal}
+use Rattle.op_file.specs.File.{RECORD-BYTES, recordsOf, firstFault}
+use Rattle.op_record.specs.Record.{recordBytes, wordsFrom}
+
+-- `read_operations`: the file as `tally` refuses it; then 3, a list too short for the words
+unfoldable pub readRefusal : List ℕ → ℕ → Option Refusal
+readRefusal file room =
+    orElse (firstFault 0 0 (recordsOf file)) (tooShort room (length (recordsOf file) * OP-WORDS) accepted)
+
+-- the records of a list of operations
+unfoldable pub fileBytes : List ℕ → List ℕ
+fileBytes ops = tableOf (opCount ops) RECORD-BYTES (λ i. recordBytes (wordsFrom ops (i * OP-WORDS)))
+
+-- `write_operations`: 1, 2, 3 and 4 as in every call that takes a list of operations
+unfoldable pub writeRefusal : ℕ → List ℕ → Option Refusal
+writeRefusal room ops = operationsRefusal room (opCount ops * RECORD-BYTES) ops

@@ -1,0 +1,82 @@
+// A whole operation file and the flat list of its operations, both ways.
+use answer::Answer;
+use answer::MAX_OPS;
+use answer::Refusal;
+use keccak::OP_WORDS;
+use op_file::RECORD_BYTES;
+use op_file::Tally;
+use op_file::feed;
+use op_file::finish;
+use op_file::start;
+use op_record::read_operation;
+use op_record::write_operation;
+use operations::check_operations;
+ghost use mathlib.Core.Path.{_≡_};
+ghost use Prim.Native.Nat.{_*_, _≤_};
+ghost use lib.ListN.{length, drop};
+ghost use lib.Seq.{sets};
+ghost use Rattle.lists.specs.Tab.{tableOf};
+ghost use Rattle.answer.specs.Refusal.{answerOf, overwrite, afterwards};
+ghost use Rattle.op_file.specs.File.{operationWords, fileWords};
+ghost use Rattle.op_record.specs.Record.{recordBytes, wordsFrom};
+ghost use Rattle.op_list.specs.Files.{readRefusal, fileBytes, writeRefusal};
+
+// The words of the first n records.
+fn put_operations(file: &[u8], n: usize, ops: &mut [u64])
+    requires { ⌜ (n * 418 ≤ length (now file)) × (n * 52 ≤ length (now ops)) ⌝ }
+    ensures { λ _. ⌜ now (ops .exit) ≡ sets (now (ops .entry)) 0 (tableOf n 52 (λ i. operationWords (drop (i * 418) (now (file .entry))))) ⌝ }
+{
+    let mut i: usize = 0;
+    while i < n {
+        read_operation(file, i * RECORD_BYTES, ops, i * OP_WORDS);
+        i += 1;
+    }
+}
+
+// The operations of a file, from the front of `ops` on.
+pub fn read_operations(file: &[u8], ops: &mut [u64]) -> Answer
+    ensures answer { λ r. ⌜ r ≡ answerOf (readRefusal (now (file .entry)) (length (now (ops .entry)))) ⌝ }
+    ensures words { λ r. ⌜ now (ops .exit) ≡ afterwards (readRefusal (now (file .entry)) (length (now (ops .entry)))) (overwrite (fileWords (now (file .entry))) (now (ops .entry))) (now (ops .entry)) ⌝ }
+{
+    let read = feed(start(), file);
+    match finish(read) {
+        Tally::Refused(refusal) => Answer::Refused(refusal),
+        Tally::Counted(sums) => {
+            let n = sums.ops as usize;
+            if ops.len() < n * OP_WORDS {
+                return Answer::Refused(Refusal::TooShort((n * OP_WORDS) as u64));
+            }
+            put_operations(file, n, ops);
+            Answer::Done
+        }
+    }
+}
+
+// The records of the first n operations.
+fn put_records(ops: &[u64], n: usize, file: &mut [u8])
+    requires { ⌜ (n * 52 ≤ length (now ops)) × (n * 418 ≤ length (now file)) ⌝ }
+    ensures { λ _. ⌜ now (file .exit) ≡ sets (now (file .entry)) 0 (tableOf n 418 (λ i. recordBytes (wordsFrom (now (ops .entry)) (i * 52)))) ⌝ }
+{
+    let mut i: usize = 0;
+    while i < n {
+        write_operation(ops, i * OP_WORDS, file, i * RECORD_BYTES);
+        i += 1;
+    }
+}
+
+// The file of a list of operations, from the front of `file` on.
+pub fn write_operations(ops: &[u64], file: &mut [u8]) -> Answer
+    ensures answer { λ r. ⌜ r ≡ answerOf (writeRefusal (length (now (file .entry))) (now (ops .entry))) ⌝ }
+    ensures words { λ r. ⌜ now (file .exit) ≡ afterwards (writeRefusal (length (now (file .entry))) (now (ops .entry))) (overwrite (fileBytes (now (ops .entry))) (now (file .entry))) (now (file .entry)) ⌝ }
+{
+    let n = ops.len() / OP_WORDS;
+    if n as u64 > MAX_OPS {
+        return Answer::Refused(Refusal::PastEnd(MAX_OPS + 1));
+    }
+    let room = file.len();
+    if let Answer::Refused(refusal) = check_operations(ops, room, n * RECORD_BYTES) {
+        return Answer::Refused(refusal);
+    }
+    put_records(ops, n, file);
+    Answer::Done
+}

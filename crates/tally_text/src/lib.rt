@@ -1,0 +1,75 @@
+// The lines that `tally` writes.
+use answer::Refusal;
+use op_file::Sums;
+use op_file::Tally;
+use text::put;
+use text::put_decimal;
+use text::put_line;
+ghost use Prim.Native.Nat.{_+_, _≤_};
+ghost use lib.ListN.{length};
+ghost use Rattle.text.specs.Text.{Puts};
+ghost use Rattle.tally_text.specs.Output.{heightLines, lookupLines, otherLines, textOf};
+
+// The record count and the two heights.
+fn put_heights(s: Sums, out: &mut [u8]) -> usize
+    requires { ⌜ 512 ≤ length (now out) ⌝ }
+    ensures { λ r. ⌜ Puts (now (out .entry)) 0 (heightLines s) (now (out .exit)) r × (r ≤ 88) ⌝ }
+{
+    let e0 = put_line(out, 0, b"ops ", s.ops);
+    let e1 = put_line(out, e0, b"core-rows ", s.core_rows);
+    put_line(out, e1, b"round-rows ", s.round_rows)
+}
+
+// The sums of the buses that bitwise and constant rows answer.
+fn put_lookups(s: Sums, out: &mut [u8], at: usize) -> usize
+    requires { ⌜ at + 121 ≤ length (now out) ⌝ }
+    ensures { λ r. ⌜ Puts (now (out .entry)) at (lookupLines s) (now (out .exit)) r × (r ≤ at + 121) ⌝ }
+{
+    let e0 = put_line(out, at, b"ByteAlu ", s.byte_alu);
+    let e1 = put_line(out, e0, b"AreBytes ", s.are_bytes);
+    let e2 = put_line(out, e1, b"KeccakRc ", s.keccak_rc);
+    put_line(out, e2, b"IsHalfword ", s.is_halfword)
+}
+
+// The others.
+fn put_others(s: Sums, out: &mut [u8], at: usize) -> usize
+    requires { ⌜ at + 79 ≤ length (now out) ⌝ }
+    ensures { λ r. ⌜ Puts (now (out .entry)) at (otherLines s) (now (out .exit)) r × (r ≤ at + 79) ⌝ }
+{
+    let e0 = put_line(out, at, b"IsWh ", s.is_wh);
+    let e1 = put_line(out, e0, b"Memw ", s.memw);
+    put_line(out, e1, b"Ecall ", s.ecall)
+}
+
+// The ten lines.
+fn put_sums(s: Sums, out: &mut [u8]) -> usize
+    requires { ⌜ 512 ≤ length (now out) ⌝ }
+    ensures { λ r. ⌜ Puts (now (out .entry)) 0 (textOf (Tally.Counted s)) (now (out .exit)) r × (r ≤ 512) ⌝ }
+{
+    let a = put_heights(s, out);
+    let b = put_lookups(s, out, a);
+    put_others(s, out, b)
+}
+
+// The one line of a faulty file.
+fn put_refused(refusal: Refusal, out: &mut [u8]) -> usize
+    requires { ⌜ 512 ≤ length (now out) ⌝ }
+    ensures { λ r. ⌜ Puts (now (out .entry)) 0 (textOf (Tally.Refused refusal)) (now (out .exit)) r × (r ≤ 512) ⌝ }
+{
+    let number = refusal.number();
+    let detail = refusal.detail();
+    let a = put(out, 0, b"refused ");
+    let b = put_decimal(out, a, number);
+    put_line(out, b, b" ", detail)
+}
+
+// What `tally` writes; answers how many bytes.
+pub fn put_tally(tally: Tally, out: &mut [u8]) -> usize
+    requires { ⌜ 512 ≤ length (now out) ⌝ }
+    ensures { λ r. ⌜ Puts (now (out .entry)) 0 (textOf tally) (now (out .exit)) r × (r ≤ 512) ⌝ }
+{
+    match tally {
+        Tally::Counted(s) => put_sums(s, out),
+        Tally::Refused(refusal) => put_refused(refusal, out),
+    }
+}

@@ -1,0 +1,26 @@
+-- Numbers and lines as bytes. Assumes nothing.
+use Prim.Native.Nat.{ℕ, zero, suc, _+_, _/_, _%_}
+use mathlib.Core.Path.{_≡_}
+use mathlib.Core.List.{List, [], _∷_, _++_}
+use lib.ListN.{length, take}
+use lib.Dec.{ltb}
+use Rattle.lists.specs.Tab.{pick}
+
+-- the decimal digits of n, where k of them are enough
+unfoldable pub digitsOf : ℕ → ℕ → List ℕ
+digitsOf zero n = []
+digitsOf (suc k) n = pick (ltb n 10) ((48 + n) ∷ []) (digitsOf k (n / 10) ++ ((48 + n % 10) ∷ []))
+
+-- a word in decimal, with no leading zeros
+unfoldable pub decimalOf : ℕ → List ℕ
+decimalOf n = digitsOf 20 n
+
+-- a name, which ends in a space, and a number, on a line
+unfoldable pub lineOf : List ℕ → ℕ → List ℕ
+lineOf name n = name ++ decimalOf n ++ (10 ∷ [])
+
+-- text s stands in b up to r, after what stood in a up to at
+pub record Puts (a : List ℕ) (at : ℕ) (s b : List ℕ) (r : ℕ) : Type 0 where
+  pub ends : r ≡ at + length s
+  pub stands : take r b ≡ take at a ++ s
+  pub long : length b ≡ length a
