@@ -1,31 +1,28 @@
 // tables/keccak_rnd.rs, bus_interactions: the first lookup of a round row that finds nothing.
-use chi::ands_failure;
-use chi::chi_failure;
-use chi::iota_failure;
-use chi::put_pi;
-use chi::rot_failure;
-use columns::MU;
 use lists::Place;
 use rc::rc_failure;
+use round_scan::chi::ands_failure;
+use round_scan::chi::chi_failure;
+use round_scan::chi::iota_failure;
+use round_scan::chi::put_pi;
+use round_scan::chi::rot_failure;
+use round_scan::columns::MU;
+use round_scan::theta::d_failure;
+use round_scan::theta::left_failure;
+use round_scan::theta::parity_failure;
+use round_scan::theta::stage_failure;
+use round_scan::theta::theta_failure;
 use scan::or_after;
-use theta::d_failure;
-use theta::left_failure;
-use theta::parity_failure;
-use theta::stage_failure;
-use theta::theta_failure;
 ghost use mathlib.Core.Path.{_≡_};
 ghost use mathlib.Core.Bool.{not};
 ghost use Rattle.lists.specs.First.{firstAt, placeOf};
 ghost use Rattle.matching.specs.Matching.{matched};
 ghost use Rattle.keccak_rnd.specs.Tuples.{NUM-TUPLES, roundTuple};
-ghost use Rattle.keccak_rnd_values.specs.Readable.{Readable};
+ghost use Rattle.round_value.specs.Readable.{Readable};
 ghost use Rattle.scan.specs.Scan.{unmatched};
-ghost use Rattle.keccak_rnd_lookups.specs.Parts.{chiPart, thetaPart, parityPart};
+ghost use Rattle.round_scan.specs.Parts.{chiPart, thetaPart, parityPart};
 
-pub mod chi;
-pub mod columns;
 pub mod rc;
-pub mod theta;
 
 // χ and ι, which active rows alone look up.
 fn chi_part(row: &[u64]) -> Place

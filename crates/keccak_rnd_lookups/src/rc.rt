@@ -1,9 +1,9 @@
 // The lookup of the round's constant.
-use super::columns::MU;
-use super::columns::RC;
-use super::columns::ROUND;
 use fips202::round_constant;
 use lists::Place;
+use round_scan::columns::MU;
+use round_scan::columns::RC;
+use round_scan::columns::ROUND;
 ghost use mathlib.Core.Path.{_≡_};
 ghost use mathlib.Core.Bool.{not};
 ghost use Prim.Native.Nat.{_+_};
@@ -12,9 +12,9 @@ ghost use Rattle.lists.specs.Tab.{word};
 ghost use Rattle.lists.specs.First.{firstAt, placeOf};
 ghost use Rattle.lists.specs.Sum.{all};
 ghost use Rattle.bits.specs.Bits.{byteAt};
-ghost use Rattle.keccak_rnd_values.specs.Readable.{Readable};
+ghost use Rattle.round_value.specs.Readable.{Readable};
 ghost use Rattle.scan.specs.Scan.{unmatched};
-ghost use Rattle.keccak_rnd_lookups.specs.Parts.{rcTuples};
+ghost use Rattle.round_scan.specs.Parts.{rcTuples};
 
 // The eight bytes in RC are not those of the constant.
 fn constant_off(row: &[u64], constant: u64) -> bool

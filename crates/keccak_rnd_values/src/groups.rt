@@ -1,15 +1,15 @@
 // The values of a round row, group by group into a slice.
-use super::values::carry_value;
-use super::values::rho_value;
-use super::values::theta_value;
 use fips202::rho_offset;
+use round_value::carry_value;
+use round_value::rho_value;
+use round_value::theta_value;
 ghost use mathlib.Core.Path.{_≡_};
 ghost use Prim.Native.Nat.{_+_, _*_, _/_, _%_, _≤_, _<_};
 ghost use lib.ListN.{length};
 ghost use lib.Seq.{sets};
 ghost use Rattle.lists.specs.Tab.{tab};
 ghost use Rattle.keccak_rnd.specs.Values.{carryValue, thetaValue, rhoValue};
-ghost use Rattle.keccak_rnd_values.specs.Readable.{Readable};
+ghost use Rattle.round_value.specs.Readable.{Readable};
 
 pub fn put_carry_values(row: &[u64], out: &mut [u64])
     requires { ⌜ Readable (now row) × (20 ≤ length (now out)) ⌝ }

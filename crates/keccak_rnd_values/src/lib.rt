@@ -6,9 +6,9 @@ use groups::put_rho_values;
 use groups::put_theta_values;
 use keccak_rnd::NUM_COLUMNS;
 use lists::Place;
-use values::MU;
-use values::element;
-use values::is_bit;
+use round_value::MU;
+use round_value::element;
+use round_value::is_bit;
 ghost use mathlib.Core.Path.{_≡_};
 ghost use mathlib.Core.Bool.{not};
 ghost use Prim.Native.Nat.{_≤_};
@@ -20,11 +20,9 @@ ghost use Rattle.lists.specs.First.{firstAt, placeOf};
 ghost use Rattle.evaluation.specs.Call.{valuesAnswer, valuesAfter};
 ghost use Rattle.keccak_rnd.specs.Columns.{NUM-COLUMNS};
 ghost use Rattle.keccak_rnd.specs.Values.{NUM-VALUES, roundValue};
-ghost use Rattle.keccak_rnd_values.specs.Readable.{Readable};
+ghost use Rattle.round_value.specs.Readable.{Readable};
 
 pub mod groups;
-pub mod shift;
-pub mod values;
 
 pub const NUM_VALUES: usize = 141;
 
