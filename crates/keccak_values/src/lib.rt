@@ -1,5 +1,8 @@
 // tables/keccak.rs, eval: the 52 values of a core row mod P. The address's two words are put together once, where the
 // Rust makes an operand of its eight bytes for each lane.
+use add_template::INV_SHIFT_32;
+use add_template::is_bit;
+use add_template::is_bit_if;
 use answer::Answer;
 use evaluation::check_values;
 use field::Fe;
@@ -15,7 +18,6 @@ ghost use Rattle.lists.specs.Tab.{tab, word};
 ghost use Rattle.lists.specs.First.{firstAt, placeOf};
 ghost use Rattle.field.specs.Field.{p, fmul, fsub, INV-SHIFT-32};
 ghost use Rattle.evaluation.specs.Call.{valuesAnswer, valuesAfter};
-ghost use Rattle.templates.specs.Templates.{isBit, isBitIf};
 ghost use Rattle.keccak.specs.Columns.{ADDR, addr, MU, NUM-COLUMNS};
 ghost use Rattle.keccak.specs.Values.{NUM-VALUES, wordOfBytes, wordOfHalves, topValue, coreValue};
 ghost use Rattle.keccak_values.specs.Carries.{lowCarry, highCarry, valueFails};
@@ -27,9 +29,6 @@ const ADDR: usize = 2;
 const STATE_PTR: usize = 410;
 
 const MU: usize = 485;
-
-// The inverse of 2^32.
-const INV_SHIFT_32: u64 = 18446744065119617026;
 
 // Two numbers: the carries of a lane, or its two values.
 struct Pair {
@@ -48,31 +47,11 @@ fn carry(a: Fe, b: Fe) -> Fe
     })
 }
 
-// cond x (1 - x).
-fn bit_if(cond: u64, x: u64) -> u64
-    requires { ⌜ x < p ⌝ }
-    ensures { λ r. ⌜ r ≡ isBitIf cond x ⌝ }
-{
-    let e = Fe { value: x };
-    let product = Fe { value: cond }.mul(e).mul(Fe::ONE.sub(e));
-    product.value
-}
-
 // cond x: the carry itself is to be 0, where a bit would let it be 1.
 fn zero_if(cond: u64, x: u64) -> u64
     ensures { λ r. ⌜ r ≡ fmul cond x ⌝ }
 {
     let product = Fe { value: cond }.mul(Fe { value: x });
-    product.value
-}
-
-// x (1 - x).
-fn bit(x: u64) -> u64
-    requires { ⌜ x < p ⌝ }
-    ensures { λ r. ⌜ r ≡ isBit x ⌝ }
-{
-    let e = Fe { value: x };
-    let product = e.mul(Fe::ONE.sub(e));
     product.value
 }
 
@@ -124,8 +103,8 @@ fn lane_values(row: &[u64], i: usize, lo: Fe, hi: Fe) -> Pair
     let mu = row[MU];
     let c = carries(row, i, lo, hi);
     Pair {
-        low: bit_if(mu, c.low),
-        high: bit_if(mu, c.high),
+        low: is_bit_if(mu, c.low),
+        high: is_bit_if(mu, c.high),
     }
 }
 
@@ -160,7 +139,7 @@ pub fn put_core_values(row: &[u64], out: &mut [u64])
     let lo = word_of_bytes(row, ADDR);
     let hi = word_of_bytes(row, ADDR + 4);
     let top = top_value(row, lo, hi);
-    let last = bit(row[MU]);
+    let last = is_bit(row[MU]);
     put_lane_values(row, lo, hi, out);
     out[50] = top;
     out[51] = last;
@@ -211,7 +190,7 @@ pub fn core_value_failure(row: &[u64]) -> Place
     if top_value(row, lo, hi) != 0 {
         return Place::At(50);
     }
-    if bit(row[MU]) != 0 {
+    if is_bit(row[MU]) != 0 {
         return Place::At(51);
     }
     Place::Nowhere

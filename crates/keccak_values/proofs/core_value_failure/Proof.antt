@@ -47,11 +47,11 @@ returns-2 c =
     let told = c .before .before in
     sym (ap placeOf (at-hit _ 50 52 (omega arith) (lanes told) (fails _ 50 (c .before .top-value .ensures ∙ value-50 _) (c .if1 .taken))))
 
-shared-slice-read-bit : tie.Need-shared-slice-read-bit
-shared-slice-read-bit c = search needs
+shared-slice-read-is-bit : tie.Need-shared-slice-read-is-bit
+shared-slice-read-is-bit c = search needs
 
-bit-requires : tie.Need-bit-requires
-bit-requires c κs = c .before .before .before .before .before .before .before .before .before .pre .1 485 (omega arith)
+is-bit-requires : tie.Need-is-bit-requires
+is-bit-requires c κs = c .before .before .before .before .before .before .before .before .before .pre .1 485 (omega arith)
 
 returns-3 : tie.Need-returns-3
 unfolding valueFails
@@ -59,7 +59,7 @@ returns-3 c =
     let zero = c .before .before .before in
     let told = zero .before .before in
     let top = at-more _ 50 (lanes told) (holds _ 50 (zero .before .top-value .ensures ∙ value-50 _) (zero .if1 .left)) in
-    sym (ap placeOf (at-hit _ 51 52 (omega arith) top (fails _ 51 (c .before .bit .ensures ∙ value-51 _) (c .if2 .taken))))
+    sym (ap placeOf (at-hit _ 51 52 (omega arith) top (fails _ 51 (c .before .is-bit .ensures ∙ value-51 _) (c .if2 .taken))))
 
 returns-4 : tie.Need-returns-4
 unfolding valueFails
@@ -67,7 +67,7 @@ returns-4 c =
     let zero = c .before .before .before in
     let told = zero .before .before in
     let top = at-more _ 50 (lanes told) (holds _ 50 (zero .before .top-value .ensures ∙ value-50 _) (zero .if1 .left)) in
-    sym (ap placeOf (at-more _ 51 top (holds _ 51 (c .before .bit .ensures ∙ value-51 _) (c .if2 .left))))
+    sym (ap placeOf (at-more _ 51 top (holds _ 51 (c .before .is-bit .ensures ∙ value-51 _) (c .if2 .left))))
 
 pub core-value-failure-spec : {M : Type 1} → statement M
 core-value-failure-spec =
@@ -82,7 +82,7 @@ core-value-failure-spec =
     enum-told
     top-value-requires
     returns-2
-    shared-slice-read-bit
-    bit-requires
+    shared-slice-read-is-bit
+    is-bit-requires
     returns-3
     returns-4)

@@ -12,21 +12,21 @@ shared-slice-read-mu c = search needs
 carries-requires : tie.Need-carries-requires
 carries-requires c κs = search needs
 
-bit-if-requires : tie.Need-bit-if-requires
-bit-if-requires c κs = search needs
+is-bit-if-requires : tie.Need-is-bit-if-requires
+is-bit-if-requires c κs = search needs
 
-bit-if-requires-2 : tie.Need-bit-if-requires-2
-bit-if-requires-2 c κs = search needs
+is-bit-if-requires-2 : tie.Need-is-bit-if-requires-2
+is-bit-if-requires-2 c κs = search needs
 
 returns : tie.Need-returns
 returns c =
     let made = c .before .before in
     let s = made .before .before .before in (
-      c .before .bit-if .ensures ∙ ap (isBitIf _) (made .carries .ensures .0 .0) ∙ low-value (s .args .row .now) (s .pre .1) (s .args .i) (s .pre .2),
-      c .bit-if2 .ensures ∙ ap (isBitIf _) (made .carries .ensures .1 .0) ∙ high-value (s .args .row .now) (s .pre .1) (s .args .i) (s .pre .2),
+      c .before .is-bit-if .ensures ∙ ap (isBitIf _) (made .carries .ensures .0 .0) ∙ low-value (s .args .row .now) (s .pre .1) (s .args .i) (s .pre .2),
+      c .is-bit-if2 .ensures ∙ ap (isBitIf _) (made .carries .ensures .1 .0) ∙ high-value (s .args .row .now) (s .pre .1) (s .args .i) (s .pre .2),
     )
 
 pub lane-values-spec : {M : Type 1} → statement M
 lane-values-spec =
     tie.close
-    (tie.spec shared-slice-read-mu carries-requires bit-if-requires bit-if-requires-2 returns)
+    (tie.spec shared-slice-read-mu carries-requires is-bit-if-requires is-bit-if-requires-2 returns)

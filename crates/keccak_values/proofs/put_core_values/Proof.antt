@@ -19,11 +19,11 @@ word-of-bytes-requires-2 c κs = (omega arith, c .before .before .before .pre .1
 top-value-requires : tie.Need-top-value-requires
 top-value-requires c κs = search needs
 
-shared-slice-read-bit : tie.Need-shared-slice-read-bit
-shared-slice-read-bit c = search needs
+shared-slice-read-is-bit : tie.Need-shared-slice-read-is-bit
+shared-slice-read-is-bit c = search needs
 
-bit-requires : tie.Need-bit-requires
-bit-requires c κs = c .before .before .before .before .before .before .pre .1 485 (omega arith)
+is-bit-requires : tie.Need-is-bit-requires
+is-bit-requires c κs = c .before .before .before .before .before .before .pre .1 485 (omega arith)
 
 put-lane-values-requires : tie.Need-put-lane-values-requires
 put-lane-values-requires c κs =
@@ -47,7 +47,7 @@ returns c =
     let top = last .before .before in
     let s = top .before .before .before .before .before in
     let row = s .args .row .now in
-    last-two (s .args .out .now) _ (coreValue row) (put .put-lane-values .ensures) (top .top-value .ensures ∙ value-50 row) (last .bit .ensures ∙ value-51 row)
+    last-two (s .args .out .now) _ (coreValue row) (put .put-lane-values .ensures) (top .top-value .ensures ∙ value-50 row) (last .is-bit .ensures ∙ value-51 row)
 
 pub put-core-values-spec : {M : Type 1} → statement M
 put-core-values-spec =
@@ -57,8 +57,8 @@ put-core-values-spec =
     add-word-of-bytes
     word-of-bytes-requires-2
     top-value-requires
-    shared-slice-read-bit
-    bit-requires
+    shared-slice-read-is-bit
+    is-bit-requires
     put-lane-values-requires
     slice-write-out
     slice-write-out-2

@@ -1,9 +1,9 @@
--- `keccak_values::bit_if` meets its contract: the condition first, then x, then 1 - x. Assumes nothing.
+-- `add_template::is_bit_if` meets its contract: the condition first, then x, then 1 - x. Assumes nothing.
 use mathlib.Core.Path.{ap₂, _∙_}
-use Rattle.field.specs.Field.{fmul}
 use borrow.Author.Needs.{needs}
-use Rattle.keccak_values.proofs.bit_if.Statement.{statement}
-use Rattle.keccak_values.proofs.bit_if.Tie as tie
+use Rattle.field.specs.Field.{fmul}
+use Rattle.add_template.proofs.is_bit_if.Statement.{statement}
+use Rattle.add_template.proofs.is_bit_if.Tie as tie
 
 mul-requires : tie.Need-mul-requires
 mul-requires c κs = search needs
@@ -17,5 +17,5 @@ mul-requires-2 c κs = search needs
 returns : tie.Need-returns
 returns c = c .mul2 .ensures .0 ∙ ap₂ fmul (c .before .before .mul .ensures .0) (c .before .sub .ensures .0)
 
-pub bit-if-spec : {M : Type 1} → statement M
-bit-if-spec = tie.close (tie.spec mul-requires sub-requires mul-requires-2 returns)
+pub is-bit-if-spec : {M : Type 1} → statement M
+is-bit-if-spec = tie.close (tie.spec mul-requires sub-requires mul-requires-2 returns)
