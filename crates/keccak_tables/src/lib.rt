@@ -11,6 +11,7 @@ ghost use Rattle.lookup.specs.Tuple.{busNumber, sideNumber};
 ghost use Rattle.keccak_tables.specs.Flat.{flatAnswer, flatNumber, flatTuple, flatKey};
 
 pub mod core_calls;
+pub mod evaluators;
 pub mod lookups;
 pub mod round_calls;
 

@@ -1,0 +1,61 @@
+// The values and the tuples of a core row and of a round row.
+use super::FlatAnswer;
+use super::FlatTuple;
+use super::flat_answer;
+use super::flat_tuple;
+ghost use mathlib.Core.Path.{_≡_};
+ghost use Rattle.lookup.specs.Call.{tupleAnswerOf, tupleAfter};
+ghost use Rattle.evaluation.specs.Call.{valuesAnswer, valuesAfter};
+ghost use Rattle.keccak.specs.Columns as core;
+ghost use Rattle.keccak.specs.Values.{coreValue};
+ghost use Rattle.keccak.specs.Values as core-values;
+ghost use Rattle.keccak.specs.Tuples.{coreTuple};
+ghost use Rattle.keccak.specs.Tuples as core-tuples;
+ghost use Rattle.keccak_rnd.specs.Columns as round;
+ghost use Rattle.keccak_rnd.specs.Values.{roundValue};
+ghost use Rattle.keccak_rnd.specs.Values as round-values;
+ghost use Rattle.keccak_rnd.specs.Tuples.{roundTuple};
+ghost use Rattle.keccak_rnd.specs.Tuples as round-tuples;
+ghost use Rattle.keccak_tables.specs.Flat.{flatAnswer, flatTuple};
+
+#[no_mangle]
+pub extern "C" fn keccak_tables_keccak_values(row: &[u64], out: &mut [u64]) -> FlatAnswer
+    ensures answer { λ r. ⌜ r ≡ flatAnswer (valuesAnswer core.NUM-COLUMNS core-values.NUM-VALUES (now (row .entry)) (now (out .entry))) ⌝ }
+    ensures words { λ _. ⌜ now (out .exit) ≡ valuesAfter core.NUM-COLUMNS core-values.NUM-VALUES coreValue (now (row .entry)) (now (out .entry)) ⌝ }
+{
+    flat_answer(keccak_values::core_values(row, out))
+}
+
+#[no_mangle]
+pub extern "C" fn keccak_tables_keccak_rnd_values(row: &[u64], out: &mut [u64]) -> FlatAnswer
+    ensures answer { λ r. ⌜ r ≡ flatAnswer (valuesAnswer round.NUM-COLUMNS round-values.NUM-VALUES (now (row .entry)) (now (out .entry))) ⌝ }
+    ensures words { λ _. ⌜ now (out .exit) ≡ valuesAfter round.NUM-COLUMNS round-values.NUM-VALUES roundValue (now (row .entry)) (now (out .entry)) ⌝ }
+{
+    flat_answer(keccak_rnd_values::round_values(row, out))
+}
+
+// The syscall number stands in the row's Ecall tuple.
+#[no_mangle]
+pub extern "C" fn keccak_tables_keccak_bus_interaction(
+    row: &[u64],
+    index: usize,
+    syscall: u64,
+    out: &mut [u64],
+) -> FlatTuple
+    ensures answer { λ r. ⌜ r ≡ flatTuple (tupleAnswerOf core.NUM-COLUMNS core-tuples.NUM-TUPLES (coreTuple 24 syscall) (now (row .entry)) index (now (out .entry))) ⌝ }
+    ensures words { λ _. ⌜ now (out .exit) ≡ tupleAfter core.NUM-COLUMNS core-tuples.NUM-TUPLES (coreTuple 24 syscall) (now (row .entry)) index (now (out .entry)) ⌝ }
+{
+    flat_tuple(keccak_tuples::bus_interaction(row, index, syscall, out))
+}
+
+#[no_mangle]
+pub extern "C" fn keccak_tables_keccak_rnd_bus_interaction(
+    row: &[u64],
+    index: usize,
+    out: &mut [u64],
+) -> FlatTuple
+    ensures answer { λ r. ⌜ r ≡ flatTuple (tupleAnswerOf round.NUM-COLUMNS round-tuples.NUM-TUPLES roundTuple (now (row .entry)) index (now (out .entry))) ⌝ }
+    ensures words { λ _. ⌜ now (out .exit) ≡ tupleAfter round.NUM-COLUMNS round-tuples.NUM-TUPLES roundTuple (now (row .entry)) index (now (out .entry)) ⌝ }
+{
+    flat_tuple(keccak_rnd_tuples::bus_interaction(row, index, out))
+}
