@@ -50,10 +50,10 @@ pub struct FlatKey {
     pub half: u64,
 }
 
-/// Declares functions of the archive, and for each a safe one on slices.
+/// Declares functions of the archive, and for each a safe one on slices: `name = symbol(arguments) -> answer`.
 ///
-/// `read` arguments are `&[u64]`, then the `plain` ones are numbers, then `written` ones are `&mut [u64]`; the order of
-/// the declaration is the order of the call.
+/// A `read` argument is a `&[u64]`, a `write` argument a `&mut [u64]`, a `number` argument is passed as it is. Their order is
+/// that of the function in `crates/keccak_tables/src`; nothing but the differential runs checks it.
 macro_rules! bind {
     ($($name:ident = $symbol:ident ( $($kind:ident $argument:ident $(: $type:ty)?),* ) -> $answer:ty;)*) => {
         $(

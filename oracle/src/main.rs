@@ -12,7 +12,7 @@ usage: oracle row bitwise INDEX | row keccak_rc ROUND | table keccak_rc N | padd
        oracle values core | values round                         (rows on standard input)
        oracle tuples bitwise | tuples keccak_rc | tuples is_wh | tuples core SYSCALL | tuples round
                                                                  (rows on standard input)
-       oracle operations SEED N | sample tables | sample core | sample round | sample rows
+       oracle operations SEED N | sample tables | sample core | sample round | sample rows | sample lookups
 Words on standard input are decimal, separated by white space.";
 
 /// One line of numbers.
@@ -59,6 +59,7 @@ fn answer(arguments: &[&str]) -> Result<Vec<Line>, String> {
         ["sample", "core"] => sample::core(),
         ["sample", "round"] => sample::round(),
         ["sample", "rows"] => sample::rows(),
+        ["sample", "lookups"] => sample::lookups(),
         _ => return Err(USAGE.into()),
     })
 }

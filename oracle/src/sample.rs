@@ -108,6 +108,11 @@ pub fn tables() -> Vec<Line> {
     lines
 }
 
+/// The same without what the template IS_WHH sends: its tuples are those of core rows.
+pub fn lookups() -> Vec<Line> {
+    tables().into_iter().filter(|line| line[0] != 7).collect()
+}
+
 /// The sample of core rows: five operations' table and keys, then three rows of drawn words.
 pub fn core() -> Vec<Line> {
     let operations = operations(2, 5);
@@ -141,27 +146,18 @@ pub fn round() -> Vec<Line> {
     lines
 }
 
-/// The sample of rows, for a program that replays rows alone: bitwise rows, constant rows, five operations, their keys and
-/// their core table, and the digests of the round table of the first two.
+/// The sample of rows, for a program that replays rows alone: five operations, their keys and their core table, and the
+/// digests of the round table of the first two.
 pub fn rows() -> Vec<Line> {
-    let chosen = [0, 266_804, 1_048_575];
-    let drawn = Generator::new(6).words(50).into_iter().map(|word| word % 1_048_576);
-    let mut lines: Vec<Line> = chosen
-        .into_iter()
-        .chain(drawn)
-        .map(|index| line(17, &[index], &bitwise_row(index as usize)))
-        .collect();
-    lines.extend(numbered(3, &keccak_rc_table(7), KECCAK_RC_COLUMNS));
-
     let operations = operations(2, 5);
-    lines.extend(operation_lines(&operations));
-    lines.extend(numbered(10, &is_wh_keys(&operations), 2));
-    lines.extend(numbered(11, &core_table(&operations), CORE_COLUMNS));
-    let digests = round_table(&operations[..2 * OPERATION_WORDS])
+    let digests: Vec<u64> = round_table(&operations[..2 * OPERATION_WORDS])
         .chunks_exact(ROUND_COLUMNS)
         .map(digest)
-        .collect::<Vec<u64>>();
-    lines.extend(numbered(18, &digests, 1));
+        .collect();
+    let mut lines = operation_lines(&operations);
+    lines.extend(numbered(10, &is_wh_keys(&operations), 2));
+    lines.extend(numbered(11, &core_table(&operations), CORE_COLUMNS));
+    lines.extend(numbered(17, &digests, 1));
     lines
 }
 

@@ -401,7 +401,8 @@ fn samples_are_fixed() {
 fn sampled_rows_are_fixed() {
     let rows = sample::rows();
     let of_kind = |kind| rows.iter().filter(|line| line[0] == kind).count();
-    assert_eq!([17, 3, 9, 10, 11, 18].map(of_kind), [53, 32, 5, 125, 8, 64]);
+    assert_eq!([9, 10, 11, 17].map(of_kind), [5, 125, 8, 64]);
+    assert_eq!(sample::lookups().len(), sample::tables().len() - 100);
     assert_eq!(sample::digest(&[]), 0);
     assert_eq!(sample::digest(&[1, 2]), Generator::FACTOR + 2);
     // Padding rows of a round table are zero.

@@ -1,6 +1,11 @@
-// Prints rows that the proved code writes. The file `stdout` has the same lines from the published Rust: it is what the
-// oracle prints for `sample rows`. Each line starts with the kind of its item and its number.
+// Prints rows, keys and tuples that the proved code computes. The file `stdout` has the same lines from the published Rust:
+// it is what the oracle prints for `sample rows`, then for `sample lookups`. Each line starts with the kind of its item.
 use field::Fe;
+use is_wh::IsWhKey;
+use keccak_tables::FlatTuple;
+use keccak_tables::lookups::keccak_tables_bitwise_bus_interaction;
+use keccak_tables::lookups::keccak_tables_is_wh_bus_interaction;
+use keccak_tables::lookups::keccak_tables_keccak_rc_bus_interaction;
 use libc::STDOUT_FILENO;
 use lists::put_words;
 use permutation::State;
@@ -32,12 +37,16 @@ fn print_next(n: u64) {
     io::print_decimal(STDOUT_FILENO, n);
 }
 
-fn print_line(kind: u64, number: u64, words: &[u64]) {
-    io::print_decimal(STDOUT_FILENO, kind);
-    print_next(number);
+fn print_words(words: &[u64]) {
     for k in 0..words.len() {
         print_next(words[k]);
     }
+}
+
+fn print_line(kind: u64, number: u64, words: &[u64]) {
+    io::print_decimal(STDOUT_FILENO, kind);
+    print_next(number);
+    print_words(words);
     print_newline();
 }
 
@@ -77,42 +86,18 @@ fn print_digests(kind: u64, words: &[u64], width: usize)
     }
 }
 
-fn print_bitwise_row(index: u64) {
-    let mut row = [0u64; 11];
-    bitwise::generate_bitwise_row(index as usize, &mut row);
-    print_line(17, index, &row);
-}
-
-// Three chosen rows, and fifty drawn ones.
-fn bitwise_rows() {
-    print_bitwise_row(0);
-    print_bitwise_row(266804);
-    print_bitwise_row(1048575);
-    let mut word: u64 = 6;
+// n words from `at` on, drawn after a word. Answers the last one.
+fn put_drawn(words: &mut [u64], at: usize, n: usize, before: u64) -> u64
+    requires { ⌜ at + n ≤ length (now words) ⌝ }
+{
+    let mut word = before;
     let mut k: usize = 0;
-    while k < 50 {
+    while k < n {
         word = next_word(word);
-        print_bitwise_row(word % 1048576);
+        words[at + k] = word;
         k += 1;
     }
-}
-
-fn constant_rows() {
-    let mut table = [0u64; 320];
-    keccak_rc::generate_keccak_rc_trace(&mut table);
-    keccak_rc::update_multiplicities(&mut table, 7);
-    print_rows(3, &table, 10);
-}
-
-// The 25 words drawn after a word.
-fn drawn_lanes(before: u64) -> [u64; 25] {
-    let mut lanes = [0u64; 25];
-    let mut word = before;
-    for k in 0..25 {
-        word = next_word(word);
-        lanes[k] = word;
-    }
-    lanes
+    word
 }
 
 // Keccak-f[1600] of 25 lanes.
@@ -128,13 +113,14 @@ fn put_operation(ops: &mut [u64], at: usize, before: u64) -> u64
 {
     let timestamp = next_word(before);
     let address = next_word(timestamp);
-    let input = drawn_lanes(address);
+    let mut input = [0u64; 25];
+    let last = put_drawn(&mut input, 0, 25, address);
     let output = permuted(input);
     let head = [timestamp, address % 281474976710656 / 8 * 8];
     put_words(ops, at, &head, 2);
     put_words(ops, at + 2, &input, 25);
     put_words(ops, at + 27, &output, 25);
-    input[24]
+    last
 }
 
 fn put_operations(ops: &mut [u64])
@@ -160,7 +146,7 @@ fn round_rows(ops: &[u64])
 {
     let mut table = [0u64; 94720];
     keccak_rnd_trace::generate_keccak_rnd_trace(&ops[..104], &mut table);
-    print_digests(18, &table, 1480);
+    print_digests(17, &table, 1480);
 }
 
 // Five operations: their words, their keys, their core table, and of the first two the round table's digests.
@@ -172,8 +158,121 @@ fn operations() {
     round_rows(&ops);
 }
 
+// Tuple `index` of item `number`: bus, side, multiplicity, length, and its values, for which the slice has room.
+fn print_tuple(kind: u64, number: u64, index: usize, tuple: FlatTuple, values: &[u64]) {
+    let length = tuple.length as usize;
+    if length > values.len() {
+        return;
+    }
+    io::print_decimal(STDOUT_FILENO, kind);
+    print_next(number);
+    print_words(
+        &[
+            index as u64,
+            tuple.bus,
+            tuple.side,
+            tuple.multiplicity,
+            tuple.length,
+        ],
+    );
+    print_words(&values[0..length]);
+    print_newline();
+}
+
+// The ten tuples of a bitwise row.
+fn print_bitwise_tuples(number: u64, row: &[u64]) {
+    let mut i: usize = 0;
+    while i < 10 {
+        let mut out = [0u64; 4];
+        let tuple = keccak_tables_bitwise_bus_interaction(row, i, &mut out);
+        print_tuple(2, number, i, tuple, &out);
+        i += 1;
+    }
+}
+
+// The row of an index, with ten multiplicities drawn after a word, and its tuples. Answers the last word drawn.
+fn print_drawn_bitwise(index: u64, before: u64) -> u64 {
+    let mut row = [0u64; 21];
+    bitwise::generate_bitwise_row(index as usize, &mut row);
+    let last = put_drawn(&mut row, 11, 10, before);
+    print_line(1, index, &row);
+    print_bitwise_tuples(index, &row);
+    last
+}
+
+// The rows of three chosen indexes and of fifty that are drawn before all multiplicities. Answers the last word drawn.
+fn bitwise_lookups(before: u64) -> u64 {
+    let mut drawn = [0u64; 50];
+    let mut word = put_drawn(&mut drawn, 0, 50, before);
+    word = print_drawn_bitwise(0, word);
+    word = print_drawn_bitwise(266804, word);
+    word = print_drawn_bitwise(1048575, word);
+    let mut k: usize = 0;
+    while k < 50 {
+        word = print_drawn_bitwise(drawn[k] % 1048576, word);
+        k += 1;
+    }
+    word
+}
+
+// A constant row and its tuple.
+fn print_constant(round: u64, row: &[u64]) {
+    print_line(3, round, row);
+    let mut out = [0u64; 9];
+    let tuple = keccak_tables_keccak_rc_bus_interaction(row, 0, &mut out);
+    print_tuple(4, round, 0, tuple, &out);
+}
+
+fn constant_lookups() {
+    let mut table = [0u64; 320];
+    keccak_rc::generate_keccak_rc_trace(&mut table);
+    keccak_rc::update_multiplicities(&mut table, 7);
+    for round in 0..32 {
+        print_constant(round as u64, &table[10 * round..10 * round + 10]);
+    }
+}
+
+// The five tuples of a row of keys.
+fn print_key_tuples(number: u64, row: &[u64]) {
+    let mut i: usize = 0;
+    while i < 5 {
+        let mut out = [0u64; 2];
+        let tuple = keccak_tables_is_wh_bus_interaction(row, i, &mut out);
+        print_tuple(8, number, i, tuple, &out);
+        i += 1;
+    }
+}
+
+// The key of a value, its row with a multiplicity drawn after a word, and the row's tuples. Answers that multiplicity.
+fn print_key(number: u64, value: u64, before: u64) -> u64 {
+    let key = IsWhKey::of_dword(value);
+    let last = next_word(before);
+    let row = [value % 65536, key.half, key.word, last];
+    print_line(5, number, &[value, key.word, key.half]);
+    print_line(6, number, &row);
+    print_key_tuples(number, &row);
+    last
+}
+
+// Five chosen values, and 45 that are drawn before all multiplicities.
+fn key_lookups(before: u64) {
+    let mut drawn = [0u64; 45];
+    let mut word = put_drawn(&mut drawn, 0, 45, before);
+    word = print_key(0, 0, word);
+    word = print_key(1, 65535, word);
+    word = print_key(2, 65536, word);
+    word = print_key(3, 4294967296, word);
+    word = print_key(4, 18446744073709551615, word);
+    let mut k: usize = 0;
+    while k < 45 {
+        word = print_key(5 + k as u64, drawn[k], word);
+        k += 1;
+    }
+}
+
 fn main() {
-    bitwise_rows();
-    constant_rows();
     operations();
+    let word = bitwise_lookups(1);
+    constant_lookups();
+    key_lookups(word);
 }

@@ -4,8 +4,10 @@
 //! The published table writers allocate the table that they return, zeroed, and so `ratio core` and `ratio round` time
 //! ours with an allocation of its own too: `vec![0; words]`, then the call. `ratio core-lent` and `ratio round-lent` time
 //! our call alone, into memory that the caller keeps, against the same call of theirs. What it takes to allocate the zeros
-//! alone is printed beside them. Dropping a table is not timed. Tables are small enough (below 32 MB) for the allocator to
-//! hand out the same memory again and again, so no run pays for memory that was never touched.
+//! alone is printed beside them. Dropping a table is not timed. The Rust's operations are unpacked before, ours are a flat
+//! list. The tables are of a megabyte or three, so that the caches hold them; `-large` is the same with 16 and 24
+//! megabytes, where memory has its part in the time. All are small enough (below 32 MB) for the allocator to hand out the
+//! same memory again and again, so no run pays for memory that was never touched.
 
 use std::hint::black_box;
 use std::process::ExitCode;
@@ -15,8 +17,9 @@ use compare::inputs::Words;
 use keccak_tables::{Operation, bitwise, keccak, keccak_rc, keccak_rnd};
 use oracle::tables;
 
-/// Runs of each.
-const RUNS: usize = 60;
+/// Runs of each, of a table that the caches hold and of a large one.
+const RUNS: usize = 400;
+const LARGE_RUNS: usize = 40;
 
 fn main() -> ExitCode {
     let arguments: Vec<String> = std::env::args().skip(1).collect();
@@ -24,8 +27,10 @@ fn main() -> ExitCode {
         eprintln!("usage: bench rows");
         return ExitCode::from(2);
     }
-    core_rows();
-    round_rows();
+    core_rows("core", 256, RUNS);
+    round_rows("round", 10, RUNS);
+    core_rows("core-large", 4096, LARGE_RUNS);
+    round_rows("round-large", 85, LARGE_RUNS);
     bitwise_rows();
     constant_table();
     ExitCode::SUCCESS
@@ -49,10 +54,10 @@ fn time<T>(call: impl FnOnce() -> T) -> Duration {
     time
 }
 
-/// The best of [`RUNS`] runs of each call, one after the other in turn.
-fn best<const N: usize>(mut calls: [Box<dyn FnMut() -> Duration + '_>; N]) -> [Duration; N] {
+/// The best of some runs of each call, one after the other in turn.
+fn best<const N: usize>(runs: usize, mut calls: [Box<dyn FnMut() -> Duration + '_>; N]) -> [Duration; N] {
     let mut best = [Duration::MAX; N];
-    for _ in 0..RUNS {
+    for _ in 0..runs {
         for (call, best) in calls.iter_mut().zip(&mut best) {
             *best = call().min(*best);
         }
@@ -80,9 +85,9 @@ fn table(name: &str, rows: usize, times: [Duration; 4]) {
     ratio(&format!("{name}-lent"), lent, rust);
 }
 
-fn core_rows() {
-    let rows = 4096;
-    let operations = operations(rows);
+fn core_rows(name: &str, n: usize, runs: usize) {
+    let rows = n.next_power_of_two();
+    let operations = operations(n);
     let ops = flat(&operations);
     let theirs: Vec<tables::keccak::KeccakOperation> = operations
         .iter()
@@ -95,20 +100,21 @@ fn core_rows() {
         .collect();
     let words = rows * keccak::NUM_COLUMNS;
     let mut lent = vec![1; words];
-    println!("core rows, {rows} operations: time of a row");
-    let times = best([
-        Box::new(|| time(|| keccak::keccak_table(black_box(&ops)))),
-        Box::new(|| time(|| keccak::generate_keccak_trace(black_box(&ops), black_box(&mut lent)))),
-        Box::new(|| time(|| tables::keccak::generate_keccak_trace(black_box(&theirs)))),
-        Box::new(|| time(|| vec![0u64; black_box(words)])),
-    ]);
-    table("core", rows, times);
+    println!("{name}, {n} operations, {rows} rows: time of a row");
+    let times = best(
+        runs,
+        [
+            Box::new(|| time(|| keccak::keccak_table(black_box(&ops)))),
+            Box::new(|| time(|| keccak::generate_keccak_trace(black_box(&ops), black_box(&mut lent)))),
+            Box::new(|| time(|| tables::keccak::generate_keccak_trace(black_box(&theirs)))),
+            Box::new(|| time(|| vec![0u64; black_box(words)])),
+        ],
+    );
+    table(name, rows, times);
 }
 
-fn round_rows() {
-    // 2,040 rows and 8 of padding.
-    let n = 85;
-    let rows = 2048;
+fn round_rows(name: &str, n: usize, runs: usize) {
+    let rows = (24 * n).next_power_of_two();
     let operations = operations(n);
     let ops = flat(&operations);
     let theirs: Vec<tables::keccak_rnd::KeccakRoundOperation> = operations
@@ -121,14 +127,17 @@ fn round_rows() {
         .collect();
     let words = rows * keccak_rnd::NUM_COLUMNS;
     let mut lent = vec![1; words];
-    println!("round rows, {n} operations: time of a row");
-    let times = best([
-        Box::new(|| time(|| keccak_rnd::keccak_rnd_table(black_box(&ops)))),
-        Box::new(|| time(|| keccak_rnd::generate_keccak_rnd_trace(black_box(&ops), black_box(&mut lent)))),
-        Box::new(|| time(|| tables::keccak_rnd::generate_keccak_rnd_trace(black_box(&theirs)))),
-        Box::new(|| time(|| vec![0u64; black_box(words)])),
-    ]);
-    table("round", rows, times);
+    println!("{name}, {n} operations, {rows} rows: time of a row");
+    let times = best(
+        runs,
+        [
+            Box::new(|| time(|| keccak_rnd::keccak_rnd_table(black_box(&ops)))),
+            Box::new(|| time(|| keccak_rnd::generate_keccak_rnd_trace(black_box(&ops), black_box(&mut lent)))),
+            Box::new(|| time(|| tables::keccak_rnd::generate_keccak_rnd_trace(black_box(&theirs)))),
+            Box::new(|| time(|| vec![0u64; black_box(words)])),
+        ],
+    );
+    table(name, rows, times);
 }
 
 /// All 2^20 bitwise rows, one call each: ours into a lent row of 11 words, theirs a returned array.
@@ -146,7 +155,7 @@ fn bitwise_rows() {
             black_box(tables::bitwise::generate_bitwise_row(black_box(index)));
         }
     };
-    let [ours, rust] = best([Box::new(|| time(ours)), Box::new(|| time(rust))]);
+    let [ours, rust] = best(LARGE_RUNS, [Box::new(|| time(ours)), Box::new(|| time(rust))]);
     line("ours, into a lent row", ours, bitwise::NUM_ROWS);
     line("the Rust, a returned array", rust, bitwise::NUM_ROWS);
     ratio("bitwise", ours, rust);
@@ -171,7 +180,7 @@ fn constant_table() {
             black_box(trace);
         }
     };
-    let [ours, rust] = best([Box::new(|| time(ours)), Box::new(|| time(rust))]);
+    let [ours, rust] = best(LARGE_RUNS, [Box::new(|| time(ours)), Box::new(|| time(rust))]);
     line("ours", ours, TIMES);
     line("the Rust", rust, TIMES);
     ratio("constants", ours, rust);
