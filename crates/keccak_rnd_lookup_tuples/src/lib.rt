@@ -246,7 +246,7 @@ fn chi_tuple(row: &[u64], x: usize, y: usize, b: usize, out: &mut [u64]) -> BusI
     send_alu(row[MU], XOR, pi, ands, chi, out)
 }
 
-// Tuple `index` from 1023 on: ι adds the constant to lane (0, 0).
+// ι adds the constant to lane (0, 0).
 fn iota_tuple(row: &[u64], b: usize, out: &mut [u64]) -> BusInteraction
     requires { ⌜ (1480 ≤ length (now row)) × (b < 8) × (4 ≤ length (now out)) ⌝ }
     ensures answer { λ r. ⌜ r ≡ interactionOf (iotaTuple (now (row .entry)) b) ⌝ }

@@ -1,17 +1,18 @@
 -- `keccak_rnd_lookup_tuples::chi_ands_tuple` meets its contract: three words are read and sent. Assumes nothing.
+use native.Mathlib.Omega.{arith}
 use Rattle.keccak_rnd_lookup_tuples.proofs.Tuples.{alu-words}
 use borrow.Author.Needs.{needs}
 use Rattle.keccak_rnd_lookup_tuples.proofs.chi_ands_tuple.Statement.{statement}
 use Rattle.keccak_rnd_lookup_tuples.proofs.chi_ands_tuple.Tie as tie
 
 add-not-pi-at : tie.Need-add-not-pi-at
-add-not-pi-at c = search needs
+add-not-pi-at c = omega arith
 
 not-pi-at-requires : tie.Need-not-pi-at-requires
 not-pi-at-requires c κs = search needs
 
 add-pi-at : tie.Need-add-pi-at
-add-pi-at c = search needs
+add-pi-at c = omega arith
 
 pi-at-requires : tie.Need-pi-at-requires
 pi-at-requires c κs = search needs
@@ -20,7 +21,7 @@ lane-byte-requires : tie.Need-lane-byte-requires
 lane-byte-requires c κs = search needs
 
 shared-slice-read-send-alu : tie.Need-shared-slice-read-send-alu
-shared-slice-read-send-alu c = search needs
+shared-slice-read-send-alu c = omega arith
 
 send-alu-requires : tie.Need-send-alu-requires
 send-alu-requires c κs = search needs

@@ -1,4 +1,5 @@
 -- `keccak_rnd_lookup_tuples::chi_tuple` meets its contract: three words are read and sent. Assumes nothing.
+use native.Mathlib.Omega.{arith}
 use Rattle.keccak_rnd_lookup_tuples.proofs.Tuples.{alu-words}
 use borrow.Author.Needs.{needs}
 use Rattle.keccak_rnd_lookup_tuples.proofs.chi_tuple.Statement.{statement}
@@ -14,7 +15,7 @@ lane-byte-requires-2 : tie.Need-lane-byte-requires-2
 lane-byte-requires-2 c κs = search needs
 
 shared-slice-read-send-alu : tie.Need-shared-slice-read-send-alu
-shared-slice-read-send-alu c = search needs
+shared-slice-read-send-alu c = omega arith
 
 send-alu-requires : tie.Need-send-alu-requires
 send-alu-requires c κs = search needs

@@ -9,31 +9,31 @@ use Rattle.keccak_rnd_lookup_tuples.proofs.cxz_left_tuple.Statement.{st
 use Rattle.keccak_rnd_lookup_tuples.proofs.cxz_left_tuple.Tie as tie
 
 mul-at : tie.Need-mul-at
-mul-at c = search needs
+mul-at c = omega arith
 
 add-at : tie.Need-add-at
-add-at c = search needs
+add-at c = omega arith
 
 mul-at-2 : tie.Need-mul-at-2
-mul-at-2 c = search needs
+mul-at-2 c = omega arith
 
 add-at-2 : tie.Need-add-at-2
-add-at-2 c = search needs
+add-at-2 c = omega arith
 
 mul-send-bytes : tie.Need-mul-send-bytes
-mul-send-bytes c = search needs
+mul-send-bytes c = omega arith
 
 shared-slice-read-send-bytes : tie.Need-shared-slice-read-send-bytes
-shared-slice-read-send-bytes c = search needs
+shared-slice-read-send-bytes c = omega arith
 
 add-send-bytes : tie.Need-add-send-bytes
-add-send-bytes c = search needs
+add-send-bytes c = omega arith
 
 mul-send-bytes-2 : tie.Need-mul-send-bytes-2
-mul-send-bytes-2 c = search needs
+mul-send-bytes-2 c = omega arith
 
 shared-slice-read-send-bytes-2 : tie.Need-shared-slice-read-send-bytes-2
-shared-slice-read-send-bytes-2 c = search needs
+shared-slice-read-send-bytes-2 c = omega arith
 
 send-bytes-requires : tie.Need-send-bytes-requires
 send-bytes-requires c κs = search needs

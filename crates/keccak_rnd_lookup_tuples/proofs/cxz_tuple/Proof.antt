@@ -1,4 +1,5 @@
 -- `keccak_rnd_lookup_tuples::cxz_tuple` meets its contract: three words are read and sent. Assumes nothing.
+use native.Mathlib.Omega.{arith}
 use Rattle.keccak_rnd_lookup_tuples.proofs.Tuples.{alu-words}
 use borrow.Author.Needs.{needs}
 use Rattle.keccak_rnd_lookup_tuples.proofs.cxz_tuple.Statement.{statement}
@@ -8,19 +9,19 @@ cxz-byte-requires : tie.Need-cxz-byte-requires
 cxz-byte-requires c κs = search needs
 
 add-lane-byte : tie.Need-add-lane-byte
-add-lane-byte c = search needs
+add-lane-byte c = omega arith
 
 lane-byte-requires : tie.Need-lane-byte-requires
 lane-byte-requires c κs = search needs
 
 add-cxz-byte : tie.Need-add-cxz-byte
-add-cxz-byte c = search needs
+add-cxz-byte c = omega arith
 
 cxz-byte-requires-2 : tie.Need-cxz-byte-requires-2
 cxz-byte-requires-2 c κs = search needs
 
 shared-slice-read-send-alu : tie.Need-shared-slice-read-send-alu
-shared-slice-read-send-alu c = search needs
+shared-slice-read-send-alu c = omega arith
 
 send-alu-requires : tie.Need-send-alu-requires
 send-alu-requires c κs = search needs

@@ -1,4 +1,5 @@
 -- `keccak_rnd_lookup_tuples::dxz_tuple` meets its contract: three words are read and sent. Assumes nothing.
+use native.Mathlib.Omega.{arith}
 use mathlib.Core.Path.{refl}
 use Rattle.keccak_rnd_lookup_tuples.proofs.Tuples.{alu-words}
 use borrow.Author.Needs.{needs}
@@ -6,34 +7,34 @@ use Rattle.keccak_rnd_lookup_tuples.proofs.dxz_tuple.Statement.{stateme
 use Rattle.keccak_rnd_lookup_tuples.proofs.dxz_tuple.Tie as tie
 
 add-cxz-byte : tie.Need-add-cxz-byte
-add-cxz-byte c = search needs
+add-cxz-byte c = omega arith
 
 cxz-byte-requires : tie.Need-cxz-byte-requires
 cxz-byte-requires c κs = search needs
 
 add-rotated-c : tie.Need-add-rotated-c
-add-rotated-c c = search needs
+add-rotated-c c = omega arith
 
 rotated-c-requires : tie.Need-rotated-c-requires
 rotated-c-requires c κs = search needs
 
 shared-slice-read-send-alu : tie.Need-shared-slice-read-send-alu
-shared-slice-read-send-alu c = search needs
+shared-slice-read-send-alu c = omega arith
 
 mul-send-alu : tie.Need-mul-send-alu
-mul-send-alu c = search needs
+mul-send-alu c = omega arith
 
 add-send-alu : tie.Need-add-send-alu
-add-send-alu c = search needs
+add-send-alu c = omega arith
 
 add-send-alu-2 : tie.Need-add-send-alu-2
-add-send-alu-2 c = search needs
+add-send-alu-2 c = omega arith
 
 mul-send-alu-2 : tie.Need-mul-send-alu-2
-mul-send-alu-2 c = search needs
+mul-send-alu-2 c = omega arith
 
 shared-slice-read-send-alu-2 : tie.Need-shared-slice-read-send-alu-2
-shared-slice-read-send-alu-2 c = search needs
+shared-slice-read-send-alu-2 c = omega arith
 
 send-alu-requires : tie.Need-send-alu-requires
 send-alu-requires c κs = search needs

@@ -6,7 +6,7 @@ use Rattle.keccak_rnd_lookup_tuples.proofs.lane_tuple.Statement.{statem
 use Rattle.keccak_rnd_lookup_tuples.proofs.lane_tuple.Tie as tie
 
 sub-i : tie.Need-sub-i
-sub-i c = search needs
+sub-i c = omega arith
 
 theta-tuple-requires : tie.Need-theta-tuple-requires
 theta-tuple-requires c κs = (c .before .before .before .before .pre .0, omega arith, omega arith, omega arith, fits _ (at-theta _ _ (c .before .before .before .before .pre .2) (c .before .if1 .taken)) (c .before .before .before .before .pre .4))

@@ -6,7 +6,7 @@ use Rattle.keccak_rnd_lookup_tuples.proofs.parity_tuple.Statement.{stat
 use Rattle.keccak_rnd_lookup_tuples.proofs.parity_tuple.Tie as tie
 
 sub-i : tie.Need-sub-i
-sub-i c = search needs
+sub-i c = omega arith
 
 cxz-tuple-0-requires : tie.Need-cxz-tuple-0-requires
 cxz-tuple-0-requires c κs = (c .before .before .before .before .pre .0, omega arith, omega arith, fits _ (at-cxz-0 _ _ (c .before .before .before .before .pre .2) (c .before .if1 .taken)) (c .before .before .before .before .pre .4))

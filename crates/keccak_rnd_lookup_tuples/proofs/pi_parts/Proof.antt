@@ -1,14 +1,15 @@
 -- `keccak_rnd_lookup_tuples::pi_parts` meets its contract: the two words stand in the columns that the offset names. Assumes nothing.
+use native.Mathlib.Omega.{arith}
 use Rattle.keccak_rnd_lookup_tuples.proofs.Tuples.{left-word, right-word}
 use borrow.Author.Needs.{needs}
 use Rattle.keccak_rnd_lookup_tuples.proofs.pi_parts.Statement.{statement}
 use Rattle.keccak_rnd_lookup_tuples.proofs.pi_parts.Tie as tie
 
 mul-from : tie.Need-mul-from
-mul-from c = search needs
+mul-from c = omega arith
 
 add-from : tie.Need-add-from
-add-from c = search needs
+add-from c = omega arith
 
 rho-offset-requires : tie.Need-rho-offset-requires
 rho-offset-requires c κs = search needs
@@ -17,22 +18,22 @@ cast-moved : tie.Need-cast-moved
 cast-moved c = search needs
 
 mul-moved : tie.Need-mul-moved
-mul-moved c = search needs
+mul-moved c = omega arith
 
 sub-lane-byte : tie.Need-sub-lane-byte
-sub-lane-byte c = search needs
+sub-lane-byte c = omega arith
 
 add-lane-byte : tie.Need-add-lane-byte
-add-lane-byte c = search needs
+add-lane-byte c = omega arith
 
 lane-byte-requires : tie.Need-lane-byte-requires
 lane-byte-requires c κs = search needs
 
 sub-lane-byte-2 : tie.Need-sub-lane-byte-2
-sub-lane-byte-2 c = search needs
+sub-lane-byte-2 c = omega arith
 
 add-lane-byte-2 : tie.Need-add-lane-byte-2
-add-lane-byte-2 c = search needs
+add-lane-byte-2 c = omega arith
 
 lane-byte-requires-2 : tie.Need-lane-byte-requires-2
 lane-byte-requires-2 c κs = search needs

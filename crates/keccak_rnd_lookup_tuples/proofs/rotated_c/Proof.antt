@@ -2,45 +2,44 @@
 use Prim.Native.Nat.{_+_, _*_, _/_, _%_}
 use native.Mathlib.Omega.{arith}
 use Rattle.keccak_rnd_lookup_tuples.proofs.Tuples.{odd-byte, even-byte}
-use borrow.Author.Needs.{needs}
 use Rattle.keccak_rnd_lookup_tuples.proofs.rotated_c.Statement.{statement}
 use Rattle.keccak_rnd_lookup_tuples.proofs.rotated_c.Tie as tie
 
 mul-left : tie.Need-mul-left
-mul-left c = search needs
+mul-left c = omega arith
 
 add-left : tie.Need-add-left
-add-left c = search needs
+add-left c = omega arith
 
 add-left-2 : tie.Need-add-left-2
-add-left-2 c = search needs
+add-left-2 c = omega arith
 
 mul-left-2 : tie.Need-mul-left-2
-mul-left-2 c = search needs
+mul-left-2 c = omega arith
 
 shared-slice-read-left : tie.Need-shared-slice-read-left
-shared-slice-read-left c = search needs
+shared-slice-read-left c = omega arith
 
 returns : tie.Need-returns
 returns c = let a = c .before .before .before .args in odd-byte (a .row .now) (a .x) (a .b) (c .if1 .taken)
 
 mul-carry : tie.Need-mul-carry
-mul-carry c = search needs
+mul-carry c = omega arith
 
 add-carry : tie.Need-add-carry
-add-carry c = search needs
+add-carry c = omega arith
 
 add-carry-2 : tie.Need-add-carry-2
-add-carry-2 c = search needs
+add-carry-2 c = omega arith
 
 add-carry-3 : tie.Need-add-carry-3
-add-carry-3 c = search needs
+add-carry-3 c = omega arith
 
 mul-carry-2 : tie.Need-mul-carry-2
-mul-carry-2 c = search needs
+mul-carry-2 c = omega arith
 
 shared-slice-read-carry : tie.Need-shared-slice-read-carry
-shared-slice-read-carry c = search needs
+shared-slice-read-carry c = omega arith
 
 add-requires : tie.Need-add-requires
 add-requires c κs =

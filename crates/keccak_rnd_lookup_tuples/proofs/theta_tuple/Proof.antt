@@ -1,4 +1,5 @@
 -- `keccak_rnd_lookup_tuples::theta_tuple` meets its contract: three words are read and sent. Assumes nothing.
+use native.Mathlib.Omega.{arith}
 use mathlib.Core.Path.{refl}
 use Rattle.keccak_rnd_lookup_tuples.proofs.Tuples.{alu-words}
 use borrow.Author.Needs.{needs}
@@ -12,22 +13,22 @@ lane-byte-requires-2 : tie.Need-lane-byte-requires-2
 lane-byte-requires-2 c κs = search needs
 
 shared-slice-read-send-alu : tie.Need-shared-slice-read-send-alu
-shared-slice-read-send-alu c = search needs
+shared-slice-read-send-alu c = omega arith
 
 mul-send-alu : tie.Need-mul-send-alu
-mul-send-alu c = search needs
+mul-send-alu c = omega arith
 
 add-send-alu : tie.Need-add-send-alu
-add-send-alu c = search needs
+add-send-alu c = omega arith
 
 add-send-alu-2 : tie.Need-add-send-alu-2
-add-send-alu-2 c = search needs
+add-send-alu-2 c = omega arith
 
 mul-send-alu-2 : tie.Need-mul-send-alu-2
-mul-send-alu-2 c = search needs
+mul-send-alu-2 c = omega arith
 
 shared-slice-read-send-alu-2 : tie.Need-shared-slice-read-send-alu-2
-shared-slice-read-send-alu-2 c = search needs
+shared-slice-read-send-alu-2 c = omega arith
 
 send-alu-requires : tie.Need-send-alu-requires
 send-alu-requires c κs = search needs
