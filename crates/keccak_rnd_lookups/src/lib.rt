@@ -1,11 +1,11 @@
 // tables/keccak_rnd.rs, bus_interactions: the first lookup of a round row that finds nothing.
 use lists::Place;
 use rc::rc_failure;
-use round_scan::chi::ands_failure;
-use round_scan::chi::chi_failure;
-use round_scan::chi::iota_failure;
-use round_scan::chi::put_pi;
-use round_scan::chi::rot_failure;
+use round_chi_scan::ands_failure;
+use round_chi_scan::chi_failure;
+use round_chi_scan::iota_failure;
+use round_chi_scan::put_pi;
+use round_chi_scan::rot_failure;
 use round_scan::columns::MU;
 use round_scan::theta::d_failure;
 use round_scan::theta::left_failure;

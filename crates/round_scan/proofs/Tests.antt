@@ -3,27 +3,24 @@
 use mathlib.Core.Path.{_≡_, sym, ap, ap₂, _∙_}
 use mathlib.Core.Bool.{Bool, not}
 use mathlib.Core.List.{List}
-use Prim.Native.Nat.{ℕ, _+_, _-_, _*_, _/_, _%_, _≤_, _<_}
-use native.Mathlib.Nat.{mod-add-mod, add-mod-right, zero-add}
+use Prim.Native.Nat.{ℕ, _+_, _*_, _/_, _%_, _≤_, _<_}
+use native.Mathlib.Nat.{zero-add}
 use native.Mathlib.Omega.{arith}
 use lib.ListN.{length, drop, List·getD-append}
 use lib.Seq.{sets, length-sets}
 use borrow.Author.Tests.{eq-eqb, ne-eqb}
 use Rattle.lists.specs.Tab.{pick, tab, word}
 use Rattle.lists.proofs.Laws.{Filled, filled-add, sets-front, length-tab, getD-tab}
-use Rattle.lists.proofs.Then.{by-le, at-two, at-three}
-use Rattle.field.specs.Field.{p, fadd, fsub}
-use Rattle.field.proofs.Field.{mod-p, fadd-wrap, fadd-small}
-use Rattle.fips202.specs.Fips.{RHO}
+use Rattle.lists.proofs.Then.{at-two, at-three}
+use Rattle.field.specs.Field.{fadd}
 use Rattle.lookup.specs.Tuple.{Tuple}
 use Rattle.matching.specs.Matching.{matched}
 use Rattle.keccak.specs.Columns.{byXYB}
 use Rattle.keccak_rnd.specs.Columns.{MU}
-use Rattle.keccak_rnd.specs.Tuples.{rotatedCAt, piAt, cxzTuple0, cxzTuple, dxzTuple, thetaTuple, rotTuple, chiAndsTuple, chiTuple}
-use Rattle.round_value.specs.Readable.{Readable}
+use Rattle.keccak_rnd.specs.Tuples.{rotatedCAt, cxzTuple0, cxzTuple, dxzTuple, thetaTuple, rotTuple}
 use Rattle.scan.specs.Scan.{unmatched, aluOff, bytesOff}
 use Rattle.scan.proofs.Scans.{alu-off, bytes-off}
-use Rattle.round_scan.specs.Parts.{parityTuples, stageTuples, leftTuples, dTuples, thetaTuples, rotTuples, andsTuples, chiTuples, iotaTuples, PiOf, RotatedOf}
+use Rattle.round_scan.specs.Parts.{parityTuples, stageTuples, leftTuples, dTuples, thetaTuples, rotTuples, iotaTuples, RotatedOf}
 
 -- ---- the parts of an index
 part-8 : (x z : ℕ) → z < 8 → (8 * x + z) / 8 ≡ x
@@ -47,7 +44,7 @@ mid-5 l z b = omega arith
 pub xyb : {A : Type 0} (f : ℕ → ℕ → ℕ → A) (l z : ℕ) → z < 8 → byXYB f (8 * l + z) ≡ f (l / 5) (l % 5) z
 xyb f l z b = at-three f (part-40 l z b) (mid-5 l z b) (low-8 l z b)
 
-test : {a b : Tuple} → a ≡ b → not (matched a) ≡ not (matched b)
+pub test : {a b : Tuple} → a ≡ b → not (matched a) ≡ not (matched b)
 test e = ap (λ (t : Tuple). not (matched t)) e
 
 -- ---- the plain groups
@@ -105,7 +102,7 @@ stored-at l vs f n k h e b =
     ap (λ (t : List ℕ). word t k) (e ∙ sets-front l (tab n f) n (length-tab n f) h)
     ∙ List·getD-append (tab n f) (drop n l) 0 k d ∙ getD-tab n f k 0 b
 
-stored-long : (l vs ws : List ℕ) (n : ℕ) → n ≤ length l → vs ≡ sets l 0 ws → n ≤ length vs
+pub stored-long : (l vs ws : List ℕ) (n : ℕ) → n ≤ length l → vs ≡ sets l 0 ws → n ≤ length vs
 stored-long l vs ws n h e = omega (arith, ap length e ∙ length-sets l 0 ws)
 
 -- a turn that stores a lane of eight
@@ -140,68 +137,3 @@ rotated-same row rotated active r x z l b =
     ∙ alu-off (word row MU) 2 _ _ _ active (omega arith)
     ∙ ap (λ (w : ℕ). aluOff 2 (word row (203 + ((x + 4) % 5 * 4 + 3) * 8 + z)) w (word row (423 + x * 8 + z)))
     (sym (r .is (8 * y + z) h ∙ at-two (rotatedCAt row) (part-8 y z b) (low-8 y z b)))
-
--- ---- π
-pub pi-of : (row l vs : List ℕ) → 200 ≤ length l → vs ≡ sets l 0 (tab 200 (byXYB (piAt row))) → PiOf row vs
-pi-of row l vs h e = record { long = stored-long l vs (tab 200 (byXYB (piAt row))) 200 h e; is = λ k b. stored-at l vs (byXYB (piAt row)) 200 k h e b }
-
--- a lane of π, k being the offset of the lane that it comes from
-pub pi-lane : (row : List ℕ) (l k : ℕ) → k ≡ RHO ((l / 5 + 3 * (l % 5)) % 5) (l / 5) → (j : ℕ) → j < 8
-    → byXYB (piAt row) (8 * l + j)
-    ≡ fadd (word row (663 + ((l / 5 + 3 * (l % 5)) % 5 + 5 * (l / 5)) * 8 + (j + (8 - 2 * (k / 16))) % 8)) (word row (863 + ((l / 5 + 3 * (l % 5)) % 5 + 5 * (l / 5)) * 8 + (j + (14 - 2 * (k / 16))) % 8))
-pi-lane row l k e j b =
-    xyb (piAt row) l j b
-    ∙ ap (λ (n : ℕ). fadd (word row (663 + ((l / 5 + 3 * (l % 5)) % 5 + 5 * (l / 5)) * 8 + (j + (8 - 2 * (n / 16))) % 8)) (word row (863 + ((l / 5 + 3 * (l % 5)) % 5 + 5 * (l / 5)) * 8 + (j + (14 - 2 * (n / 16))) % 8))) (sym e)
-
-pi-word : (row pi : List ℕ) → PiOf row pi → (x y z : ℕ) → x < 5 → y < 5 → z < 8 → word pi (8 * (x * 5 + y) + z) ≡ piAt row x y z
-pi-word row pi r x y z hx hy hz =
-    r .is (8 * (x * 5 + y) + z) (omega arith)
-    ∙ xyb (piAt row) (x * 5 + y) z hz ∙ ap₂ (λ (a b : ℕ). piAt row a b z) (part x y hy) (rest x y hy)
-  where
-    part : (x y : ℕ) → y < 5 → (x * 5 + y) / 5 ≡ x
-    part x y h = omega arith
-
-    rest : (x y : ℕ) → y < 5 → (x * 5 + y) % 5 ≡ y
-    rest x y h = omega arith
-
-pub pi-below : (row pi : List ℕ) → PiOf row pi → (k : ℕ) → k < 200 → word pi k < p
-pi-below row pi r k h = let e = r .is k h in rw e (mod-p _)
-
--- 255 - l - r is 255 less the sum
-not-sum : (l r : ℕ) → l < p → r < p → fsub (fsub 255 l) r ≡ fsub 255 (fadd l r)
-not-sum l r hl hr =
-    mod-add-mod (255 + (p - l)) p (p - r)
-    ∙ by-le p (l + r)
-    (λ h. ap (λ (n : ℕ). n % p) (over l r hl hr h) ∙ ap (λ (n : ℕ). fsub 255 n) (sym (fadd-wrap l r hl hr h)))
-    (λ h. ap (λ (n : ℕ). n % p) (under l r h) ∙ add-mod-right (255 + (p - (l + r))) p ∙ ap (λ (n : ℕ). fsub 255 n) (sym (fadd-small l r h)))
-  where
-    over : (l r : ℕ) → l < p → r < p → p ≤ l + r → 255 + (p - l) + (p - r) ≡ 255 + (p - (l + r - p))
-    over l r hl hr h = omega arith
-
-    under : (l r : ℕ) → l + r < p → 255 + (p - l) + (p - r) ≡ 255 + (p - (l + r)) + p
-    under l r h = omega arith
-
-pub of-not : {r : Bool} {n m : ℕ} (b c : ℕ) → r ≡ aluOff 0 n b c → n ≡ m → r ≡ aluOff 0 m b c
-of-not b c e d = e ∙ ap (λ (w : ℕ). aluOff 0 w b c) d
-
-pub ands-same : (row pi : List ℕ) → Readable row → (word row MU ≡ 0 → ⊥) → PiOf row pi → (l z : ℕ) → l < 25 → z < 8
-    → unmatched (andsTuples row) (8 * l + z)
-    ≡ aluOff 0 (fsub 255 (word pi (8 * ((l / 5 + 1) % 5 * 5 + l % 5) + z))) (word pi (8 * ((l / 5 + 2) % 5 * 5 + l % 5) + z)) (word row (1063 + (l / 5 + 5 * (l % 5)) * 8 + z))
-unfolding unmatched andsTuples
-ands-same row pi ok active r l z h b =
-    test (xyb (chiAndsTuple row) l z b)
-    ∙ alu-off (word row MU) 0 _ _ _ active (omega arith)
-    ∙ ap₂ (λ (u v : ℕ). aluOff 0 u v (word row (1063 + (l / 5 + 5 * (l % 5)) * 8 + z)))
-    (not-sum _ _ (ok .below _ (omega arith)) (ok .below _ (omega arith)) ∙ ap (fsub 255) (sym (pi-word row pi r ((l / 5 + 1) % 5) (l % 5) z (omega arith) (omega arith) b)))
-    (sym (pi-word row pi r ((l / 5 + 2) % 5) (l % 5) z (omega arith) (omega arith) b))
-
-pub chi-same : (row pi : List ℕ) → (word row MU ≡ 0 → ⊥) → PiOf row pi → (l z : ℕ) → l < 25 → z < 8
-    → unmatched (chiTuples row) (8 * l + z)
-    ≡ aluOff 2 (word pi (8 * l + z)) (word row (1063 + (l / 5 + 5 * (l % 5)) * 8 + z)) (word row (1263 + (l / 5 + 5 * (l % 5)) * 8 + z))
-unfolding unmatched chiTuples
-chi-same row pi active r l z h b =
-    let k : 8 * l + z < 200 = omega arith in
-    test (xyb (chiTuple row) l z b)
-    ∙ alu-off (word row MU) 2 _ _ _ active (omega arith)
-    ∙ ap (λ (w : ℕ). aluOff 2 w (word row (1063 + (l / 5 + 5 * (l % 5)) * 8 + z)) (word row (1263 + (l / 5 + 5 * (l % 5)) * 8 + z)))
-    (sym (r .is (8 * l + z) k ∙ xyb (piAt row) l z b))

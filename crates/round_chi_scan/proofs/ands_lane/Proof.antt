@@ -1,4 +1,4 @@
--- `round_scan::chi::ands_lane` meets its contract: nothing before z. Assumes nothing.
+-- `round_chi_scan::ands_lane` meets its contract: nothing before z. Assumes nothing.
 use mathlib.Core.Option.{none}
 use mathlib.Core.Path.{_≡_, sym, ap, _∙_}
 use Prim.Native.Nat.{_+_, _-_, _≤_}
@@ -9,9 +9,9 @@ use Rattle.lists.specs.First.{firstAt, placeOf}
 use Rattle.lists.proofs.First.{first-start, at-more, at-hit, at-none}
 use Rattle.field.specs.Field.{fsub}
 use Rattle.scan.specs.Scan.{aluOff}
-use Rattle.round_scan.proofs.Tests.{of-not}
-use Rattle.round_scan.proofs.chi.ands_lane.Statement.{statement}
-use Rattle.round_scan.proofs.chi.ands_lane.Tie as tie
+use Rattle.round_chi_scan.proofs.Pi.{of-not}
+use Rattle.round_chi_scan.proofs.ands_lane.Statement.{statement}
+use Rattle.round_chi_scan.proofs.ands_lane.Tie as tie
 
 abbrev Inv-loop : tie.InvT-loop
 Inv-loop pi a b row c z₀ z = (z ≤ 8) × (firstAt (λ z. aluOff 0 (fsub 255 (word pi (a + z))) (word pi (b + z)) (word row (c + z))) z ≡ none)

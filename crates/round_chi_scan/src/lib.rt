@@ -1,13 +1,13 @@
-// The lookups of ρ, χ and ι.
-use super::columns::CHI;
-use super::columns::CHI_ANDS;
-use super::columns::IOTA;
-use super::columns::RC;
-use super::columns::ROT_LEFT;
-use super::columns::ROT_RIGHT;
+// The lookups of a round row from ρ on (tables/keccak_rnd.rs, bus_interactions), group by group: the first that finds nothing.
 use field::Fe;
 use fips202::rho_offset;
 use lists::Place;
+use round_scan::columns::CHI;
+use round_scan::columns::CHI_ANDS;
+use round_scan::columns::IOTA;
+use round_scan::columns::RC;
+use round_scan::columns::ROT_LEFT;
+use round_scan::columns::ROT_RIGHT;
 use scan::and_off;
 use scan::bytes_lane;
 use scan::xor_lane;

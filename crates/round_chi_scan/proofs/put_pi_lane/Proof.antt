@@ -1,11 +1,11 @@
--- `round_scan::chi::put_pi_lane` meets its contract: after z turns the first z bytes are stored. Assumes nothing.
+-- `round_chi_scan::put_pi_lane` meets its contract: after z turns the first z bytes are stored. Assumes nothing.
 use Prim.Native.Nat.{_+_, _-_, _%_}
 use native.Mathlib.Omega.{arith}
 use Rattle.lists.specs.Tab.{word}
 use Rattle.lists.proofs.Laws.{Filled, filled-none, filled-more, filled-all}
 use Rattle.field.specs.Field.{fadd}
-use Rattle.round_scan.proofs.chi.put_pi_lane.Statement.{statement}
-use Rattle.round_scan.proofs.chi.put_pi_lane.Tie as tie
+use Rattle.round_chi_scan.proofs.put_pi_lane.Statement.{statement}
+use Rattle.round_chi_scan.proofs.put_pi_lane.Tie as tie
 
 abbrev Inv-loop : tie.InvT-loop
 Inv-loop row left a right b out₀ at z₀ out z = Filled out₀ at 8 (λ z. fadd (word row (left + (z + a) % 8)) (word row (right + (z + b) % 8))) out z

@@ -1,11 +1,11 @@
--- `round_scan::chi::iota_failure` meets its contract: one lane. Assumes nothing.
+-- `round_chi_scan::iota_failure` meets its contract: one lane. Assumes nothing.
 use mathlib.Core.Path.{sym, ap, _∙_}
 use borrow.Author.Needs.{needs}
 use Rattle.lists.specs.First.{placeOf}
 use Rattle.round_scan.proofs.Lanes.{first-agree}
 use Rattle.round_scan.proofs.Tests.{iota-same}
-use Rattle.round_scan.proofs.chi.iota_failure.Statement.{statement}
-use Rattle.round_scan.proofs.chi.iota_failure.Tie as tie
+use Rattle.round_chi_scan.proofs.iota_failure.Statement.{statement}
+use Rattle.round_chi_scan.proofs.iota_failure.Tie as tie
 
 xor-lane-requires : tie.Need-xor-lane-requires
 xor-lane-requires c κs = search needs

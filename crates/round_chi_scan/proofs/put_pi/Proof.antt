@@ -1,12 +1,13 @@
--- `round_scan::chi::put_pi` meets its contract: after l turns the first l lanes are stored. Assumes nothing.
+-- `round_chi_scan::put_pi` meets its contract: after l turns the first l lanes are stored. Assumes nothing.
 use Prim.Native.Nat.{_-_, _*_}
 use native.Mathlib.Omega.{arith}
 use Rattle.lists.proofs.Laws.{Filled, filled-none, filled-all}
 use Rattle.keccak.specs.Columns.{byXYB}
 use Rattle.keccak_rnd.specs.Tuples.{piAt}
-use Rattle.round_scan.proofs.Tests.{filled-lane, pi-lane}
-use Rattle.round_scan.proofs.chi.put_pi.Statement.{statement}
-use Rattle.round_scan.proofs.chi.put_pi.Tie as tie
+use Rattle.round_scan.proofs.Tests.{filled-lane}
+use Rattle.round_chi_scan.proofs.Pi.{pi-lane}
+use Rattle.round_chi_scan.proofs.put_pi.Statement.{statement}
+use Rattle.round_chi_scan.proofs.put_pi.Tie as tie
 
 abbrev Inv-loop : tie.InvT-loop
 Inv-loop row out₀ l₀ out l = Filled out₀ 0 200 (byXYB (piAt row)) out (8 * l)
