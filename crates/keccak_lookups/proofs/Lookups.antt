@@ -1,7 +1,7 @@
 -- When each tuple of a core row fails to be matched, by its columns. Assumes nothing.
 use mathlib.Core.Path.{_≡_, refl, sym, ap, _∙_, subst}
 use mathlib.Core.Bool.{Bool, true, false, not, _&&_}
-use mathlib.Core.Option.{none, some}
+use mathlib.Core.Option.{none}
 use mathlib.Core.List.{List}
 use Prim.Native.Nat.{ℕ, zero, suc, _+_, _-_, _*_, _/_, _%_, _^_, _≤_, _<_}
 use native.Mathlib.Omega.{arith}
@@ -10,7 +10,7 @@ use lib.Bits.{bitAnd}
 use lib.Dec.{ltb, eqb}
 use Rattle.lists.specs.Tab.{word}
 use Rattle.lists.specs.First.{first, atIndex, firstAt}
-use Rattle.lists.proofs.First.{at-more, at-nothing, at-clear, at-found, at-hit}
+use Rattle.lists.proofs.First.{at-more, at-nothing, at-clear}
 use Rattle.lists.proofs.Tests.{true-and, false-and, true-not-false}
 use Rattle.lists.proofs.Then.{by-le, at-two}
 use Rattle.lookup.specs.Tuple.{Tuple, sender, receiver}
@@ -204,7 +204,3 @@ module _ (t : ℕ → Bool) where
     where
       turn : (i : ℕ) → 55 + i + 1 ≡ 55 + (i + 1)
       turn i = omega arith
-
-  -- what is found among the first m is found among n
-  pub found-in : (m n k : ℕ) → m ≤ n → firstAt t m ≡ some k → firstAt t n ≡ some k
-  found-in m n k l e = let x = at-found t m k e in at-hit t k n (omega (arith, x .0)) (x .2) (x .1)

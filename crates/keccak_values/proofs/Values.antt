@@ -28,10 +28,6 @@ first-term w h = ap (λ (x : ℕ). fadd 0 (x % p)) (mul-one w) ∙ ap (fadd 0) (
 no-term : (w : ℕ) → w < p → fadd w 0 ≡ w
 no-term w h = ap (λ (x : ℕ). x % p) (add-zero w) ∙ mod-eq-of-lt h
 
--- the column of a pointer's limb, as code counts it
-pub limb-at : (i j : ℕ) → state-ptr i j ≡ 410 + 3 * i + j
-limb-at i j = omega arith
-
 module _ (row : List ℕ) where
   bytes-lo : word row 2 < p → add-operand-lo row (from-dword-bl ADDR) ≡ wordOfBytes row ADDR
   unfolding add-terms-expr
