@@ -1,0 +1,149 @@
+-- The scans of a round row joined: the round's constant, one part behind the other, and the whole. Assumes nothing.
+use mathlib.Core.Path.{_≡_, refl, sym, ap, ap₂, _∙_}
+use mathlib.Core.Bool.{Bool, true, false, not, _&&_}
+use mathlib.Core.List.{List, _∷_}
+use Prim.Native.Nat.{ℕ, zero, suc, _+_, _≤_, _<_}
+use native.Mathlib.Numerals.{add-one}
+use native.Mathlib.Omega.{arith}
+use borrow.Author.Tests.{ne-eqb, lt-ltb, le-ltb}
+use lib.Dec.{eqb, ltb}
+use lib.ListN.{getD}
+use Rattle.lists.specs.Tab.{tabFrom, tab, then, word}
+use Rattle.lists.specs.First.{firstAt, placeOf}
+use Rattle.lists.specs.Sum.{all}
+use Rattle.lists.specs.declared.Place.{Place}
+use Rattle.lists.specs.declared.Place.the-variants.{At, Nowhere}
+use Rattle.lists.proofs.First.{first-start, at-hit, at-nothing}
+use Rattle.lists.proofs.Laws.{getD-tab}
+use Rattle.lists.proofs.Sum.{all-at}
+use Rattle.lists.proofs.Tests.{true-not-false, not-true, T-of}
+use Rattle.lists.proofs.Then.{T-true, then-all}
+use Rattle.bits.specs.Bits.{byteAt}
+use Rattle.fips202.specs.Tables.{roundConstant}
+use Rattle.lookup.specs.Tuple.{Tuple, sender, receiver}
+use Rattle.lookup.specs.declared.Bus.the-variants.{ByteAlu, KeccakRc, Keccak}
+use Rattle.keccak_rc.specs.Found.{rcFound}
+use Rattle.matching.specs.Matching.{foundOn, matched}
+use Rattle.keccak_rnd.specs.Columns.{MU}
+use Rattle.keccak_rnd.specs.Tuples.{roundReceived, roundSent, rcTuple, roundTuple}
+use Rattle.scan.specs.Scan.{unmatched, afterPlace}
+use Rattle.scan.proofs.Scans.{first-then, none-off}
+use Rattle.keccak_rnd_lookups.specs.Parts.{rcTuples, parityTuples, stageTuples, leftTuples, dTuples, thetaTuples, rotTuples, andsTuples, chiTuples, iotaTuples, chiPart, thetaPart, parityPart}
+
+-- ---- a test of every index, in a loop
+pub all-start : (f : ℕ → Bool) → all 0 f ≡ true
+unfolding all
+all-start f = refl
+
+pub all-more : (f : ℕ → Bool) (n : ℕ) → all n f ≡ true → f n ≡ true → all (n + 1) f ≡ true
+unfolding all
+all-more f n e d = ap (λ (k : ℕ). all k f) (add-one n) ∙ ap₂ (λ (a b : Bool). a && b) d e
+
+pub all-miss : (f : ℕ → Bool) (n k : ℕ) → k < n → f k ≡ false → all n f ≡ false
+all-miss f n k l e = not-true (all n f) (λ t. true-not-false (sym (T-true (f k) (all-at n f (T-of (all n f) t) k l)) ∙ e))
+
+pub all-end : (f : ℕ → Bool) (k n : ℕ) → k ≤ n → n ≤ k → all k f ≡ true → all n f ≡ true
+all-end f k n l g h = let e : k ≡ n = omega arith in rw e at h
+
+all-same : (n : ℕ) (f g : ℕ → Bool) → ((k : ℕ) → k < n → f k ≡ g k) → all n f ≡ all n g
+unfolding all
+all-same zero f g h = refl
+all-same (suc n) f g h = ap₂ (λ (a b : Bool). a && b) (h n (omega arith)) (all-same n f g (λ k l. h k (omega arith)))
+
+-- ---- the constant's tuple
+rc-off : (m r : ℕ) (f : ℕ → ℕ) → (m ≡ 0 → ⊥)
+    → not (matched (sender KeccakRc m (r ∷ tab 8 f))) ≡ not (ltb r 32 && all 8 (λ b. eqb (f b) (byteAt (roundConstant r) b)))
+unfolding foundOn rcFound tab tabFrom
+rc-off m r f h =
+    ap (λ (q : Bool). not (elim q as (λ _. Bool) [ true ↦ true | false ↦ foundOn KeccakRc (r ∷ tab 8 f) ])) (ne-eqb m 0 h)
+    ∙ ap (λ (q : Bool). not (ltb r 32 && q))
+    (all-same 8 (λ b. eqb (getD (tab 8 f) b 0) (byteAt (roundConstant r) b)) (λ b. eqb (f b) (byteAt (roundConstant r) b))
+    (λ b l. ap (λ (v : ℕ). eqb v (byteAt (roundConstant r) b)) (getD-tab 8 f b 0 l)))
+
+module _ (row : List ℕ) where
+  bytes : ℕ → ℕ → Bool
+  bytes constant b = eqb (word row (1463 + b)) (byteAt constant b)
+
+  pub rc-none : word row MU ≡ 0 → Nowhere ≡ placeOf (firstAt (unmatched (rcTuples row)) 1)
+  unfolding unmatched rcTuples
+  rc-none e = sym (ap placeOf (at-nothing _ 1 (λ i l. none-off KeccakRc _ _ e)))
+
+  module _ (active : word row MU ≡ 0 → ⊥) where
+    pub rc-past : 32 ≤ word row 2 → At 0 ≡ placeOf (firstAt (unmatched (rcTuples row)) 1)
+    unfolding unmatched rcTuples
+    rc-past h =
+        sym (ap placeOf (at-hit _ 0 1 (omega arith) (first-start _)
+        (rc-off (word row MU) (word row 2) (λ b. word row (1463 + b)) active
+        ∙ ap (λ (q : Bool). not (q && all 8 (λ b. eqb (word row (1463 + b)) (byteAt (roundConstant (word row 2)) b)))) (le-ltb (word row 2) 32 h))))
+
+    tested : {k : ℕ} {t : Bool} → word row 2 < 32 → k ≡ roundConstant (word row 2) → t ≡ not (all 8 (λ b. eqb (word row (1463 + b)) (byteAt k b)))
+        → not (matched (rcTuple row)) ≡ t
+    tested {k} {t} l e d =
+        rc-off (word row MU) (word row 2) (λ b. word row (1463 + b)) active
+        ∙ ap (λ (q : Bool). not (q && all 8 (λ b. eqb (word row (1463 + b)) (byteAt (roundConstant (word row 2)) b)))) (lt-ltb (word row 2) 32 l)
+        ∙ ap (λ (n : ℕ). not (all 8 (λ b. eqb (word row (1463 + b)) (byteAt n b)))) (sym e)
+        ∙ sym d
+
+    pub rc-wrong : {k : ℕ} {t : Bool} → word row 2 < 32 → k ≡ roundConstant (word row 2) → t ≡ not (all 8 (λ b. eqb (word row (1463 + b)) (byteAt k b)))
+        → t ≡ true → At 0 ≡ placeOf (firstAt (unmatched (rcTuples row)) 1)
+    unfolding unmatched rcTuples
+    rc-wrong l e d h = sym (ap placeOf (at-hit _ 0 1 (omega arith) (first-start _) (tested l e d ∙ h)))
+
+    pub rc-right : {k : ℕ} {t : Bool} → word row 2 < 32 → k ≡ roundConstant (word row 2) → t ≡ not (all 8 (λ b. eqb (word row (1463 + b)) (byteAt k b)))
+        → t ≡ false → Nowhere ≡ placeOf (firstAt (unmatched (rcTuples row)) 1)
+    unfolding unmatched rcTuples
+    rc-right l e d h = sym (ap placeOf (at-nothing _ 1 (λ i b. tested l e d ∙ h)))
+
+-- ---- one part behind the other
+pub join : (n m : ℕ) (f g : ℕ → Tuple) {a b r : Place} → a ≡ placeOf (firstAt (unmatched f) n) → b ≡ placeOf (firstAt (unmatched g) m)
+    → r ≡ afterPlace a n b → r ≡ placeOf (firstAt (unmatched (then n f g)) (n + m))
+unfolding unmatched
+join n m f g p q e = e ∙ ap₂ (λ (u v : Place). afterPlace u n v) p q ∙ first-then (λ t. not (matched t)) n m f g
+
+-- the tuples of the bus between the tables ask for nothing
+keccak-off : (t : Tuple) → t .bus ≡ Keccak → not (matched t) ≡ false
+unfolding foundOn
+keccak-off t e = go (eqb (t .multiplicity) 0)
+  where
+    go : (b : Bool) → not (elim b as (λ _. Bool) [ true ↦ true | false ↦ foundOn (t .bus) (t .values) ]) ≡ false
+    go true = refl
+    go false = ap (λ q. not (foundOn q (t .values))) e
+
+-- what the tuples of a padding row's χ ask for
+pub chi-none : (row : List ℕ) → word row MU ≡ 0 → Nowhere ≡ placeOf (firstAt (unmatched (chiPart row)) 408)
+unfolding unmatched chiPart andsTuples chiTuples iotaTuples
+chi-none row e =
+    sym (ap placeOf (at-nothing _ 408 (λ i l.
+    then-all (λ (t : Tuple). not (matched t) ≡ false) 200 (andsTuples row) (then 200 (chiTuples row) (iotaTuples row)) i
+    (λ b. none-off ByteAlu _ _ e)
+    (λ j q. then-all (λ (t : Tuple). not (matched t) ≡ false) 200 (chiTuples row) (iotaTuples row) j (λ b. none-off ByteAlu _ _ e) (λ k r. none-off ByteAlu _ _ e)))))
+
+-- the whole: the two tuples of the bus between the tables, the constant's, and the rest
+module _ (row : List ℕ) where
+  received : ℕ → Tuple
+  received i = receiver Keccak (word row MU) (roundReceived row)
+
+  sent : ℕ → Tuple
+  sent i = sender Keccak (word row MU) (roundSent row)
+
+  -- what is scanned from the constant on, and from the tuple that is sent on
+  pub from-constant : ℕ → Tuple
+  from-constant = then 1 (rcTuples row) (parityPart row)
+
+  pub from-sent : ℕ → Tuple
+  from-sent = then 1 sent from-constant
+
+  module _ {a b r : Place} (p : a ≡ placeOf (firstAt (unmatched (rcTuples row)) 1)) (q : b ≡ placeOf (firstAt (unmatched (parityPart row)) 1028))
+      (e : r ≡ afterPlace a 1 b) where
+    pub constant-joined : r ≡ placeOf (firstAt (unmatched from-constant) 1029)
+    unfolding from-constant
+    constant-joined = join 1 1028 (rcTuples row) (parityPart row) p q e
+
+    module _ {s : Place} (f : s ≡ afterPlace Nowhere 1 r) where
+      pub sent-joined : s ≡ placeOf (firstAt (unmatched from-sent) 1030)
+      unfolding unmatched from-sent sent
+      sent-joined = join 1 1029 sent from-constant (sym (ap placeOf (at-nothing _ 1 (λ i l. keccak-off (sent 0) refl)))) constant-joined f
+
+      pub all-joined : {t : Place} → t ≡ afterPlace Nowhere 1 s → t ≡ placeOf (firstAt (λ i. not (matched (roundTuple row i))) 1031)
+      unfolding unmatched roundTuple rcTuples parityTuples stageTuples leftTuples dTuples thetaTuples rotTuples andsTuples chiTuples iotaTuples chiPart thetaPart parityPart received sent from-sent from-constant
+      all-joined g = join 1 1030 received from-sent (sym (ap placeOf (at-nothing _ 1 (λ i l. keccak-off (received 0) refl)))) sent-joined g

@@ -1,0 +1,115 @@
+// The values of a round row, one by one (tables/keccak_rnd.rs, eval).
+use super::shift::times_power;
+use field::Fe;
+ghost use mathlib.Core.Path.{_≡_};
+ghost use Prim.Native.Nat.{_+_, _/_, _%_, _^_, _≤_, _<_};
+ghost use Rattle.lists.specs.Tab.{word};
+ghost use Rattle.field.specs.Field.{p, fmul};
+ghost use Rattle.templates.specs.Templates.{isBit};
+ghost use Rattle.keccak_rnd.specs.Columns.{NUM-COLUMNS, MU};
+ghost use Rattle.keccak_rnd.specs.Row.{rnc};
+ghost use Rattle.keccak_rnd.specs.Values.{halfwordAt, identity, carryValue, thetaValue, rhoValue};
+ghost use Rattle.keccak_rnd_values.specs.Readable.{Readable};
+
+// The columns, by their names in the Rust.
+const CXZ: usize = 203;
+
+const CXZ_LEFT: usize = 363;
+
+const CXZ_RIGHT: usize = 403;
+
+const THETA: usize = 463;
+
+const ROT_LEFT: usize = 663;
+
+const ROT_RIGHT: usize = 863;
+
+pub const MU: usize = 1479;
+
+// Column k.
+pub fn element(row: &[u64], k: usize) -> Fe
+    requires { ⌜ Readable (now row) × (k < NUM-COLUMNS) ⌝ }
+    ensures is { λ r. ⌜ r .value ≡ word (now (row .entry)) k ⌝ }
+    ensures below { λ r. ⌜ r .value < p ⌝ }
+{
+    Fe { value: row[k] }
+}
+
+// The bytes in columns k and k + 1, as a halfword.
+pub fn halfword_at(row: &[u64], k: usize) -> Fe
+    requires { ⌜ Readable (now row) × (k + 1 < NUM-COLUMNS) ⌝ }
+    ensures is { λ r. ⌜ r .value ≡ halfwordAt (now (row .entry)) k ⌝ }
+    ensures below { λ r. ⌜ r .value < p ⌝ }
+{
+    let low = element(row, k);
+    let high = element(row, k + 1);
+    let shifted = times_power(high, 8);
+    low.add(shifted)
+}
+
+// half * 2^power - right * 2^16 - left.
+pub fn identity(half: Fe, power: u32, left: Fe, right: Fe) -> Fe
+    requires { ⌜ (half .value < p) × (power ≤ 16) × (left .value < p) × (right .value < p) ⌝ }
+    ensures is { λ r. ⌜ r .value ≡ identity (half .value) (2 ^ power) (left .value) (right .value) ⌝ }
+    ensures below { λ r. ⌜ r .value < p ⌝ }
+{
+    let shifted = times_power(half, power);
+    let carry = times_power(right, 16);
+    let rest = shifted.sub(carry);
+    rest.sub(left)
+}
+
+// x (1 - x).
+pub fn is_bit(x: Fe) -> Fe
+    requires { ⌜ x .value < p ⌝ }
+    ensures { λ r. ⌜ r .value ≡ isBit (x .value) ⌝ }
+{
+    let rest = Fe::ONE.sub(x);
+    x.mul(rest)
+}
+
+// MU times a value; in the rows of rounds MU is 1.
+pub fn gated(row: &[u64], value: Fe) -> Fe
+    requires { ⌜ Readable (now row) × (value .value < p) ⌝ }
+    ensures { λ r. ⌜ r .value ≡ fmul (word (now (row .entry)) MU) (value .value) ⌝ }
+{
+    let mu = row[MU];
+    if mu == 1 {
+        return value;
+    }
+    Fe { value: mu }.mul(value)
+}
+
+// 0 to 19: the carry i of C rotated by one is a bit, in padding rows too.
+pub fn carry_value(row: &[u64], i: usize) -> Fe
+    requires { ⌜ Readable (now row) × (i < 20) ⌝ }
+    ensures { λ r. ⌜ r .value ≡ carryValue (now (row .entry)) (i / 4) (i % 4) ⌝ }
+{
+    let carry = element(row, CXZ_RIGHT + i);
+    is_bit(carry)
+}
+
+// 20 to 39: halfword hw of C[x], shifted by one.
+pub fn theta_value(row: &[u64], x: usize, hw: usize) -> Fe
+    requires { ⌜ Readable (now row) × (x < 5) × (hw < 4) ⌝ }
+    ensures { λ r. ⌜ r .value ≡ thetaValue (now (row .entry)) x hw ⌝ }
+{
+    let half = halfword_at(row, CXZ + (x * 4 + 3) * 8 + hw * 2);
+    let left = halfword_at(row, CXZ_LEFT + x * 8 + hw * 2);
+    let right = element(row, CXZ_RIGHT + x * 4 + hw);
+    let value = identity(half, 1, left, right);
+    gated(row, value)
+}
+
+// 40 to 139: halfword hw of θ's lane (x, y), shifted by its offset mod 16.
+pub fn rho_value(row: &[u64], x: usize, y: usize, power: u32, hw: usize) -> Fe
+    requires { ⌜ Readable (now row) × (x < 5) × (y < 5) × (power ≡ rnc x y) × (hw < 4) ⌝ }
+    ensures { λ r. ⌜ r .value ≡ rhoValue (now (row .entry)) x y hw ⌝ }
+{
+    let lane = (x + 5 * y) * 8;
+    let half = halfword_at(row, THETA + lane + hw * 2);
+    let left = halfword_at(row, ROT_LEFT + lane + hw * 2);
+    let right = halfword_at(row, ROT_RIGHT + lane + hw * 2);
+    let value = identity(half, power, left, right);
+    gated(row, value)
+}
