@@ -1,0 +1,85 @@
+-- `keccak_tuples::bus_interaction` meets its contract: the checks, then the tuple of the index. Assumes nothing.
+use mathlib.Core.Path.{_≡_, sym, ap, _∙_}
+use mathlib.Core.List.{List}
+use mathlib.Core.Option.{none}
+use Prim.Native.Nat.{ℕ}
+use lib.ListN.{length}
+use Rattle.answer.specs.Refusal.{answerOf}
+use Rattle.answer.proofs.Laws.{is-refused, is-done}
+use Rattle.lookup.specs.Tuple.{Tuple}
+use Rattle.lookup.specs.Call.{sizedRefusal, tupleRefusal}
+use Rattle.lookup.specs.declared.TupleAnswer.the-variants.{Is}
+use Rattle.lookup.proofs.Call.{Accepted, accepted, tuple-refused, tuple-given}
+use Rattle.keccak.specs.Tuples.{coreTuple}
+use borrow.Author.Needs.{needs}
+use Rattle.keccak_tuples.proofs.bus_interaction.Statement.{statement}
+use Rattle.keccak_tuples.proofs.bus_interaction.Tie as tie
+
+-- the arguments, from the place after the checks
+abbrev Row : tie.After-check-tuple → List ℕ
+Row c = c .before .before .before .before .args .row .now
+
+abbrev Out : tie.After-check-tuple → List ℕ
+Out c = c .before .before .before .before .args .out .now
+
+abbrev Index : tie.After-check-tuple → ℕ
+Index c = c .before .before .before .before .args .index
+
+abbrev tuples : tie.After-check-tuple → List ℕ → ℕ → Tuple
+tuples c = coreTuple 24 (c .before .before .before .before .args .syscall)
+
+-- what the checks answered
+checked : (c : tie.After-check-tuple) → c .check-tuple .result ≡ answerOf (tupleRefusal 486 84 (tuples c) (Row c) (Index c) (Out c))
+unfolding tupleRefusal
+checked c =
+    c .check-tuple .ensures
+    ∙ ap (λ (n : ℕ). answerOf (sizedRefusal 486 84 (Row c) (Index c) n (length (Out c)))) (c .before .tuple-length .ensures (c .before .before .before .before .args .syscall) (Row c))
+
+passed : (c : tie.After-enum-told) → let k = c .before .before in tupleRefusal 486 84 (tuples k) (Row k) (Index k) (Out k) ≡ none
+passed c = is-done _ (sym (c .enum-told .given .1) ∙ checked (c .before .before))
+
+known : (c : tie.After-enum-told) → let k = c .before .before in Accepted 486 84 (Row k) (Index k) (length (tuples k (Row k) (Index k) .values)) (length (Out k))
+unfolding tupleRefusal
+known c = accepted _ _ _ _ _ _ (passed c)
+
+tuple-length-requires : tie.Need-tuple-length-requires
+tuple-length-requires c κs = search needs
+
+check-tuple-requires : tie.Need-check-tuple-requires
+check-tuple-requires c κs = search needs
+
+enum-known-refusal : tie.Need-enum-known-refusal
+enum-known-refusal c = search needs
+
+returns : tie.Need-returns
+returns c = tuple-refused _ _ _ (is-refused _ (sym (c .before .refusal .given .1) ∙ checked (c .before .before .before)))
+
+enum-told : tie.Need-enum-told
+enum-told c = search needs
+
+row-tuple-requires : tie.Need-row-tuple-requires
+row-tuple-requires c κs = let k = known (c .before) in (k .wide, k .below, k .index, k .fits)
+
+same-length : tie.Need-same-length
+same-length c = search needs
+
+returns-2 : tie.Need-returns-2
+returns-2 c =
+    let told = c .before .before .before .before in
+    let k = told .before .before in
+    let r = c .before .before .row-tuple in
+    let given = tuple-given (tuples k (Row k) (Index k)) (Out k) (passed told) (r .ensures .1) in
+    (ap Is (r .ensures .0) ∙ given .0, given .1)
+
+pub bus-interaction-spec : {M : Type 1} → statement M
+bus-interaction-spec =
+    tie.close
+    (tie.spec
+    tuple-length-requires
+    check-tuple-requires
+    enum-known-refusal
+    returns
+    enum-told
+    row-tuple-requires
+    same-length
+    returns-2)

@@ -1,0 +1,18 @@
+-- `keccak_values::bit` meets its contract: x times 1 - x. Assumes nothing.
+use mathlib.Core.Path.{ap, _∙_}
+use Rattle.field.specs.Field.{fmul}
+use borrow.Author.Needs.{needs}
+use Rattle.keccak_values.proofs.bit.Statement.{statement}
+use Rattle.keccak_values.proofs.bit.Tie as tie
+
+sub-requires : tie.Need-sub-requires
+sub-requires c κs = search needs
+
+mul-requires : tie.Need-mul-requires
+mul-requires c κs = search needs
+
+returns : tie.Need-returns
+returns c = c .mul .ensures .0 ∙ ap (fmul _) (c .before .sub .ensures .0)
+
+pub bit-spec : {M : Type 1} → statement M
+bit-spec = tie.close (tie.spec sub-requires mul-requires returns)
