@@ -10,7 +10,7 @@ use Prim.Native.Nat.{ℕ, _*_, _≤_}
 use native.Mathlib.Omega.{arith}
 use lib.ListN.{length, drop-of-length-le}
 use Rattle.lists.proofs.Laws.{length-table}
-use Rattle.answer.specs.Refusal.{overwrite, afterwards, accepted}
+use Rattle.answer.specs.Refusal.{overwrite, afterwards}
 use Rattle.answer.specs.declared.Refusal.{Refusal}
 use Rattle.keccak.specs.Height.{MIN-ROWS}
 use Rattle.keccak.specs.Row.{opAt}

@@ -8,9 +8,8 @@ use Prim.Native.Nat.{ℕ, _+_, _-_, _*_, _≤_, _<_}
 use native.Mathlib.Omega.{arith}
 use borrow.Author.Tests.{eqb-true, eq-eqb}
 use lib.Dec.{eqb}
-use lib.ListN.{length, take, drop, length-drop}
-use lib.Seq.{length-take-le}
-use Rattle.lists.specs.Tab.{rowAt, then}
+use lib.ListN.{length, take, drop}
+use Rattle.lists.specs.Tab.{then}
 use Rattle.lists.specs.First.{first, inRow, firstIn, count}
 use Rattle.lists.proofs.First.{first-more, first-hit, count-more, count-skip, count-le, count-end}
 use Rattle.lists.proofs.Tests.{T-of}
@@ -26,7 +25,7 @@ use Rattle.verdict.specs.CoreAndRound.{coreLayout, roundLayout, coreKind, round
 use Rattle.verdict.proofs.Tuples.{carriesAt, sent-count, received-count, core-bus, round-bus}
 use Rattle.verdict.proofs.Walk.{EvenTo, OwingTo, even-start, even-skip, even-rest, owe-start, owe-skip, owe-step, owe-end}
 use Rattle.verdict.proofs.Pair.{two-early, two-late, two-none, bad-send, bad-receive, bad-other}
-use Rattle.verdict.proofs.Parts.{row-ends, part-between}
+use Rattle.judge_scan.proofs.Scan.{part-is, part-long}
 use Rattle.judge_tuples.specs.Port.{tupleOf, widthOf}
 use Rattle.judge_tuples.specs.declared.Port.{Port}
 use Rattle.judge_tuples.specs.declared.Port.the-variants.{CoreSend, CoreReceive, RoundReceive, RoundSend}
@@ -34,23 +33,17 @@ use Rattle.judge_bus.specs.Even.{coreCarries, roundCarries, Even, OfCore
 
 -- ---- rows as parts of a slice
 pub core-part : (core : List ℕ) (r : ℕ) → r < rows coreLayout core → take (r * 486 + 486 - r * 486) (drop (r * 486) core) ≡ row coreLayout core r
-core-part core r l = part-between 486 core r (r * 486 + 486) refl (row-ends 486 core r l)
+core-part core r l = part-is 486 core r l
 
 pub round-part : (round : List ℕ) (r : ℕ) → r < rows roundLayout round →
     take (r * 1480 + 1480 - r * 1480) (drop (r * 1480) round) ≡ row roundLayout round r
-round-part round r l = part-between 1480 round r (r * 1480 + 1480) refl (row-ends 1480 round r l)
-
-wide : (w : ℕ) (ws : List ℕ) (r : ℕ) → r * w + w ≤ length ws → w ≤ length (take (r * w + w - r * w) (drop (r * w) ws))
-wide w ws r l =
-    let e : r * w + w - r * w ≡ w = omega arith in
-    let n : length (take w (drop (r * w) ws)) ≡ w = length-take-le w (drop (r * w) ws) (omega (arith, length-drop (r * w) ws)) in
-    subst (λ (m : ℕ). w ≤ length (take m (drop (r * w) ws))) (sym e) (omega arith)
+round-part round r l = part-is 1480 round r l
 
 pub core-wide : (core : List ℕ) (r : ℕ) (s : Port) → OfCore s → r < rows coreLayout core →
     widthOf s ≤ length (take (r * 486 + 486 - r * 486) (drop (r * 486) core))
 unfolding widthOf OfCore
-core-wide core r CoreSend o l = wide 486 core r (row-ends 486 core r l)
-core-wide core r CoreReceive o l = wide 486 core r (row-ends 486 core r l)
+core-wide core r CoreSend o l = part-long 486 core r l
+core-wide core r CoreReceive o l = part-long 486 core r l
 core-wide core r RoundReceive o l = absurd o
 core-wide core r RoundSend o l = absurd o
 
@@ -59,8 +52,8 @@ pub round-wide : (round : List ℕ) (r : ℕ) (s : Port) → OfRound s → r < r
 unfolding widthOf OfRound
 round-wide round r CoreSend o l = absurd o
 round-wide round r CoreReceive o l = absurd o
-round-wide round r RoundReceive o l = wide 1480 round r (row-ends 1480 round r l)
-round-wide round r RoundSend o l = wide 1480 round r (row-ends 1480 round r l)
+round-wide round r RoundReceive o l = part-long 1480 round r l
+round-wide round r RoundSend o l = part-long 1480 round r l
 
 -- ---- the tuples of the two kinds by port
 core-sends : (core v : List ℕ) → coreCarries core CoreSend v ≡ carriesAt (coreKind 24) 2 core v
@@ -230,12 +223,6 @@ eqb-same a b c d f g = go (eqb a b) (eqb c d) refl refl
     go false true p q = sym p ∙ eq-eqb a b (g (eqb-true c d q))
 
 module _ (core round v : List ℕ) where
-  all-core : Port → ℕ
-  all-core port = count (coreCarries core port v) (rows coreLayout core)
-
-  all-round : Port → ℕ
-  all-round port = count (roundCarries round port v) (rows roundLayout round)
-
   pub uneven-left : (a b cs rs cr rr : ℕ) → Even core round a b →
       cs + count (coreCarries core CoreSend v) a ≡ count (coreCarries core CoreSend v) (rows coreLayout core) →
       rs + count (roundCarries round RoundSend v) b ≡ count (roundCarries round RoundSend v) (rows roundLayout round) →

@@ -1,7 +1,7 @@
 -- What a scan over rows cites, where a row is handed on as a part of the slice and answers with its first index.
 -- Assumes nothing.
 --     at-none-row, at-some-row   what a row's search says of the scan of rows
---     part-words                 the words of the part of a table that is a row are field elements
+--     part-is, part-long, part-words   the part of a table that is row r: its words, how many, and that they are elements
 use mathlib.Core.Path.{_≡_, refl, sym, ap, subst, _∙_}
 use mathlib.Core.Bool.{Bool}
 use mathlib.Core.Option.{Option, none, some}
@@ -11,16 +11,14 @@ use native.Mathlib.Omega.{arith}
 use lib.ListN.{length, take, drop, length-drop}
 use lib.Seq.{length-take-le}
 use Rattle.lists.specs.Tab.{word, rowAt}
-use Rattle.lists.specs.First.{first, firstAt, atPlace, inRow, firstIn, placeOf}
-use Rattle.lists.specs.declared.Place.{Place}
+use Rattle.lists.specs.First.{first, firstAt, atPlace, inRow, firstIn}
 use Rattle.lists.specs.declared.Place.the-variants.{At, Nowhere}
-use Rattle.lists.proofs.First.{first-more, first-hit, at-clear, at-found, row-nothing, place-at, place-nowhere}
+use Rattle.lists.proofs.First.{first-more, first-hit, at-clear, at-found, row-nothing}
 use Rattle.lists.proofs.Laws.{word-rowAt}
 use Rattle.field.specs.Field.{p}
 use Rattle.verdict.specs.Failures.{Elements}
 use Rattle.verdict.proofs.Parts.{row-ends, part-between}
 use Rattle.judge_scan.specs.Spot.{spotOf}
-use Rattle.judge_scan.specs.declared.Spot.{Spot}
 use Rattle.judge_scan.specs.declared.Spot.the-variants as spot
 
 -- ---- the answer of a scan

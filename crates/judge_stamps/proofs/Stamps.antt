@@ -10,11 +10,10 @@ use native.Mathlib.Numerals.{add-one}
 use native.Mathlib.Omega.{arith}
 use borrow.Author.Tests.{ne-eqb, eq-eqb, le-leb, lt-leb, leb-true, leb-false, ltb-true, ltb-false}
 use lib.Dec.{eqb, leb, ltb}
-use Rattle.lists.specs.Tab.{word, pick}
+use Rattle.lists.specs.Tab.{word}
 use Rattle.lists.specs.First.{first, atIndex, any}
 use Rattle.lists.proofs.First.{first-start, at-more}
 use Rattle.lists.proofs.Laws.{word-rowAt}
-use Rattle.keccak.specs.Columns.{TIMESTAMP-0, TIMESTAMP-1}
 use Rattle.verdict.specs.Kind.{row, active, sameStamp}
 use Rattle.verdict.specs.Verdict.{twin, repeats}
 use Rattle.verdict.specs.CoreAndRound.{coreLayout}

@@ -8,8 +8,7 @@ use Prim.Native.Nat.{ℕ, zero, suc, _+_, _*_, _-_, _/_, _%_, _≤_, _<_}
 use native.Mathlib.Omega.{arith}
 use borrow.Author.Tests.{eqb-true, eq-eqb, lt-ltb, le-ltb, not-true, not-false, ne-eqb}
 use lib.Dec.{T, eqb, ltb}
-use lib.ListN.{length, getD}
-use lib.Seq.{ext-getD}
+use lib.ListN.{getD}
 use Rattle.lists.specs.Tab.{word, pick, tab}
 use Rattle.lists.specs.First.{any}
 use Rattle.lists.proofs.First.{any-clear, any-nothing}
@@ -23,7 +22,6 @@ use Rattle.keccak_rnd.proofs.Active.{of-200}
 use Rattle.keccak_rnd.proofs.Step.{keccak-same}
 use Rattle.bus.specs.Words.{wordsTest}
 use Rattle.bus.proofs.Words.{words-sound, words-same}
-use Rattle.verdict.proofs.Values.{values-length}
 use Rattle.verdict.proofs.Rows.{lt-or-ge}
 use Rattle.judge_tuples.specs.Port.{tupleOf, widthOf, roundOf, laneAt, restAt, apart, sameState}
 use Rattle.judge_tuples.specs.declared.Port.{Port}

@@ -1,5 +1,5 @@
 -- `judge::from_core_balance` meets its contract: a tuple is found, or none. Assumes nothing.
-use mathlib.Core.Path.{sym, ap, _∙_}
+use mathlib.Core.Path.{sym, _∙_}
 use borrow.Author.Needs.{needs}
 use Rattle.verdict.specs.Verdict.{fromCoreBalance}
 use Rattle.verdict.proofs.Stages.{passes, answers}

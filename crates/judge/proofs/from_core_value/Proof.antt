@@ -1,5 +1,5 @@
 -- `judge::from_core_value` meets its contract, one stage after the other. Assumes nothing.
-use mathlib.Core.Path.{sym, ap, _∙_}
+use mathlib.Core.Path.{sym, _∙_}
 use borrow.Author.Needs.{needs}
 use Rattle.lists.proofs.First.{place-at, place-nowhere}
 use Rattle.verdict.specs.Verdict.{fromCoreValue, fromCoreLookup, fromRepeat}

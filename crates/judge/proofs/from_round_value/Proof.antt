@@ -1,5 +1,5 @@
 -- `judge::from_round_value` meets its contract, one stage after the other. Assumes nothing.
-use mathlib.Core.Path.{sym, ap, _∙_}
+use mathlib.Core.Path.{sym, _∙_}
 use borrow.Author.Needs.{needs}
 use Rattle.verdict.specs.Verdict.{fromRoundValue, fromRoundLookup}
 use Rattle.verdict.proofs.Stages.{passes, answers}

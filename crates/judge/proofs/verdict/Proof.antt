@@ -1,5 +1,5 @@
 -- `judge::verdict` meets its contract: whole rows, then field elements, then the stages on rows. Assumes nothing.
-use mathlib.Core.Path.{sym, ap, _∙_}
+use mathlib.Core.Path.{sym, _∙_}
 use borrow.Author.Needs.{needs}
 use Rattle.lists.proofs.First.{place-at, place-nowhere}
 use Rattle.verdict.specs.Verdict.{fromCoreWords, fromRoundWords}

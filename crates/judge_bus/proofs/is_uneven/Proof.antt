@@ -1,6 +1,5 @@
 -- `judge_bus::is_uneven` meets its contract: what the walk passed is even, so what it left decides. Assumes nothing.
 use native.Mathlib.Omega.{arith}
-use Rattle.judge_tuples.specs.declared.Port.the-variants.{CoreSend, CoreReceive, RoundReceive, RoundSend}
 use Rattle.judge_bus.specs.Even.{OfCore, OfRound}
 use Rattle.judge_bus.proofs.Bus.{from-le, uneven-left}
 use Rattle.judge_bus.proofs.is_uneven.Statement.{statement}

@@ -6,7 +6,6 @@ use lib.ListN.{length}
 use native.Mathlib.Omega.{arith}
 use borrow.Author.Needs.{needs}
 use Rattle.verdict.specs.Kind.{rows}
-use Rattle.verdict.specs.CoreAndRound.{roundLayout}
 use Rattle.judge_bus.specs.Even.{Even}
 use Rattle.judge_bus.proofs.Bus.{walk-start, walk-on, walk-off}
 use Rattle.judge_bus.proofs.walk.Statement.{statement}

@@ -10,7 +10,7 @@ use Rattle.verdict.specs.Verdict.{badLookup}
 use Rattle.verdict.specs.CoreAndRound.{coreKind}
 use Rattle.judge_scan.specs.Spot.{spotOf}
 use Rattle.judge_scan.specs.declared.Spot.the-variants.{Nowhere}
-use Rattle.judge_scan.proofs.Scan.{at-none-row, at-some-row, part-long, part-words}
+use Rattle.judge_scan.proofs.Scan.{at-none-row, at-some-row, part-long}
 use Rattle.judge_rows.proofs.Rows.{core-lookup-some, core-lookup-none}
 use Rattle.judge_rows.proofs.first_core_lookup.Statement.{statement}
 use Rattle.judge_rows.proofs.first_core_lookup.Tie as tie

@@ -1,15 +1,10 @@
 -- `judge_stamps::first_repeat` meets its contract: no row so far repeats, and the active ones have timestamps of at most the highest. Assumes nothing.
-use mathlib.Core.Path.{_≡_, refl, ap, sym, _∙_}
+use mathlib.Core.Path.{refl, ap, sym, _∙_}
 use mathlib.Core.Logic.{⊎-elim}
-use mathlib.Core.Option.{none}
 use Prim.Native.Nat.{_≤_, _-_}
 use native.Mathlib.Omega.{arith}
-use Rattle.lists.specs.First.{first, atIndex, placeOf}
-use Rattle.lists.proofs.First.{first-start, at-more, at-hit, at-none}
-use Rattle.verdict.specs.Verdict.{repeats}
-use Rattle.verdict.specs.CoreAndRound.{coreLayout}
-use Rattle.verdict.proofs.Rising.{BelowTo, rising-start}
-use Rattle.judge_stamps.specs.Highest.{boundOf}
+use Rattle.lists.specs.First.{placeOf}
+use Rattle.lists.proofs.First.{at-hit, at-none}
 use Rattle.judge_stamps.proofs.Stamps.{New, new-start, new-off, new-above, new-below, repeats-on}
 use Rattle.judge_stamps.proofs.first_repeat.Statement.{statement}
 use Rattle.judge_stamps.proofs.first_repeat.Tie as tie

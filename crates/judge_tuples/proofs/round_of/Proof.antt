@@ -1,5 +1,5 @@
 -- `judge_tuples::round_of` meets its contract, arm by arm. Assumes nothing.
-use mathlib.Core.Path.{sym, ap, _∙_}
+use mathlib.Core.Path.{ap, _∙_}
 use native.Mathlib.Omega.{arith}
 use borrow.Author.Needs.{needs}
 use Rattle.judge_tuples.specs.Port.{widthOf, roundOf}
