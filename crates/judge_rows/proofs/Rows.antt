@@ -1,36 +1,52 @@
 -- What a row's evaluator says of the scan of its table. Assumes nothing.
 use mathlib.Core.Path.{_≡_, sym, ap, _∙_}
-use mathlib.Core.Bool.{not}
+use mathlib.Core.Bool.{true, false, not}
 use mathlib.Core.Option.{none, some}
 use mathlib.Core.List.{List}
-use Prim.Native.Nat.{ℕ, _+_, _-_, _*_, _<_}
+use Prim.Native.Nat.{ℕ, _+_, _-_, _*_, _/_, _<_}
+use native.Mathlib.Omega.{arith}
+use borrow.Author.Tests.{eq-eqb, ne-eqb}
 use lib.Dec.{eqb}
-use lib.ListN.{take, drop}
+use lib.ListN.{length, take, drop, List·getD-append}
+use lib.Seq.{sets, length-sets}
+use Rattle.lists.specs.Tab.{word, tab, rowAt}
+use Rattle.lists.proofs.Laws.{length-tab, getD-tab, sets-front}
 use Rattle.lists.specs.First.{firstAt, placeOf}
 use Rattle.lists.specs.declared.Place.{Place}
 use Rattle.lists.specs.declared.Place.the-variants.{At, Nowhere}
 use Rattle.lists.proofs.First.{place-at, place-nowhere}
 use Rattle.matching.specs.Matching.{matched}
-use Rattle.keccak.specs.Values.{coreValue}
 use Rattle.keccak.specs.Tuples.{coreTuple}
-use Rattle.keccak_rnd.specs.Values.{roundValue}
 use Rattle.keccak_rnd.specs.Tuples.{roundTuple}
-use Rattle.verdict.specs.Kind.{rows}
+use Rattle.verdict.specs.Kind.{Kind, rows, row}
 use Rattle.verdict.specs.Verdict.{badValue, badLookup}
 use Rattle.verdict.specs.CoreAndRound.{coreLayout, roundLayout, coreKind, roundKind}
 use Rattle.judge_scan.proofs.Scan.{part-is}
 
-module _ (core : List ℕ) (r : ℕ) (l : r < rows coreLayout core) (x : Place)
-    (e : x ≡ placeOf (firstAt (λ i. not (eqb (coreValue (take (r * 486 + 486 - r * 486) (drop (r * 486) core)) i) 0)) 52)) where
-  core-value-is : x ≡ placeOf (firstAt (badValue (coreKind 24) core r) 52)
+-- the values of row r, evaluated into a slice of their number: it is as long as before, and word i of it is value i
+pub held : (w n : ℕ) (value : List ℕ → ℕ → ℕ) (ws old now : List ℕ) (r : ℕ) → r < length ws / w → length old ≡ n →
+    now ≡ sets old 0 (tab n (value (take (r * w + w - r * w) (drop (r * w) ws)))) →
+    (length now ≡ n) × ((i : ℕ) → i < n → word now i ≡ value (rowAt w ws r) i)
+held w n value ws old now r l h e =
+    let vs : List ℕ = tab n (value (rowAt w ws r)) in
+    let size : length vs ≡ n = length-tab n (value (rowAt w ws r)) in
+    let is : now ≡ sets old 0 vs = e ∙ ap (λ (x : List ℕ). sets old 0 (tab n (value x))) (part-is w ws r l) in (
+      ap length is ∙ length-sets old 0 vs ∙ h,
+      λ i g.
+          ap (λ (x : List ℕ). word x i) (is ∙ sets-front old vs n size (omega arith))
+          ∙ List·getD-append vs (drop n old) 0 i (omega arith)
+          ∙ getD-tab n (value (rowAt w ws r)) i 0 g,
+    )
+
+-- what a test of such a word says of the scan of its table
+module _ (K : Kind) (ws : List ℕ) (r i x : ℕ) (e : x ≡ K .value (row (K .layout) ws r) i) where
+  pub value-good : x ≡ 0 → badValue K ws r i ≡ false
   unfolding badValue
-  core-value-is = e ∙ ap (λ (y : List ℕ). placeOf (firstAt (λ i. not (eqb (coreValue y i) 0)) 52)) (part-is 486 core r l)
+  value-good z = ap not (eq-eqb _ _ (sym e ∙ z))
 
-  pub core-value-none : x ≡ Nowhere → firstAt (badValue (coreKind 24) core r) 52 ≡ none
-  core-value-none z = place-nowhere _ (sym z ∙ core-value-is)
-
-  pub core-value-some : (i : ℕ) → x ≡ At i → firstAt (badValue (coreKind 24) core r) 52 ≡ some i
-  core-value-some i z = place-at _ (sym z ∙ core-value-is)
+  pub value-bad : (x ≡ 0 → ⊥) → badValue K ws r i ≡ true
+  unfolding badValue
+  value-bad z = ap not (ne-eqb _ _ (λ q. z (e ∙ q)))
 
 module _ (core : List ℕ) (r : ℕ) (l : r < rows coreLayout core) (x : Place)
     (e : x ≡ placeOf (firstAt (λ i. not (matched (coreTuple 24 0 (take (r * 486 + 486 - r * 486) (drop (r * 486) core)) i))) 84)) where
@@ -43,18 +59,6 @@ module _ (core : List ℕ) (r : ℕ) (l : r < rows coreLayout core) (x : Place)
 
   pub core-lookup-some : (i : ℕ) → x ≡ At i → firstAt (badLookup (coreKind 24) core r) 84 ≡ some i
   core-lookup-some i z = place-at _ (sym z ∙ core-lookup-is)
-
-module _ (round : List ℕ) (r : ℕ) (l : r < rows roundLayout round) (x : Place)
-    (e : x ≡ placeOf (firstAt (λ i. not (eqb (roundValue (take (r * 1480 + 1480 - r * 1480) (drop (r * 1480) round)) i) 0)) 141)) where
-  round-value-is : x ≡ placeOf (firstAt (badValue roundKind round r) 141)
-  unfolding badValue
-  round-value-is = e ∙ ap (λ (y : List ℕ). placeOf (firstAt (λ i. not (eqb (roundValue y i) 0)) 141)) (part-is 1480 round r l)
-
-  pub round-value-none : x ≡ Nowhere → firstAt (badValue roundKind round r) 141 ≡ none
-  round-value-none z = place-nowhere _ (sym z ∙ round-value-is)
-
-  pub round-value-some : (i : ℕ) → x ≡ At i → firstAt (badValue roundKind round r) 141 ≡ some i
-  round-value-some i z = place-at _ (sym z ∙ round-value-is)
 
 module _ (round : List ℕ) (r : ℕ) (l : r < rows roundLayout round) (x : Place)
     (e : x ≡ placeOf (firstAt (λ i. not (matched (roundTuple (take (r * 1480 + 1480 - r * 1480) (drop (r * 1480) round)) i))) 1031)) where

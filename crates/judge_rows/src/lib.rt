@@ -4,8 +4,8 @@ use keccak;
 use keccak_lookups::core_lookup_failure;
 use keccak_rnd;
 use keccak_rnd_lookups::round_lookup_failure;
-use keccak_rnd_values::round_value_failure;
-use keccak_values::core_value_failure;
+use keccak_rnd_values::put_round_values;
+use keccak_values::put_core_values;
 use lists::Place;
 ghost use mathlib.Core.Path.{_≡_};
 ghost use Rattle.verdict.specs.Verdict.{firstValue, firstLookup};
@@ -19,14 +19,20 @@ pub fn first_core_value(core: &[u64]) -> Spot
     ensures { λ r. ⌜ r ≡ spotOf (firstValue (coreKind 24) (now (core .entry))) ⌝ }
 {
     let rows = core.len() / keccak::NUM_COLUMNS;
+    let mut values = [0u64; 52];
     let mut found = Spot::Nowhere;
     let mut row = 0;
     'rows: while row < rows {
         let start = row * keccak::NUM_COLUMNS;
         let end = start + keccak::NUM_COLUMNS;
-        if let Place::At(index) = core_value_failure(&core[start..end]) {
-            found = Spot::At { row, index };
-            break 'rows;
+        put_core_values(&core[start..end], &mut values);
+        let mut index = 0;
+        while index < 52 {
+            if values[index] != 0 {
+                found = Spot::At { row, index };
+                break 'rows;
+            }
+            index += 1;
         }
         row += 1;
     }
@@ -58,14 +64,20 @@ pub fn first_round_value(round: &[u64]) -> Spot
     ensures { λ r. ⌜ r ≡ spotOf (firstValue roundKind (now (round .entry))) ⌝ }
 {
     let rows = round.len() / keccak_rnd::NUM_COLUMNS;
+    let mut values = [0u64; 141];
     let mut found = Spot::Nowhere;
     let mut row = 0;
     'rows: while row < rows {
         let start = row * keccak_rnd::NUM_COLUMNS;
         let end = start + keccak_rnd::NUM_COLUMNS;
-        if let Place::At(index) = round_value_failure(&round[start..end]) {
-            found = Spot::At { row, index };
-            break 'rows;
+        put_round_values(&round[start..end], &mut values);
+        let mut index = 0;
+        while index < 141 {
+            if values[index] != 0 {
+                found = Spot::At { row, index };
+                break 'rows;
+            }
+            index += 1;
         }
         row += 1;
     }
