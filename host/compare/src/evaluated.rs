@@ -23,7 +23,7 @@ pub struct Table {
     /// Writes the table of a list of operations.
     pub written: fn(&[u64]) -> Result<Vec<u64>, Refusal>,
     /// How many drawn operations are written.
-    operations: usize,
+    pub operations: usize,
     /// The values of a row.
     pub values: fn(&[u64], &mut [u64]) -> Result<(), Refusal>,
     /// The same by the Rust.
