@@ -103,14 +103,34 @@ impl Table {
 
         comparison.group(format!("{name} rows with each column replaced in turn"));
         let drawn: Vec<u64> = (0..self.columns).map(|_| words.below(P)).collect();
-        for base in [rows[1], &drawn] {
+        let element: fn(&mut Words) -> u64 = Words::element;
+        for (base, word) in [
+            (rows[1], element),
+            (rows[1], |words| words.below(16)),
+            (&drawn, element),
+        ] {
             for column in 0..self.columns {
                 let mut row = base.to_vec();
                 while row[column] == base[column] {
-                    row[column] = words.element();
+                    row[column] = word(words);
                 }
                 let what = format!("a {name} row whose column {column} was {}", base[column]);
                 lend(comparison, words, &what, &row, &mut check);
+            }
+        }
+
+        comparison.group(format!("{name} rows whose MU is 0 to 16 or p - 16 to p - 1"));
+        for base in [rows[1], &drawn] {
+            for mu in (0..=16).chain(P - 16..P) {
+                let mut row = base.to_vec();
+                row[self.columns - 1] = mu;
+                lend(
+                    comparison,
+                    words,
+                    &format!("a {name} row with MU {mu}"),
+                    &row,
+                    &mut check,
+                );
             }
         }
 
