@@ -106,7 +106,7 @@ impl Table {
         let element: fn(&mut Words) -> u64 = Words::element;
         for (base, word) in [
             (rows[1], element),
-            (rows[1], |words| words.below(16)),
+            (rows[1], |words| words.below(32)),
             (&drawn, element),
         ] {
             for column in 0..self.columns {
@@ -119,9 +119,9 @@ impl Table {
             }
         }
 
-        comparison.group(format!("{name} rows whose MU is 0 to 16 or p - 16 to p - 1"));
+        comparison.group(format!("{name} rows whose MU is 0 to 32 or p - 16 to p - 1"));
         for base in [rows[1], &drawn] {
-            for mu in (0..=16).chain(P - 16..P) {
+            for mu in (0..=32).chain(P - 16..P) {
                 let mut row = base.to_vec();
                 row[self.columns - 1] = mu;
                 lend(
@@ -168,7 +168,7 @@ impl Table {
 
 /// Checks one row: lent with guards, and with up to two words past its columns that are no elements, because no call reads
 /// them. Every word of it is to be as it was afterwards.
-fn lend(comparison: &mut Comparison, words: &mut Words, what: &str, columns: &[u64], check: &mut impl Check) {
+pub fn lend(comparison: &mut Comparison, words: &mut Words, what: &str, columns: &[u64], check: &mut impl Check) {
     let past = words.below(3) as usize;
     let row = [columns, &[P, u64::MAX][..past]].concat();
     let mut lent = Lent::new(&row, words);

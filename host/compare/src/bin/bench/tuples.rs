@@ -1,11 +1,10 @@
 //! The tuples of a row, ours by index against the published interactions.
 //!
 //! The Rust's `bus_interactions` builds a list for the whole table, once; that is not timed. Timed is the evaluation of all
-//! of it on every row of a written table, padding included: each interaction's values into a lent slice and its
-//! multiplicity, from the row's field elements, made before. Ours is as many calls by index, from the row's words into the
-//! same kind of slice; each call checks that every column of the row is below p. How the Rust's prover walks its list is
-//! not published (the crate `stark`): the walk is the oracle's, without its allocations. Its field is the oracle's
-//! stand-in.
+//! of it on four written rows: each interaction's values into a lent slice and its multiplicity, from the row's field
+//! elements, made before. Ours is as many calls by index, from the row's words into the same kind of slice; each call
+//! checks that every column of the row is below p. How the Rust's prover walks its list is not published (the crate
+//! `stark`): the walk is the oracle's, without its allocations. Its field is the oracle's stand-in.
 
 use std::hint::black_box;
 
@@ -17,7 +16,9 @@ use stark::lookup::BusInteraction;
 use crate::timing::{best, line, ratio, time};
 use crate::values::rows;
 
-const RUNS: usize = 200;
+/// Short runs, and many: the best of them is one that nothing else on the machine cut into.
+const ROWS: usize = 4;
+const RUNS: usize = 1000;
 
 pub fn run() {
     tuples("core-tuples", &CORE, &keccak::bus_interactions());
@@ -25,10 +26,9 @@ pub fn run() {
 }
 
 fn tuples(name: &str, table: &Table, interactions: &[BusInteraction]) {
-    let words = rows(table);
+    let words = &rows(table)[..ROWS * table.columns];
     let elements: Vec<FE> = words.iter().copied().map(FE::from).collect();
-    let rows = words.len() / table.columns;
-    println!("{name}, {rows} rows: time of a row's {} tuples", table.num_tuples);
+    println!("{name}, {ROWS} rows: time of a row's {} tuples", table.num_tuples);
 
     let ours = || {
         let mut out = [0; 256];
@@ -49,7 +49,7 @@ fn tuples(name: &str, table: &Table, interactions: &[BusInteraction]) {
         }
     };
     let [ours, rust] = best(RUNS, [Box::new(|| time(ours)), Box::new(|| time(rust))]);
-    line("ours", ours, rows);
-    line("the Rust", rust, rows);
+    line("ours", ours, ROWS);
+    line("the Rust", rust, ROWS);
     ratio(name, ours, rust);
 }
