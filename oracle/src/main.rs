@@ -12,7 +12,8 @@ usage: oracle row bitwise INDEX | row keccak_rc ROUND | table keccak_rc N | padd
        oracle values core | values round                         (rows on standard input)
        oracle tuples bitwise | tuples keccak_rc | tuples is_wh | tuples core SYSCALL | tuples round
                                                                  (rows on standard input)
-       oracle operations SEED N | sample tables | sample core | sample round | sample rows | sample lookups
+       oracle operations SEED N
+       oracle sample tables | sample core | sample round | sample rows | sample lookups | sample evaluations
 Words on standard input are decimal, separated by white space.";
 
 /// One line of numbers.
@@ -60,6 +61,7 @@ fn answer(arguments: &[&str]) -> Result<Vec<Line>, String> {
         ["sample", "round"] => sample::round(),
         ["sample", "rows"] => sample::rows(),
         ["sample", "lookups"] => sample::lookups(),
+        ["sample", "evaluations"] => sample::evaluations(),
         _ => return Err(USAGE.into()),
     })
 }

@@ -161,6 +161,31 @@ pub fn rows() -> Vec<Line> {
     lines
 }
 
+/// The sample of values and tuples, for a program that replays them: the rows of `core` and `round`, of each row the values
+/// and the digest of all its tuples.
+pub fn evaluations() -> Vec<Line> {
+    let mut core = core_table(&operations(2, 5));
+    core.extend(Generator::new(3).words(3 * CORE_COLUMNS));
+    let mut round = round_table(&operations(4, 1));
+    round.extend(Generator::new(5).words(2 * ROUND_COLUMNS));
+
+    let mut lines = Vec::new();
+    for (k, row) in (0..).zip(core.chunks_exact(CORE_COLUMNS)) {
+        lines.push(line(12, &[k], &core_values(row)));
+        lines.push(line(18, &[k], &[tuples_digest(&core_tuples(row, SAMPLE_SYSCALL))]));
+    }
+    for (k, row) in (0..).zip(round.chunks_exact(ROUND_COLUMNS)) {
+        lines.push(line(15, &[k], &round_values(row)));
+        lines.push(line(19, &[k], &[tuples_digest(&round_tuples(row))]));
+    }
+    lines
+}
+
+/// The digest of the numbers of all tuples, one after the other.
+fn tuples_digest(tuples: &[Tuple]) -> u64 {
+    digest(&tuples.iter().flat_map(tuple_numbers).collect::<Vec<u64>>())
+}
+
 /// The digest of words below p: from 0, for each word in turn the digest becomes (6364136223846793005·digest + word) mod p.
 pub fn digest(words: &[u64]) -> u64 {
     let step = |digest, &word| element(Generator::FACTOR) * digest + element(word);

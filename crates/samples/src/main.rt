@@ -1,8 +1,13 @@
 // Prints rows, keys and tuples that the proved code computes. The file `stdout` has the same lines from the published Rust:
-// it is what the oracle prints for `sample rows`, then for `sample lookups`. Each line starts with the kind of its item.
+// it is what the oracle prints for `sample rows`, `sample lookups`, then `sample evaluations`. Each line starts with the kind
+// of its item.
 use field::Fe;
 use is_wh::IsWhKey;
 use keccak_tables::FlatTuple;
+use keccak_tables::evaluators::keccak_tables_keccak_bus_interaction;
+use keccak_tables::evaluators::keccak_tables_keccak_rnd_bus_interaction;
+use keccak_tables::evaluators::keccak_tables_keccak_rnd_values;
+use keccak_tables::evaluators::keccak_tables_keccak_values;
 use keccak_tables::lookups::keccak_tables_bitwise_bus_interaction;
 use keccak_tables::lookups::keccak_tables_is_wh_bus_interaction;
 use keccak_tables::lookups::keccak_tables_keccak_rc_bus_interaction;
@@ -14,6 +19,9 @@ ghost use Prim.Native.Nat.{_+_, _≤_, _<_};
 ghost use lib.ListN.{length};
 
 const FACTOR: u64 = 6364136223846793005;
+
+// The number of the Keccak system call, 3 * 2^32 + 11.
+const SYSCALL: u64 = 12884901899;
 
 // FACTOR · x + y mod p.
 fn step(x: u64, y: u64) -> u64 {
@@ -63,9 +71,9 @@ fn print_rows(kind: u64, words: &[u64], width: usize)
     }
 }
 
-// From 0, FACTOR · digest + word for each word in turn, mod p.
-fn digest(words: &[u64]) -> u64 {
-    let mut sum: u64 = 0;
+// From a digest, FACTOR · digest + word for each word in turn, mod p.
+fn digest(before: u64, words: &[u64]) -> u64 {
+    let mut sum = before;
     for k in 0..words.len() {
         sum = step(sum, words[k]);
     }
@@ -79,7 +87,7 @@ fn print_digests(kind: u64, words: &[u64], width: usize)
     let mut at: usize = 0;
     let mut number: u64 = 0;
     while width <= words.len() - at {
-        let sum = digest(&words[at..at + width]);
+        let sum = digest(0, &words[at..at + width]);
         print_line(kind, number, &[sum]);
         at += width;
         number += 1;
@@ -270,9 +278,94 @@ fn key_lookups(before: u64) {
     }
 }
 
+// From a digest, that of a tuple's numbers: bus, side, multiplicity, length, and its values, for which the slice has room.
+fn tuple_digest(before: u64, tuple: FlatTuple, values: &[u64]) -> u64 {
+    let length = tuple.length as usize;
+    if length > values.len() {
+        return before;
+    }
+    let head = digest(
+        before,
+        &[tuple.bus, tuple.side, tuple.multiplicity, tuple.length],
+    );
+    digest(head, &values[0..length])
+}
+
+// The digest of the 84 tuples of a core row.
+fn core_tuples(row: &[u64]) -> u64 {
+    let mut sum: u64 = 0;
+    let mut i: usize = 0;
+    while i < 84 {
+        let mut out = [0u64; 203];
+        let tuple = keccak_tables_keccak_bus_interaction(row, i, SYSCALL, &mut out);
+        sum = tuple_digest(sum, tuple, &out);
+        i += 1;
+    }
+    sum
+}
+
+// The digest of the 1,031 tuples of a round row.
+fn round_tuples(row: &[u64]) -> u64 {
+    let mut sum: u64 = 0;
+    let mut i: usize = 0;
+    while i < 1031 {
+        let mut out = [0u64; 203];
+        let tuple = keccak_tables_keccak_rnd_bus_interaction(row, i, &mut out);
+        sum = tuple_digest(sum, tuple, &out);
+        i += 1;
+    }
+    sum
+}
+
+// The values of a core row, and the digest of its tuples.
+fn print_core_row(number: u64, row: &[u64]) {
+    let mut values = [0u64; 52];
+    keccak_tables_keccak_values(row, &mut values);
+    print_line(12, number, &values);
+    print_line(18, number, &[core_tuples(row)]);
+}
+
+// The same of a round row.
+fn print_round_row(number: u64, row: &[u64]) {
+    let mut values = [0u64; 141];
+    keccak_tables_keccak_rnd_values(row, &mut values);
+    print_line(15, number, &values);
+    print_line(19, number, &[round_tuples(row)]);
+}
+
+// The core table of five operations, and three rows of drawn words.
+fn core_evaluations(ops: &[u64]) {
+    let mut rows = [0u64; 5346];
+    keccak_trace::generate_keccak_trace(ops, &mut rows);
+    put_drawn(&mut rows, 3888, 1458, 3);
+    for k in 0..11 {
+        print_core_row(k as u64, &rows[486 * k..486 * k + 486]);
+    }
+}
+
+// The round table of an operation of its own, and two rows of drawn words.
+fn round_evaluations() {
+    let mut ops = [0u64; 52];
+    put_operation(&mut ops, 0, 4);
+    let mut rows = [0u64; 50320];
+    keccak_rnd_trace::generate_keccak_rnd_trace(&ops, &mut rows);
+    put_drawn(&mut rows, 47360, 2960, 5);
+    for k in 0..34 {
+        print_round_row(k as u64, &rows[1480 * k..1480 * k + 1480]);
+    }
+}
+
+fn evaluations() {
+    let mut ops = [0u64; 260];
+    put_operations(&mut ops);
+    core_evaluations(&ops);
+    round_evaluations();
+}
+
 fn main() {
     operations();
     let word = bitwise_lookups(1);
     constant_lookups();
     key_lookups(word);
+    evaluations();
 }

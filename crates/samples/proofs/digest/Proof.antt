@@ -8,10 +8,10 @@ use Rattle.samples.proofs.digest.Statement.{statement}
 use Rattle.samples.proofs.digest.Tie as tie
 
 abbrev Inv-loop : tie.InvT-loop
-Inv-loop words sum₀ k₀ k-end sum k = (k ≤ k-end) × (k-end ≡ length words)
+Inv-loop before words sum₀ k₀ k-end sum k = (k ≤ k-end) × (k-end ≡ length words)
 
 abbrev μ-loop : tie.MeasureT-loop
-μ-loop words sum₀ k₀ k-end sum k = k-end - k
+μ-loop before words sum₀ k₀ k-end sum k = k-end - k
 
 loop-holds : tie.Need-loop-holds Inv-loop μ-loop
 loop-holds c = (omega arith, omega arith)
