@@ -6,7 +6,9 @@
 #![warn(missing_docs)]
 
 pub mod comparison;
+pub mod dishonest;
 pub mod inputs;
+pub mod judge;
 pub mod lent;
 pub mod rows;
 pub mod untouched;
