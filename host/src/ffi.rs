@@ -114,10 +114,17 @@ bind! {
     generate_keccak_trace = keccak_tables_generate_keccak_trace(read ops, write table) -> FlatAnswer;
     is_wh_keys = keccak_tables_is_wh_keys(read ops, write out) -> FlatAnswer;
     keccak_height = keccak_tables_keccak_height(number n: usize) -> FlatNumber;
+    keccak_values = keccak_tables_keccak_values(read row, write out) -> FlatAnswer;
+    keccak_bus_interaction = keccak_tables_keccak_bus_interaction(
+        read row, number index: usize, number syscall: u64, write out
+    ) -> FlatTuple;
 
     keccak_rnd_row =
         keccak_tables_keccak_rnd_row(number timestamp: u64, read start, number round: usize, write row) -> FlatAnswer;
     generate_keccak_rnd_trace = keccak_tables_generate_keccak_rnd_trace(read ops, write table) -> FlatAnswer;
     keccak_rnd_height = keccak_tables_keccak_rnd_height(number n: usize) -> FlatNumber;
     padding_are_bytes = keccak_tables_padding_are_bytes(number n: usize) -> FlatNumber;
+    keccak_rnd_values = keccak_tables_keccak_rnd_values(read row, write out) -> FlatAnswer;
+    keccak_rnd_bus_interaction =
+        keccak_tables_keccak_rnd_bus_interaction(read row, number index: usize, write out) -> FlatTuple;
 }

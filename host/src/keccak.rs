@@ -3,9 +3,19 @@
 use crate::ffi;
 use crate::operation::OP_WORDS;
 use crate::refusal::Refusal;
+use crate::tuple::BusInteraction;
 
 /// The columns of a row: 2 timestamp words, 8 address bytes, 200 INPUT, 200 OUTPUT, 25 pointers of 3 limbs, MU.
 pub const NUM_COLUMNS: usize = 486;
+
+/// The constraint values of a row: two for each lane's pointer, then the last pointer's high carry, then MU.
+pub const NUM_VALUES: usize = 52;
+
+/// The tuples of a row: 1 Ecall, 26 Memw, 2 Keccak, 25 IsWh, 25 IsHalfword, 1 ByteAlu, 4 AreBytes.
+pub const NUM_TUPLES: usize = 84;
+
+/// The most values that a tuple of a row has.
+pub const MAX_TUPLE_LENGTH: usize = 203;
 
 /// The words of an operation's keys: two for each lane.
 pub const KEY_WORDS: usize = 50;
@@ -38,4 +48,16 @@ pub fn is_wh_keys(ops: &[u64], out: &mut [u64]) -> Result<(), Refusal> {
 /// The rows of the core table of `n` operations: a power of two, 4 or more.
 pub fn keccak_height(n: usize) -> Result<usize, Refusal> {
     Result::from(ffi::keccak_height(n)).map(|rows| rows as usize)
+}
+
+/// Writes the 52 constraint values of a row of 486 columns, mod p and in the order of the Rust's `eval`, to the front of
+/// `out`. All are 0 where the constraints hold.
+pub fn core_values(row: &[u64], out: &mut [u64]) -> Result<(), Refusal> {
+    ffi::keccak_values(row, out).into()
+}
+
+/// Tuple `index` of a row of 486 columns, in the order of the Rust's `bus_interactions`; its values go to the front of
+/// `out`. `syscall` is the number of the Keccak system call, whose halves stand in tuple 0.
+pub fn bus_interaction(row: &[u64], index: usize, syscall: u64, out: &mut [u64]) -> Result<BusInteraction, Refusal> {
+    BusInteraction::from_flat(ffi::keccak_bus_interaction(row, index, syscall, out))
 }

@@ -3,9 +3,19 @@
 use crate::ffi;
 use crate::operation::OP_WORDS;
 use crate::refusal::Refusal;
+use crate::tuple::BusInteraction;
 
 /// The columns of a row.
 pub const NUM_COLUMNS: usize = 1480;
+
+/// The constraint values of a row: 20 carries of C, 20 halfwords of C shifted, 100 halfwords shifted by ρ, then MU.
+pub const NUM_VALUES: usize = 141;
+
+/// The tuples of a row: 2 Keccak, 1 KeccakRc, then 808 ByteAlu and 220 AreBytes, mixed.
+pub const NUM_TUPLES: usize = 1031;
+
+/// The most values that a tuple of a row has.
+pub const MAX_TUPLE_LENGTH: usize = 203;
 
 /// The rounds of an operation.
 pub const ROUNDS: usize = 24;
@@ -36,4 +46,16 @@ pub fn keccak_rnd_height(n: usize) -> Result<usize, Refusal> {
 /// How many AreBytes tuples the padding rows of the round table of `n` operations send; 0 where `n` is 0.
 pub fn padding_are_bytes(n: usize) -> Result<u64, Refusal> {
     ffi::padding_are_bytes(n).into()
+}
+
+/// Writes the 141 constraint values of a row of 1,480 columns, mod p and in the order of the Rust's `eval`, to the front
+/// of `out`. All are 0 where the constraints hold.
+pub fn round_values(row: &[u64], out: &mut [u64]) -> Result<(), Refusal> {
+    ffi::keccak_rnd_values(row, out).into()
+}
+
+/// Tuple `index` of a row of 1,480 columns, in the order of the Rust's `bus_interactions`; its values go to the front of
+/// `out`.
+pub fn bus_interaction(row: &[u64], index: usize, out: &mut [u64]) -> Result<BusInteraction, Refusal> {
+    BusInteraction::from_flat(ffi::keccak_rnd_bus_interaction(row, index, out))
 }

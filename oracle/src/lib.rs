@@ -32,4 +32,4 @@ pub use answers::keccak_rnd::{ROUND_COLUMNS, padding_are_bytes, round_sums, roun
 pub use answers::tally::tally;
 pub use operation::OPERATION_WORDS;
 pub use row::P;
-pub use tuple::{Bus, BusSums, Side, Tuple};
+pub use tuple::{Bus, BusSums, Side, Tuple, evaluate};

@@ -109,6 +109,15 @@ pub(crate) fn tuples(interactions: &[BusInteraction], row: &[u64]) -> Vec<Tuple>
         .collect()
 }
 
+/// Evaluates one interaction on a row of elements: its values, ByteAlu's markers as they are, go to the front of `out`, and
+/// its multiplicity is answered. For a benchmark, which allocates nothing for a tuple.
+pub fn evaluate(interaction: &BusInteraction, row: &[FE], out: &mut [FE]) -> FE {
+    for (place, bus_value) in out.iter_mut().zip(&interaction.values) {
+        *place = value(bus_value, row);
+    }
+    multiplicity(interaction, row)
+}
+
 /// Per bus and side, the sum of the multiplicities over every row of a table, as a whole number.
 #[derive(Debug, Clone, Copy, Default, PartialEq, Eq)]
 pub struct BusSums {

@@ -16,17 +16,17 @@ pub struct Comparison {
 }
 
 struct Group {
-    name: &'static str,
+    name: String,
     items: u64,
     words: u64,
 }
 
 impl Comparison {
     /// Begins a group of comparisons.
-    pub fn group(&mut self, name: &'static str) {
+    pub fn group(&mut self, name: impl Into<String>) {
         self.end_group();
         self.group = Some(Group {
-            name,
+            name: name.into(),
             items: 0,
             words: 0,
         });

@@ -1,14 +1,19 @@
 //! The proved tables held against the published Rust: what is compared, and how a comparison is counted and told.
 //!
-//! `rows` compares rows, tables, keys, counters and refusals. A further area (constraint values, tuples of core and round
-//! rows, the verdict) is a module beside it and a name in `bin/differential.rs`.
+//! `rows` compares rows, tables, keys, counters and refusals, `values` the constraint values of core and round rows and
+//! `tuples` their tuples. A further area (the verdict) is a module beside them and a name in `bin/differential.rs`.
 
 #![warn(missing_docs)]
 
 pub mod comparison;
 pub mod dishonest;
+pub mod evaluated;
 pub mod inputs;
 pub mod judge;
 pub mod lent;
+pub mod refused;
 pub mod rows;
+pub mod tuple_list;
+pub mod tuples;
 pub mod untouched;
+pub mod values;

@@ -1,12 +1,16 @@
-//! The proved tables against the published Rust. `differential rows [SEED [N]]` compares rows; the last line reads
+//! The proved tables against the published Rust, area by area: rows, constraint values, tuples. The last line reads
 //! `compared W words, 0 differences`, and a difference names its input and makes the exit status 1.
 
 use std::process::ExitCode;
 
 use compare::comparison::Comparison;
-use compare::rows;
+use compare::{rows, tuples, values};
 
-const USAGE: &str = "usage: differential rows [SEED [N]]    (seed 1 and 300 drawn operations where none is given)";
+const USAGE: &str = "\
+usage: differential rows [SEED [N]]      (N drawn operations)
+       differential values [SEED [N]]    (N drawn rows of each kind)
+       differential tuples [SEED [N]]    (N drawn rows of each kind)
+Seed 1 and 300 where none is given.";
 
 fn main() -> ExitCode {
     let arguments: Vec<String> = std::env::args().skip(1).collect();
@@ -24,6 +28,8 @@ fn main() -> ExitCode {
     let mut comparison = Comparison::default();
     match area {
         "rows" => rows::compare(&mut comparison, seed, n),
+        "values" => values::compare(&mut comparison, seed, n),
+        "tuples" => tuples::compare(&mut comparison, seed, n),
         _ => return usage(),
     }
     comparison.finish()

@@ -6,7 +6,7 @@ use oracle::Lookup;
 use crate::comparison::Comparison;
 use crate::inputs::Words;
 use crate::lent::Lent;
-use crate::rows::tuples;
+use crate::tuple_list::tuples;
 
 pub fn compare(comparison: &mut Comparison, words: &mut Words) {
     comparison.group("bitwise rows, all 2^20, by both of the Rust's writers");
@@ -63,6 +63,7 @@ pub fn compare(comparison: &mut Comparison, words: &mut Words) {
         tuples(
             comparison,
             words,
+            || "a bitwise row".into(),
             &row,
             bitwise::bus_interaction,
             &oracle::bitwise_tuples(&row),

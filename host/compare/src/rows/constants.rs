@@ -5,7 +5,7 @@ use keccak_tables::{MAX_OPS, keccak_rc};
 use crate::comparison::Comparison;
 use crate::inputs::Words;
 use crate::lent::Lent;
-use crate::rows::tuples;
+use crate::tuple_list::tuples;
 
 pub fn compare(comparison: &mut Comparison, words: &mut Words) {
     comparison.group("constant rows, all 32");
@@ -31,6 +31,7 @@ pub fn compare(comparison: &mut Comparison, words: &mut Words) {
         tuples(
             comparison,
             words,
+            || "a constant row".into(),
             row,
             keccak_rc::bus_interaction,
             &oracle::keccak_rc_tuples(row),
@@ -41,6 +42,7 @@ pub fn compare(comparison: &mut Comparison, words: &mut Words) {
         tuples(
             comparison,
             words,
+            || "a constant row".into(),
             &row,
             keccak_rc::bus_interaction,
             &oracle::keccak_rc_tuples(&row),

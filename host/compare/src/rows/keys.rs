@@ -4,7 +4,7 @@ use keccak_tables::is_wh::{self, IsWhKey};
 
 use crate::comparison::Comparison;
 use crate::inputs::{Words, addresses};
-use crate::rows::tuples;
+use crate::tuple_list::tuples;
 
 pub fn compare(comparison: &mut Comparison, words: &mut Words) {
     comparison.group("keys of numbers");
@@ -27,6 +27,7 @@ pub fn compare(comparison: &mut Comparison, words: &mut Words) {
         tuples(
             comparison,
             words,
+            || "a row of keys".into(),
             &row,
             is_wh::bus_interaction,
             &oracle::is_wh_tuples(&row),

@@ -2,12 +2,13 @@
 //! panics there or has no such call); and every lent word as it was.
 
 use keccak_tables::keccak::LAST_ADDRESS;
-use keccak_tables::{MAX_OPS, OP_WORDS, P, Refusal, bitwise, is_wh, keccak, keccak_rc, keccak_rnd};
+use keccak_tables::{MAX_OPS, OP_WORDS, P, bitwise, is_wh, keccak, keccak_rc, keccak_rnd};
 
 use crate::comparison::Comparison;
 use crate::inputs::Words;
 use crate::lent::Lent;
-use crate::rows::{ListCall, TupleCall};
+use crate::refused::{on_slice, tuple_calls};
+use crate::rows::ListCall;
 use crate::untouched::Untouched;
 
 /// The detail of a list with too many operations, and of a count of them.
@@ -19,36 +20,12 @@ pub fn compare(comparison: &mut Comparison, words: &mut Words) {
     comparison.group("refusals: constant rows and tables");
     constant_calls(comparison, words);
     comparison.group("refusals: tuples");
-    tuple_calls(comparison, words);
+    tuples_of_lookups(comparison, words);
     comparison.group("refusals: calls that take operations");
     operation_calls(comparison, words);
     comparison.group("refusals: round rows and numbers of operations");
     round_rows(comparison, words);
     counts(comparison);
-}
-
-/// One call on a drawn slice of `length` words. `expected` is the refusal's number and detail, or none where the call is
-/// accepted; refused, it leaves every word as it was.
-fn on_slice<T>(
-    comparison: &mut Comparison,
-    words: &mut Words,
-    length: usize,
-    input: &str,
-    expected: Option<(u64, u64)>,
-    call: impl FnOnce(&mut [u64]) -> Result<T, Refusal>,
-) {
-    let mut lent = Lent::drawn(length, words);
-    let answer = call(lent.slice());
-    let input = || format!("{input}, a slice of {length} words");
-    match expected {
-        None => {
-            comparison.done(input, answer);
-        }
-        Some((number, detail)) => {
-            comparison.refused(input, answer, number, detail);
-            lent.kept(comparison, |_| input());
-        }
-    }
 }
 
 fn bitwise_calls(comparison: &mut Comparison, words: &mut Words) {
@@ -62,7 +39,7 @@ fn bitwise_calls(comparison: &mut Comparison, words: &mut Words) {
             };
             let input = format!("generate_bitwise_row({index})");
             let call = |row: &mut [u64]| bitwise::generate_bitwise_row(index, row);
-            on_slice(comparison, words, length, &input, expected, call);
+            on_slice(comparison, words, length, || input.clone(), expected, call);
         }
     }
     for z in [15, 16, 17, 255] {
@@ -84,13 +61,20 @@ fn bitwise_calls(comparison: &mut Comparison, words: &mut Words) {
                 };
                 let input = format!("bump of kind {kind}, z = {z}");
                 let call = |counters: &mut [u64]| bitwise::bump(counters, kind, 3, 4, z);
-                on_slice(comparison, words, length, &input, Some(expected), call);
+                on_slice(comparison, words, length, || input.clone(), Some(expected), call);
             }
         }
     }
     let end = bitwise::NUM_COUNTERS;
     let call = |counters: &mut [u64]| bitwise::bump(counters, 0, 0, 0, 0);
-    on_slice(comparison, words, end - 1, "bump at 0", Some((3, end as u64)), call);
+    on_slice(
+        comparison,
+        words,
+        end - 1,
+        || "bump at 0".into(),
+        Some((3, end as u64)),
+        call,
+    );
     // A counter that is p or more, the first, one between and the last; then the same place holding p - 1.
     for (kind, x, y, z) in [(0, 0, 0, 0), (6, 1, 2, 3), (9, 255, 255, 15)] {
         let place = (usize::from(x) + 256 * usize::from(y) + 65_536 * usize::from(z)) * 10 + kind;
@@ -120,7 +104,7 @@ fn constant_calls(comparison: &mut Comparison, words: &mut Words) {
             };
             let input = format!("generate_row({round})");
             let call = |out: &mut [u64]| keccak_rc::generate_row(round, out);
-            on_slice(comparison, words, length, &input, expected, call);
+            on_slice(comparison, words, length, || input.clone(), expected, call);
         }
     }
     for length in [0, 319, 320, 321] {
@@ -129,7 +113,7 @@ fn constant_calls(comparison: &mut Comparison, words: &mut Words) {
             comparison,
             words,
             length,
-            "the constant table",
+            || "the constant table".into(),
             short,
             keccak_rc::generate_keccak_rc_trace,
         );
@@ -137,68 +121,19 @@ fn constant_calls(comparison: &mut Comparison, words: &mut Words) {
             let expected = if n >= TOO_MANY { Some((1, TOO_MANY)) } else { short };
             let input = format!("update_multiplicities to {n}");
             let call = |table: &mut [u64]| keccak_rc::update_multiplicities(table, n);
-            on_slice(comparison, words, length, &input, expected, call);
+            on_slice(comparison, words, length, || input.clone(), expected, call);
         }
     }
 }
 
-/// The tables whose tuples are asked for: name, columns, the lengths of the tuples, and the call.
-const TUPLE_CALLS: [(&str, usize, &[usize], TupleCall); 3] = [
-    (
-        "bitwise",
-        bitwise::NUM_COLUMNS,
-        &[2, 2, 2, 2, 1, 1, 4, 4, 4, 4],
-        bitwise::bus_interaction,
-    ),
-    ("keccak_rc", keccak_rc::NUM_COLUMNS, &[9], keccak_rc::bus_interaction),
-    ("is_wh", is_wh::NUM_COLUMNS, &[1, 1, 1, 1, 2], is_wh::bus_interaction),
-];
-
-fn tuple_calls(comparison: &mut Comparison, words: &mut Words) {
-    for (name, width, lengths, call) in TUPLE_CALLS {
-        let count = lengths.len();
-        for index in [0, count - 1, count, count + 1, usize::MAX] {
-            let size = lengths.get(index).copied().unwrap_or(1);
-            for columns in [0, width - 1, width, width + 1] {
-                for room in [0, size - 1, size, size + 1] {
-                    let expected = if index >= count {
-                        Some((1, count as u64))
-                    } else if columns < width {
-                        Some((3, width as u64))
-                    } else if room < size {
-                        Some((3, size as u64))
-                    } else {
-                        None
-                    };
-                    let row: Vec<u64> = (0..columns).map(|_| words.below(P)).collect();
-                    let input = format!("tuple {index} of the {name} row {row:?}");
-                    on_slice(comparison, words, room, &input, expected, |out| call(&row, index, out));
-                }
-            }
-        }
-        not_elements(comparison, words, name, width, |row, out| call(row, 0, out));
-    }
-}
-
-/// Each column in turn p, p + 1 and 2^64 - 1: refused, by the first such column. The word after the row is not read.
-fn not_elements<T>(
-    comparison: &mut Comparison,
-    words: &mut Words,
-    name: &str,
-    width: usize,
-    call: impl Fn(&[u64], &mut [u64]) -> Result<T, Refusal>,
-) {
-    for place in 0..=width {
-        for word in [P - 1, P, P + 1, u64::MAX] {
-            let mut row: Vec<u64> = (0..=width).map(|_| words.below(P)).collect();
-            row[place] = word;
-            // A later one is not the first.
-            row[width] = u64::MAX;
-            let expected = (word >= P && place < width).then_some((5, place as u64));
-            let input = format!("the {name} row {row:?}");
-            on_slice(comparison, words, 10, &input, expected, |out| call(&row, out));
-        }
-    }
+fn tuples_of_lookups(comparison: &mut Comparison, words: &mut Words) {
+    let lengths = [2, 2, 2, 2, 1, 1, 4, 4, 4, 4];
+    let call = &bitwise::bus_interaction;
+    tuple_calls(comparison, words, "bitwise", bitwise::NUM_COLUMNS, &lengths, call);
+    let call = &keccak_rc::bus_interaction;
+    tuple_calls(comparison, words, "keccak_rc", keccak_rc::NUM_COLUMNS, &[9], call);
+    let call = &is_wh::bus_interaction;
+    tuple_calls(comparison, words, "is_wh", is_wh::NUM_COLUMNS, &[1, 1, 1, 1, 2], call);
 }
 
 /// The words that a call needs for n operations.
@@ -238,7 +173,14 @@ fn operation_calls(comparison: &mut Comparison, words: &mut Words) {
                         .or((past > 0).then_some((2, 2)))
                         .or((length < needed).then_some((3, needed as u64)));
                     let input = format!("{name} on {n} operations and {past} words");
-                    on_slice(comparison, words, length, &input, expected, |out| call(&ops, out));
+                    on_slice(
+                        comparison,
+                        words,
+                        length,
+                        || input.clone(),
+                        expected,
+                        |out| call(&ops, out),
+                    );
                 }
             }
             high_addresses(comparison, words, (name, needed, call), n);
@@ -248,9 +190,14 @@ fn operation_calls(comparison: &mut Comparison, words: &mut Words) {
     for index in [0, 2, 3, 4, usize::MAX] {
         let expected = (index >= 3).then_some((1, 3));
         let input = format!("keccak_row({index}) of 3 operations");
-        on_slice(comparison, words, 486, &input, expected, |row| {
-            keccak::keccak_row(&ops, index, row)
-        });
+        on_slice(
+            comparison,
+            words,
+            486,
+            || input.clone(),
+            expected,
+            |row| keccak::keccak_row(&ops, index, row),
+        );
     }
     too_many(comparison, words);
 }
@@ -272,10 +219,24 @@ fn high_addresses(
             }
             let input = format!("{name}, operation {at} of {n} at address {address}");
             let expected = high.then_some((4, address));
-            on_slice(comparison, words, needed, &input, expected, |out| call(&ops, out));
+            on_slice(
+                comparison,
+                words,
+                needed,
+                || input.clone(),
+                expected,
+                |out| call(&ops, out),
+            );
             if needed > 0 {
                 let expected = Some((3, needed as u64));
-                on_slice(comparison, words, needed - 1, &input, expected, |out| call(&ops, out));
+                on_slice(
+                    comparison,
+                    words,
+                    needed - 1,
+                    || input.clone(),
+                    expected,
+                    |out| call(&ops, out),
+                );
             }
         }
     }
@@ -301,7 +262,14 @@ fn too_many(comparison: &mut Comparison, words: &mut Words) {
         ] {
             let ops = &untouched.words()[..operations * OP_WORDS + past];
             let input = format!("{name} on {operations} operations and {past} words");
-            on_slice(comparison, words, 8, &input, Some(expected), |out| call(ops, out));
+            on_slice(
+                comparison,
+                words,
+                8,
+                || input.clone(),
+                Some(expected),
+                |out| call(ops, out),
+            );
         }
     }
 }
@@ -319,7 +287,7 @@ fn round_rows(comparison: &mut Comparison, words: &mut Words) {
                 let start = words.take(lanes);
                 let input = format!("keccak_rnd_row of round {round} from {lanes} lanes");
                 let call = |row: &mut [u64]| keccak_rnd::keccak_rnd_row(1, &start, round, row);
-                on_slice(comparison, words, length, &input, expected, call);
+                on_slice(comparison, words, length, || input.clone(), expected, call);
             }
         }
     }

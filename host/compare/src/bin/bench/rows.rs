@@ -1,5 +1,4 @@
-//! Times the proved writers against the published Rust's on the same inputs. `bench rows` prints for each of them the best
-//! of several runs, ours and theirs in turn, and lines `ratio NAME X.XX`: our time over theirs.
+//! The proved writers of rows and tables against the published Rust's.
 //!
 //! The published table writers allocate the table that they return, zeroed, and so `ratio core` and `ratio round` time
 //! ours with an allocation of its own too: `vec![0; words]`, then the call. `ratio core-lent` and `ratio round-lent` time
@@ -10,59 +9,25 @@
 //! same memory again and again, so no run pays for memory that was never touched.
 
 use std::hint::black_box;
-use std::process::ExitCode;
-use std::time::{Duration, Instant};
+use std::time::Duration;
 
 use compare::inputs::Words;
 use keccak_tables::{Operation, bitwise, keccak, keccak_rc, keccak_rnd};
 use oracle::tables;
 
+use crate::timing::{best, line, ratio, time};
+
 /// Runs of each, of a table that the caches hold and of a large one.
 const RUNS: usize = 400;
 const LARGE_RUNS: usize = 40;
 
-fn main() -> ExitCode {
-    let arguments: Vec<String> = std::env::args().skip(1).collect();
-    if arguments != ["rows"] {
-        eprintln!("usage: bench rows");
-        return ExitCode::from(2);
-    }
+pub fn run() {
     core_rows("core", 256, RUNS);
     round_rows("round", 10, RUNS);
     core_rows("core-large", 4096, LARGE_RUNS);
     round_rows("round-large", 85, LARGE_RUNS);
     bitwise_rows();
     constant_table();
-    ExitCode::SUCCESS
-}
-
-/// Our time over theirs.
-fn ratio(name: &str, ours: Duration, theirs: Duration) {
-    println!("ratio {name} {:.2}", ours.as_secs_f64() / theirs.as_secs_f64());
-}
-
-fn line(what: &str, time: Duration, items: usize) {
-    println!("  {what:<34} {:>9.1} ns each", time.as_secs_f64() * 1e9 / items as f64);
-}
-
-/// The time of a call; what it answers is dropped afterwards.
-fn time<T>(call: impl FnOnce() -> T) -> Duration {
-    let start = Instant::now();
-    let answer = black_box(call());
-    let time = start.elapsed();
-    drop(answer);
-    time
-}
-
-/// The best of some runs of each call, one after the other in turn.
-fn best<const N: usize>(runs: usize, mut calls: [Box<dyn FnMut() -> Duration + '_>; N]) -> [Duration; N] {
-    let mut best = [Duration::MAX; N];
-    for _ in 0..runs {
-        for (call, best) in calls.iter_mut().zip(&mut best) {
-            *best = call().min(*best);
-        }
-    }
-    best
 }
 
 fn operations(n: usize) -> Vec<Operation> {

@@ -1,0 +1,34 @@
+//! Times, and how they are told.
+
+use std::hint::black_box;
+use std::time::{Duration, Instant};
+
+/// Our time over theirs.
+pub fn ratio(name: &str, ours: Duration, theirs: Duration) {
+    println!("ratio {name} {:.2}", ours.as_secs_f64() / theirs.as_secs_f64());
+}
+
+/// The time of one of `items` items.
+pub fn line(what: &str, time: Duration, items: usize) {
+    println!("  {what:<34} {:>9.1} ns each", time.as_secs_f64() * 1e9 / items as f64);
+}
+
+/// The time of a call; what it answers is dropped afterwards.
+pub fn time<T>(call: impl FnOnce() -> T) -> Duration {
+    let start = Instant::now();
+    let answer = black_box(call());
+    let time = start.elapsed();
+    drop(answer);
+    time
+}
+
+/// The best of some runs of each call, one after the other in turn.
+pub fn best<const N: usize>(runs: usize, mut calls: [Box<dyn FnMut() -> Duration + '_>; N]) -> [Duration; N] {
+    let mut best = [Duration::MAX; N];
+    for _ in 0..runs {
+        for (call, best) in calls.iter_mut().zip(&mut best) {
+            *best = call().min(*best);
+        }
+    }
+    best
+}

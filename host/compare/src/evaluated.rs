@@ -1,0 +1,157 @@
+//! The two tables whose rows are evaluated, core and round, and the rows on which their values and tuples are compared:
+//! written ones, ones with a column replaced, drawn ones, and ones of words at a border.
+
+use keccak_tables::{BusInteraction, P, Refusal, keccak, keccak_rnd};
+
+use crate::comparison::Comparison;
+use crate::inputs::Words;
+use crate::lent::Lent;
+
+/// A call for a tuple of a row by its index and the number of the system call.
+type SyscallTuple = fn(&[u64], usize, u64, &mut [u64]) -> Result<BusInteraction, Refusal>;
+
+/// A table: our calls, and the Rust's answers. Only core tuples depend on the number of the system call.
+pub struct Table {
+    /// Its name.
+    pub name: &'static str,
+    /// The columns of a row.
+    pub columns: usize,
+    /// How many values a row has.
+    pub num_values: usize,
+    /// How many tuples a row has.
+    pub num_tuples: usize,
+    /// Writes the table of a list of operations.
+    pub written: fn(&[u64]) -> Result<Vec<u64>, Refusal>,
+    /// How many drawn operations are written.
+    pub operations: usize,
+    /// The values of a row.
+    pub values: fn(&[u64], &mut [u64]) -> Result<(), Refusal>,
+    /// The same by the Rust.
+    pub rust_values: fn(&[u64]) -> Vec<u64>,
+    /// A tuple of a row.
+    pub tuple: SyscallTuple,
+    /// All tuples of a row by the Rust.
+    pub rust_tuples: fn(&[u64], u64) -> Vec<oracle::Tuple>,
+}
+
+/// The core table.
+pub const CORE: Table = Table {
+    name: "core",
+    columns: keccak::NUM_COLUMNS,
+    num_values: keccak::NUM_VALUES,
+    num_tuples: keccak::NUM_TUPLES,
+    written: keccak::keccak_table,
+    operations: 50,
+    values: keccak::core_values,
+    rust_values: oracle::core_values,
+    tuple: keccak::bus_interaction,
+    rust_tuples: oracle::core_tuples,
+};
+
+/// The round table.
+pub const ROUND: Table = Table {
+    name: "round",
+    columns: keccak_rnd::NUM_COLUMNS,
+    num_values: keccak_rnd::NUM_VALUES,
+    num_tuples: keccak_rnd::NUM_TUPLES,
+    written: keccak_rnd::keccak_rnd_table,
+    operations: 3,
+    values: keccak_rnd::round_values,
+    rust_values: oracle::round_values,
+    tuple: |row, index, _, out| keccak_rnd::bus_interaction(row, index, out),
+    rust_tuples: |row, _| oracle::round_tuples(row),
+};
+
+/// Words at a border of the field, of bytes, of halfwords or of words of 32 bits.
+const BORDERS: [u64; 15] = [
+    P - 1,
+    0,
+    1,
+    (1 << 16) - 1,
+    1 << 16,
+    (1 << 16) + 1,
+    (1 << 32) - 1,
+    1 << 32,
+    (1 << 32) + 1,
+    255,
+    256,
+    1 << 48,
+    1 << 63,
+    P - (1 << 16),
+    P - (1 << 32),
+];
+
+/// What is compared of a row: it gets what the row is, and the row, which is lent with guards and may be longer than its
+/// columns.
+pub trait Check: FnMut(&mut Comparison, &mut Words, &str, &[u64]) {}
+
+impl<T: FnMut(&mut Comparison, &mut Words, &str, &[u64])> Check for T {}
+
+impl Table {
+    /// Checks every kind of row in turn; `n` of the drawn ones.
+    pub fn each_row(&self, comparison: &mut Comparison, words: &mut Words, n: usize, mut check: impl Check) {
+        let name = self.name;
+        let ops = words.operations(self.operations);
+        let table = (self.written)(&ops).expect("drawn operations are accepted");
+        let rows: Vec<&[u64]> = table.chunks_exact(self.columns).collect();
+
+        comparison.group(format!("{name} rows as written, padding included"));
+        for (row, columns) in rows.iter().enumerate() {
+            let what = format!("{name} row {row} of the table of {ops:?}");
+            lend(comparison, words, &what, columns, &mut check);
+        }
+
+        comparison.group(format!("{name} rows with each column replaced in turn"));
+        let drawn: Vec<u64> = (0..self.columns).map(|_| words.below(P)).collect();
+        for base in [rows[1], &drawn] {
+            for column in 0..self.columns {
+                let mut row = base.to_vec();
+                while row[column] == base[column] {
+                    row[column] = words.element();
+                }
+                let what = format!("a {name} row whose column {column} was {}", base[column]);
+                lend(comparison, words, &what, &row, &mut check);
+            }
+        }
+
+        comparison.group(format!("{name} rows of drawn words"));
+        for _ in 0..n {
+            let row: Vec<u64> = (0..self.columns).map(|_| words.below(P)).collect();
+            lend(comparison, words, &format!("a drawn {name} row"), &row, &mut check);
+        }
+
+        comparison.group(format!("{name} rows of words at a border"));
+        for row in self.border_rows(words, n) {
+            lend(
+                comparison,
+                words,
+                &format!("a {name} row of border words"),
+                &row,
+                &mut check,
+            );
+        }
+    }
+
+    /// Rows of one border word, rows that go through them from each on, and `n` rows of drawn ones.
+    fn border_rows(&self, words: &mut Words, n: usize) -> Vec<Vec<u64>> {
+        let count = BORDERS.len();
+        let mut rows: Vec<Vec<u64>> = BORDERS.iter().map(|&word| vec![word; self.columns]).collect();
+        rows.extend((0..count).map(|first| (0..self.columns).map(|c| BORDERS[(first + c) % count]).collect()));
+        rows.extend((0..n).map(|_| {
+            (0..self.columns)
+                .map(|_| BORDERS[words.below(count as u64) as usize])
+                .collect()
+        }));
+        rows
+    }
+}
+
+/// Checks one row: lent with guards, and with up to two words past its columns that are no elements, because no call reads
+/// them. Every word of it is to be as it was afterwards.
+fn lend(comparison: &mut Comparison, words: &mut Words, what: &str, columns: &[u64], check: &mut impl Check) {
+    let past = words.below(3) as usize;
+    let row = [columns, &[P, u64::MAX][..past]].concat();
+    let mut lent = Lent::new(&row, words);
+    check(comparison, words, what, lent.slice());
+    lent.kept(comparison, |_| format!("{what}, which is only read: {row:?}"));
+}

@@ -1,0 +1,52 @@
+//! Every tuple of a row, by our call for one of them and by the Rust's list.
+
+use keccak_tables::{BusInteraction, Refusal};
+
+use crate::comparison::Comparison;
+use crate::inputs::Words;
+use crate::lent::Lent;
+
+/// A call for a tuple of a row by its index.
+pub trait TupleCall: Fn(&[u64], usize, &mut [u64]) -> Result<BusInteraction, Refusal> {}
+
+impl<T: Fn(&[u64], usize, &mut [u64]) -> Result<BusInteraction, Refusal>> TupleCall for T {}
+
+/// Bus, side, multiplicity, length and values of every tuple of a row, each into a slice of its own. `what` names the row.
+pub fn tuples(
+    comparison: &mut Comparison,
+    words: &mut Words,
+    what: impl Fn() -> String,
+    row: &[u64],
+    call: impl TupleCall,
+    expected: &[oracle::Tuple],
+) {
+    for (index, theirs) in expected.iter().enumerate() {
+        let input = || format!("tuple {index} of {}: {row:?}", what());
+        let room = theirs.values.len() + words.below(3) as usize;
+        let mut out = Lent::drawn(room, words);
+        if let Some(ours) = comparison.done(input, call(row, index, out.slice())) {
+            comparison.equal(|_| input(), &answer_numbers(&ours), &expected_numbers(theirs));
+            out.holds(comparison, |_| input(), &theirs.values);
+        }
+    }
+}
+
+/// The numbers of a tuple's answer: bus, side, multiplicity, length.
+fn answer_numbers(tuple: &BusInteraction) -> [u64; 4] {
+    [
+        tuple.bus.number(),
+        tuple.side.number(),
+        tuple.multiplicity,
+        tuple.length as u64,
+    ]
+}
+
+/// The same of a tuple of the Rust's.
+fn expected_numbers(tuple: &oracle::Tuple) -> [u64; 4] {
+    [
+        tuple.bus.into(),
+        tuple.side as u64,
+        tuple.multiplicity,
+        tuple.values.len() as u64,
+    ]
+}
