@@ -29,6 +29,8 @@ pub mod is_wh;
 pub mod keccak;
 pub mod keccak_rc;
 pub mod keccak_rnd;
+#[cfg(feature = "verdict")]
+pub mod verdict;
 
 #[allow(unsafe_code)]
 mod ffi;

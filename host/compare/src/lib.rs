@@ -17,3 +17,5 @@ pub mod tuple_list;
 pub mod tuples;
 pub mod untouched;
 pub mod values;
+#[cfg(feature = "verdict")]
+pub mod verdicts;

@@ -30,6 +30,8 @@ fn main() -> ExitCode {
         "rows" => rows::compare(&mut comparison, seed, n),
         "values" => values::compare(&mut comparison, seed, n),
         "tuples" => tuples::compare(&mut comparison, seed, n),
+        #[cfg(feature = "verdict")]
+        "verdict" => compare::verdicts::compare(&mut comparison, seed, n),
         _ => return usage(),
     }
     comparison.finish()

@@ -6,6 +6,8 @@ mod rows;
 mod timing;
 mod tuples;
 mod values;
+#[cfg(feature = "verdict")]
+mod verdict;
 
 use std::process::ExitCode;
 
@@ -16,6 +18,8 @@ fn main() -> ExitCode {
         ["rows"] => rows::run(),
         ["values"] => values::run(),
         ["tuples"] => tuples::run(),
+        #[cfg(feature = "verdict")]
+        ["verdict"] => verdict::run(),
         _ => {
             eprintln!("usage: bench rows | bench values | bench tuples");
             return ExitCode::from(2);
