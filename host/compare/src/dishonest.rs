@@ -121,14 +121,14 @@ impl Tables {
 }
 
 /// Exchanges two rows.
-fn exchange(table: &mut [u64], width: usize, a: usize, b: usize) {
+pub(crate) fn exchange(table: &mut [u64], width: usize, a: usize, b: usize) {
     for column in 0..width {
         table.swap(a * width + column, b * width + column);
     }
 }
 
 /// Puts the rows into a drawn order.
-fn shuffle(table: &mut [u64], width: usize, words: &mut Words) {
+pub(crate) fn shuffle(table: &mut [u64], width: usize, words: &mut Words) {
     for row in (1..table.len() / width).rev() {
         exchange(table, width, row, words.below(row as u64 + 1) as usize);
     }

@@ -1,16 +1,15 @@
 //! The proved verdict against the independent judge's: on every named pair of tables, and on written tables of which one or
-//! two words were changed.
+//! two words were changed or rows exchanged, copied, dropped and shuffled.
 
-use keccak_tables::P;
-use keccak_tables::Refusal;
 use keccak_tables::verdict::{Table, Verdict, verdict};
+use keccak_tables::{P, Refusal, keccak, keccak_rnd};
 
 use crate::comparison::Comparison;
-use crate::dishonest::{Tables, pairs};
+use crate::dishonest::{Tables, exchange, pairs, shuffle};
 use crate::inputs::Words;
 use crate::judge;
 
-/// The whole area: the named pairs, and `n` drawn changes.
+/// The whole area: the named pairs, `n` drawn changes of words, and as many of rows.
 pub fn compare(comparison: &mut Comparison, seed: u64, n: usize) {
     comparison.group("named pairs of tables, against the judge and against thought");
     for pair in pairs(seed) {
@@ -24,13 +23,31 @@ pub fn compare(comparison: &mut Comparison, seed: u64, n: usize) {
     let written: Vec<Tables> = (0..5).map(|calls| Tables::written(calls, &mut words)).collect();
     for change in 0..n {
         let mut tables = written[words.below(5) as usize].clone();
-        let mut places = String::new();
+        let mut changes = String::new();
         for _ in 0..=words.below(2) {
-            places += &changed(&mut tables, &mut words);
+            changes += &changed(&mut tables, &mut words);
         }
         judged(
             comparison,
-            &|_| format!("change {change} of seed {seed}:{places}"),
+            &|_| format!("change {change} of seed {seed}:{changes}"),
+            &tables,
+        );
+    }
+
+    comparison
+        .group("written tables with rows exchanged, copied, dropped or shuffled, and now and then a word changed");
+    for change in 0..n {
+        let mut tables = written[words.below(5) as usize].clone();
+        let mut changes = String::new();
+        for _ in 0..=words.below(4) {
+            changes += &moved(&mut tables, &mut words);
+        }
+        if words.below(3) == 0 {
+            changes += &changed(&mut tables, &mut words);
+        }
+        judged(
+            comparison,
+            &|_| format!("move {change} of seed {seed}:{changes}"),
             &tables,
         );
     }
@@ -61,20 +78,72 @@ pub fn words(answer: Result<Verdict, Refusal>) -> [u64; 4] {
     .words()
 }
 
-/// Changes a word, most often one of an active row, and says which.
-fn changed(tables: &mut Tables, words: &mut Words) -> String {
-    let core = words.below(3) == 0;
-    let (name, table, width) = if core {
-        ("core", &mut tables.core, keccak_tables::keccak::NUM_COLUMNS)
+/// One of the two tables, with its name and width; the round table more often.
+fn one_of<'a>(tables: &'a mut Tables, words: &mut Words) -> (&'static str, &'a mut Vec<u64>, usize) {
+    if words.below(3) == 0 {
+        ("core", &mut tables.core, keccak::NUM_COLUMNS)
     } else {
-        ("round", &mut tables.round, keccak_tables::keccak_rnd::NUM_COLUMNS)
-    };
+        ("round", &mut tables.round, keccak_rnd::NUM_COLUMNS)
+    }
+}
+
+/// So many rows, from the first, that most often all of them are active as written.
+fn rows_to_change(table: &[u64], width: usize, words: &mut Words) -> usize {
     let active = table.chunks_exact(width).filter(|row| row[width - 1] == 1).count();
-    let rows = if active > 0 && words.below(4) > 0 {
+    if active > 0 && words.below(4) > 0 {
         active
     } else {
         table.len() / width
-    };
+    }
+}
+
+/// Moves rows of a table, and says which.
+fn moved(tables: &mut Tables, words: &mut Words) -> String {
+    let (name, table, width) = one_of(tables, words);
+    if table.is_empty() {
+        return String::new();
+    }
+    let rows = rows_to_change(table, width, words) as u64;
+    let [a, b] = [(); 2].map(|()| words.below(rows) as usize);
+    let all = a * width..(a + 1) * width;
+    match words.below(8) {
+        0 => {
+            table.copy_within(all, b * width);
+            format!(" {name} row {a} copied over row {b};")
+        }
+        1 => {
+            table.drain(all);
+            format!(" {name} row {a} dropped;")
+        }
+        2 => {
+            table.extend_from_within(all);
+            format!(" {name} row {a} doubled at the end;")
+        }
+        3 => {
+            shuffle(table, width, words);
+            format!(" {name} shuffled;")
+        }
+        4 => {
+            // The timestamp alone: a row of one call filed under another.
+            for word in 0..2 {
+                table[b * width + word] = table[a * width + word];
+            }
+            format!(" {name} row {b} with the timestamp of row {a};")
+        }
+        _ => {
+            exchange(table, width, a, b);
+            format!(" {name} rows {a} and {b} exchanged;")
+        }
+    }
+}
+
+/// Changes a word, most often one of an active row, and says which.
+fn changed(tables: &mut Tables, words: &mut Words) -> String {
+    let (name, table, width) = one_of(tables, words);
+    if table.is_empty() {
+        return String::new();
+    }
+    let rows = rows_to_change(table, width, words);
     let row = words.below(rows as u64) as usize;
     // The two timestamp words, ROUND and MU are few among the columns.
     let column = match words.below(8) {
