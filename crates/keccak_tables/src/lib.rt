@@ -12,6 +12,7 @@ ghost use Rattle.keccak_tables.specs.Flat.{flatAnswer, flatNumber, flatT
 
 pub mod core_calls;
 pub mod evaluators;
+pub mod judge_calls;
 pub mod lookups;
 pub mod round_calls;
 

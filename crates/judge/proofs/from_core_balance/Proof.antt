@@ -1,0 +1,43 @@
+-- `judge::from_core_balance` meets its contract: a tuple is found, or none. Assumes nothing.
+use mathlib.Core.Path.{sym, _∙_}
+use borrow.Author.Needs.{needs}
+use Rattle.verdict.specs.Verdict.{fromCoreBalance}
+use Rattle.verdict.proofs.Stages.{passes, answers}
+use Rattle.judge_scan.proofs.Scan.{spot-at, spot-nowhere}
+use Rattle.judge.proofs.from_core_balance.Statement.{statement}
+use Rattle.judge.proofs.from_core_balance.Tie as tie
+
+walk-requires : tie.Need-walk-requires
+walk-requires c κs = search needs
+
+first-core-unbalanced-requires : tie.Need-first-core-unbalanced-requires
+first-core-unbalanced-requires c κs = search needs
+
+enum-known-row : tie.Need-enum-known-row
+enum-known-row c = search needs
+
+returns : tie.Need-returns
+unfolding fromCoreBalance
+returns c = sym (answers _ _ _ _ (spot-at _ (sym (c .before .row .given .1) ∙ c .before .before .before .first-core-unbalanced .ensures)))
+
+enum-told : tie.Need-enum-told
+enum-told c = search needs
+
+from-round-balance-requires : tie.Need-from-round-balance-requires
+from-round-balance-requires c κs = search needs
+
+returns-2 : tie.Need-returns-2
+unfolding fromCoreBalance
+returns-2 c = c .from-round-balance .ensures ∙ sym (passes _ _ _ (spot-nowhere _ (sym (c .before .enum-told .given .1) ∙ c .before .before .before .first-core-unbalanced .ensures)))
+
+pub from-core-balance-spec : {M : Type 1} → statement M
+from-core-balance-spec =
+    tie.close
+    (tie.spec
+    walk-requires
+    first-core-unbalanced-requires
+    enum-known-row
+    returns
+    enum-told
+    from-round-balance-requires
+    returns-2)

@@ -1,0 +1,129 @@
+// The verdict on a core table and a round table: the stages of `verdictOf`, one after the other.
+use answer::Refusal;
+use field::elements::first_not_element;
+use judge_bus::Walked;
+use judge_bus::first_core_unbalanced;
+use judge_bus::first_round_unbalanced;
+use judge_bus::walk;
+use judge_rows::first_core_lookup;
+use judge_rows::first_core_value;
+use judge_rows::first_round_lookup;
+use judge_rows::first_round_value;
+use judge_scan::Spot;
+use judge_scan::active_core_rows;
+use judge_stamps::first_repeat;
+use keccak;
+use keccak_rnd;
+use lists::Place;
+use verdict::Table;
+use verdict::Verdict;
+ghost use mathlib.Core.Path.{_≡_};
+ghost use Prim.Native.Nat.{_≤_};
+ghost use Rattle.verdict.specs.Kind.{rows};
+ghost use Rattle.verdict.specs.CoreAndRound.{coreKind, roundKind, coreLayout, roundLayout, verdictOf};
+ghost use Rattle.verdict.specs.Failures.{Elements};
+ghost use Rattle.verdict.specs.Verdict.{fromCoreValue, fromRoundValue, fromCoreBalance, fromRoundBalance};
+ghost use Rattle.judge_bus.specs.Even.{Even};
+
+// From the unbalanced tuples of round rows on: a tuple of one, or the tables hold.
+fn from_round_balance(core: &[u64], round: &[u64], walked: Walked) -> Verdict
+    requires { ⌜ (walked .core ≤ rows coreLayout (now core)) × (walked .round ≤ rows roundLayout (now round)) × Even (now core) (now round) (walked .core) (walked .round) ⌝ }
+    ensures { λ v. ⌜ v ≡ fromRoundBalance (coreKind 24) roundKind (now (core .entry)) (now (round .entry)) ⌝ }
+{
+    if let Spot::At { row, index } = first_round_unbalanced(
+        core,
+        round,
+        walked.core,
+        walked.round,
+    ) {
+        return Verdict::Unbalanced {
+            table: Table::Round,
+            row,
+            index,
+        };
+    }
+    Verdict::Holds {
+        active: active_core_rows(core),
+    }
+}
+
+// From the unbalanced tuples of core rows on.
+fn from_core_balance(core: &[u64], round: &[u64]) -> Verdict
+    ensures { λ v. ⌜ v ≡ fromCoreBalance (coreKind 24) roundKind (now (core .entry)) (now (round .entry)) ⌝ }
+{
+    let walked = walk(core, round);
+    if let Spot::At { row, index } = first_core_unbalanced(core, round, walked.core, walked.round) {
+        return Verdict::Unbalanced {
+            table: Table::Core,
+            row,
+            index,
+        };
+    }
+    from_round_balance(core, round, walked)
+}
+
+// From the values of round rows on.
+fn from_round_value(core: &[u64], round: &[u64]) -> Verdict
+    requires { ⌜ Elements (now round) ⌝ }
+    ensures { λ v. ⌜ v ≡ fromRoundValue (coreKind 24) roundKind (now (core .entry)) (now (round .entry)) ⌝ }
+{
+    if let Spot::At { row, index } = first_round_value(round) {
+        return Verdict::Value {
+            table: Table::Round,
+            row,
+            index,
+        };
+    }
+    if let Spot::At { row, index } = first_round_lookup(round) {
+        return Verdict::Lookup {
+            table: Table::Round,
+            row,
+            index,
+        };
+    }
+    from_core_balance(core, round)
+}
+
+// From the values of core rows on.
+fn from_core_value(core: &[u64], round: &[u64]) -> Verdict
+    requires { ⌜ Elements (now core) × Elements (now round) ⌝ }
+    ensures { λ v. ⌜ v ≡ fromCoreValue (coreKind 24) roundKind (now (core .entry)) (now (round .entry)) ⌝ }
+{
+    if let Spot::At { row, index } = first_core_value(core) {
+        return Verdict::Value {
+            table: Table::Core,
+            row,
+            index,
+        };
+    }
+    if let Spot::At { row, index } = first_core_lookup(core) {
+        return Verdict::Lookup {
+            table: Table::Core,
+            row,
+            index,
+        };
+    }
+    if let Place::At(row) = first_repeat(core) {
+        return Verdict::Repeated { row };
+    }
+    from_round_value(core, round)
+}
+
+// The verdict on a core table and a round table.
+pub fn verdict(core: &[u64], round: &[u64]) -> Verdict
+    ensures { λ v. ⌜ v ≡ verdictOf (now (core .entry)) (now (round .entry)) ⌝ }
+{
+    if core.len() % keccak::NUM_COLUMNS != 0 {
+        return Verdict::Refused(Refusal::NotWhole(0));
+    }
+    if round.len() % keccak_rnd::NUM_COLUMNS != 0 {
+        return Verdict::Refused(Refusal::NotWhole(1));
+    }
+    if let Place::At(k) = first_not_element(core, core.len()) {
+        return Verdict::Refused(Refusal::NotElement(k as u64));
+    }
+    if let Place::At(k) = first_not_element(round, round.len()) {
+        return Verdict::Refused(Refusal::NotElement(k as u64));
+    }
+    from_core_value(core, round)
+}

@@ -1,0 +1,252 @@
+// The Keccak bus of a core table and a round table: a walk along rows in the writer's order, then counts of what it left.
+use judge_scan::Spot;
+use judge_scan::core_active;
+use judge_scan::round_active;
+use judge_tuples::Port;
+use judge_tuples::same_tuple;
+use keccak;
+use keccak_rnd;
+use lists::Place;
+ghost use mathlib.Core.Path.{_≡_};
+ghost use mathlib.Core.Bool.{true};
+ghost use Prim.Native.Nat.{_+_, _≤_, _<_};
+ghost use lib.ListN.{length};
+ghost use Rattle.lists.specs.First.{count};
+ghost use Rattle.bus.specs.Words.{wordsTest};
+ghost use Rattle.verdict.specs.Kind.{rows, row, active};
+ghost use Rattle.verdict.specs.Verdict.{uneven, firstUnbalanced};
+ghost use Rattle.verdict.specs.CoreAndRound.{coreLayout, roundLayout, coreKind, roundKind};
+ghost use Rattle.judge_scan.specs.Spot.{spotOf};
+ghost use Rattle.judge_tuples.specs.Port.{widthOf, tupleOf};
+ghost use Rattle.judge_tuples.specs.declared.Port.the-variants.{CoreReceive, RoundReceive, RoundSend};
+ghost use Rattle.judge_bus.specs.Even.{Even, Reaches, Started, owedBy, coreCarries, roundCarries, OfCore, OfRound};
+
+// ---- the walk
+// Whether round row q receives what is owed: what core row a sent, or what the last row of its chain sent.
+fn takes(core: &[u64], a: usize, round: &[u64], last: Place, q: usize) -> bool
+    requires { ⌜ (a < rows coreLayout (now core)) × (q < rows roundLayout (now round)) × Started (now round) last ⌝ }
+    ensures { λ r. ⌜ r ≡ wordsTest (owedBy (now (core .entry)) a (now (round .entry)) last) (tupleOf RoundReceive (row roundLayout (now (round .entry)) q)) ⌝ }
+{
+    let start = q * keccak_rnd::NUM_COLUMNS;
+    let end = start + keccak_rnd::NUM_COLUMNS;
+    match last {
+        Place::Nowhere => {
+            let from = a * keccak::NUM_COLUMNS;
+            let to = from + keccak::NUM_COLUMNS;
+            same_tuple(
+                &core[from..to],
+                Port::CoreSend,
+                &round[start..end],
+                Port::RoundReceive,
+            )
+        }
+        Place::At(r) => {
+            let from = r * keccak_rnd::NUM_COLUMNS;
+            let to = from + keccak_rnd::NUM_COLUMNS;
+            same_tuple(
+                &round[from..to],
+                Port::RoundSend,
+                &round[start..end],
+                Port::RoundReceive,
+            )
+        }
+    }
+}
+
+// Whether core row a receives what round row q sends.
+fn ends(core: &[u64], a: usize, round: &[u64], q: usize) -> bool
+    requires { ⌜ (a < rows coreLayout (now core)) × (q < rows roundLayout (now round)) ⌝ }
+    ensures { λ r. ⌜ r ≡ wordsTest (tupleOf RoundSend (row roundLayout (now (round .entry)) q)) (tupleOf CoreReceive (row coreLayout (now (core .entry)) a)) ⌝ }
+{
+    let start = q * keccak_rnd::NUM_COLUMNS;
+    let end = start + keccak_rnd::NUM_COLUMNS;
+    let from = a * keccak::NUM_COLUMNS;
+    let to = from + keccak::NUM_COLUMNS;
+    same_tuple(
+        &round[start..end],
+        Port::RoundSend,
+        &core[from..to],
+        Port::CoreReceive,
+    )
+}
+
+// The round row after the chain of core row a that begins at row b: each active row receives what the one before it
+// sent, the first what the core row sent, and the core row receives what the last one sent.
+fn chain(core: &[u64], a: usize, round: &[u64], b: usize) -> Place
+    requires { ⌜ (a < rows coreLayout (now core)) × (active coreLayout (now core) a ≡ true) × (b ≤ rows roundLayout (now round)) ⌝ }
+    ensures { λ r. ⌜ Reaches (now (core .entry)) a (now (round .entry)) b r ⌝ }
+{
+    let rows = round.len() / keccak_rnd::NUM_COLUMNS;
+    let mut last = Place::Nowhere;
+    let mut q = b;
+    while q < rows {
+        if round_active(round, q) {
+            if !takes(core, a, round, last, q) {
+                return Place::Nowhere;
+            }
+            if ends(core, a, round, q) {
+                return Place::At(q + 1);
+            }
+            last = Place::At(q);
+        }
+        q += 1;
+    }
+    Place::Nowhere
+}
+
+// The first round row from b on that is active, or the end.
+fn skipped(core: &[u64], a: usize, round: &[u64], b: usize) -> usize
+    requires { ⌜ (b ≤ rows roundLayout (now round)) × Even (now core) (now round) a b ⌝ }
+    ensures { λ r. ⌜ (r ≤ rows roundLayout (now (round .entry))) × Even (now (core .entry)) (now (round .entry)) a r ⌝ }
+{
+    let rows = round.len() / keccak_rnd::NUM_COLUMNS;
+    let mut q = b;
+    while q < rows {
+        if round_active(round, q) {
+            return q;
+        }
+        q += 1;
+    }
+    q
+}
+
+// How far the walk came: so many core rows and round rows at the front balance among themselves.
+pub struct Walked {
+    pub core: usize,
+    pub round: usize,
+}
+
+// The walk stops at the first core row that has no chain where it should begin.
+pub fn walk(core: &[u64], round: &[u64]) -> Walked
+    ensures ends { λ r. ⌜ (r .core ≤ rows coreLayout (now (core .entry))) × (r .round ≤ rows roundLayout (now (round .entry))) ⌝ }
+    ensures even { λ r. ⌜ Even (now (core .entry)) (now (round .entry)) (r .core) (r .round) ⌝ }
+{
+    let rows = core.len() / keccak::NUM_COLUMNS;
+    let mut a = 0;
+    let mut b = 0;
+    'calls: while a < rows {
+        if core_active(core, a) {
+            match chain(core, a, round, b) {
+                Place::At(next) => {
+                    b = next;
+                }
+                Place::Nowhere => {
+                    break 'calls;
+                }
+            }
+        }
+        a += 1;
+    }
+    Walked {
+        core: a,
+        round: skipped(core, a, round, b),
+    }
+}
+
+// ---- the counts
+// How many active core rows from `from` on have as their tuple `port` the tuple s of the row x.
+fn count_core(core: &[u64], from: usize, port: Port, x: &[u64], s: Port) -> usize
+    requires { ⌜ (from ≤ rows coreLayout (now core)) × OfCore port × (widthOf s ≤ length (now x)) ⌝ }
+    ensures { λ r. ⌜ r + count (coreCarries (now (core .entry)) port (tupleOf s (now (x .entry)))) from ≡ count (coreCarries (now (core .entry)) port (tupleOf s (now (x .entry)))) (rows coreLayout (now (core .entry))) ⌝ }
+{
+    let rows = core.len() / keccak::NUM_COLUMNS;
+    let mut n = 0;
+    let mut row = from;
+    while row < rows {
+        if core_active(core, row) {
+            let start = row * keccak::NUM_COLUMNS;
+            let end = start + keccak::NUM_COLUMNS;
+            if same_tuple(x, s, &core[start..end], port) {
+                n += 1;
+            }
+        }
+        row += 1;
+    }
+    n
+}
+
+// The same of round rows.
+fn count_round(round: &[u64], from: usize, port: Port, x: &[u64], s: Port) -> usize
+    requires { ⌜ (from ≤ rows roundLayout (now round)) × OfRound port × (widthOf s ≤ length (now x)) ⌝ }
+    ensures { λ r. ⌜ r + count (roundCarries (now (round .entry)) port (tupleOf s (now (x .entry)))) from ≡ count (roundCarries (now (round .entry)) port (tupleOf s (now (x .entry)))) (rows roundLayout (now (round .entry))) ⌝ }
+{
+    let rows = round.len() / keccak_rnd::NUM_COLUMNS;
+    let mut n = 0;
+    let mut row = from;
+    while row < rows {
+        if round_active(round, row) {
+            let start = row * keccak_rnd::NUM_COLUMNS;
+            let end = start + keccak_rnd::NUM_COLUMNS;
+            if same_tuple(x, s, &round[start..end], port) {
+                n += 1;
+            }
+        }
+        row += 1;
+    }
+    n
+}
+
+// Whether the tuple s of the row x is sent and received in different numbers. What the walk passed is even, so only the
+// rows that it left are counted.
+fn is_uneven(core: &[u64], round: &[u64], a: usize, b: usize, x: &[u64], s: Port) -> bool
+    requires { ⌜ (a ≤ rows coreLayout (now core)) × (b ≤ rows roundLayout (now round)) × Even (now core) (now round) a b × (widthOf s ≤ length (now x)) ⌝ }
+    ensures { λ r. ⌜ r ≡ uneven (coreKind 24) roundKind (now (core .entry)) (now (round .entry)) (tupleOf s (now (x .entry))) ⌝ }
+{
+    let core_sent = count_core(core, a, Port::CoreSend, x, s);
+    let round_sent = count_round(round, b, Port::RoundSend, x, s);
+    let core_received = count_core(core, a, Port::CoreReceive, x, s);
+    let round_received = count_round(round, b, Port::RoundReceive, x, s);
+    core_sent + round_sent != core_received + round_received
+}
+
+// The first active core row with an unbalanced tuple: tuple 2, its send, or else tuple 3, its receive.
+pub fn first_core_unbalanced(core: &[u64], round: &[u64], a: usize, b: usize) -> Spot
+    requires { ⌜ (a ≤ rows coreLayout (now core)) × (b ≤ rows roundLayout (now round)) × Even (now core) (now round) a b ⌝ }
+    ensures { λ r. ⌜ r ≡ spotOf (firstUnbalanced (coreKind 24) roundKind (now (core .entry)) (now (round .entry)) (coreKind 24) (now (core .entry))) ⌝ }
+{
+    let rows = core.len() / keccak::NUM_COLUMNS;
+    let mut found = Spot::Nowhere;
+    let mut row = 0;
+    'rows: while row < rows {
+        if core_active(core, row) {
+            let start = row * keccak::NUM_COLUMNS;
+            let end = start + keccak::NUM_COLUMNS;
+            if is_uneven(core, round, a, b, &core[start..end], Port::CoreSend) {
+                found = Spot::At { row, index: 2 };
+                break 'rows;
+            }
+            if is_uneven(core, round, a, b, &core[start..end], Port::CoreReceive) {
+                found = Spot::At { row, index: 3 };
+                break 'rows;
+            }
+        }
+        row += 1;
+    }
+    found
+}
+
+// The first active round row with one: tuple 0, its receive, or else tuple 1, its send.
+pub fn first_round_unbalanced(core: &[u64], round: &[u64], a: usize, b: usize) -> Spot
+    requires { ⌜ (a ≤ rows coreLayout (now core)) × (b ≤ rows roundLayout (now round)) × Even (now core) (now round) a b ⌝ }
+    ensures { λ r. ⌜ r ≡ spotOf (firstUnbalanced (coreKind 24) roundKind (now (core .entry)) (now (round .entry)) roundKind (now (round .entry))) ⌝ }
+{
+    let rows = round.len() / keccak_rnd::NUM_COLUMNS;
+    let mut found = Spot::Nowhere;
+    let mut row = 0;
+    'rows: while row < rows {
+        if round_active(round, row) {
+            let start = row * keccak_rnd::NUM_COLUMNS;
+            let end = start + keccak_rnd::NUM_COLUMNS;
+            if is_uneven(core, round, a, b, &round[start..end], Port::RoundReceive) {
+                found = Spot::At { row, index: 0 };
+                break 'rows;
+            }
+            if is_uneven(core, round, a, b, &round[start..end], Port::RoundSend) {
+                found = Spot::At { row, index: 1 };
+                break 'rows;
+            }
+        }
+        row += 1;
+    }
+    found
+}

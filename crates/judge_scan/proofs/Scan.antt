@@ -1,0 +1,61 @@
+-- What a scan over rows cites, where a row is handed on as a part of the slice and answers with its first index.
+-- Assumes nothing.
+--     at-none-row, at-some-row   what a row's search says of the scan of rows
+--     part-is, part-long, part-words   the part of a table that is row r: its words, how many, and that they are elements
+use mathlib.Core.Path.{_≡_, refl, sym, ap, subst, _∙_}
+use mathlib.Core.Bool.{Bool}
+use mathlib.Core.Option.{Option, none, some}
+use mathlib.Core.List.{List}
+use Prim.Native.Nat.{ℕ, _+_, _-_, _*_, _/_, _≤_, _<_}
+use native.Mathlib.Omega.{arith}
+use lib.ListN.{length, take, drop, length-drop}
+use lib.Seq.{length-take-le}
+use Rattle.lists.specs.Tab.{word, rowAt}
+use Rattle.lists.specs.First.{first, firstAt, atPlace, inRow, firstIn}
+use Rattle.lists.specs.declared.Place.the-variants.{At, Nowhere}
+use Rattle.lists.proofs.First.{first-more, first-hit, at-clear, at-found, row-nothing}
+use Rattle.lists.proofs.Laws.{word-rowAt}
+use Rattle.field.specs.Field.{p}
+use Rattle.verdict.specs.Failures.{Elements}
+use Rattle.verdict.proofs.Parts.{row-ends, part-between}
+use Rattle.judge_scan.specs.Spot.{spotOf}
+use Rattle.judge_scan.specs.declared.Spot.the-variants as spot
+
+-- ---- the answer of a scan
+pub spot-at : (o : Option (ℕ × ℕ)) {r i : ℕ} → spot.At r i ≡ spotOf o → o ≡ some (r, i)
+spot-at none e = cc
+spot-at (some x) {r} {i} e = let a : x .0 ≡ r = cc in let b : x .1 ≡ i = cc in ap some (λ j. (a j, b j))
+
+pub spot-nowhere : (o : Option (ℕ × ℕ)) → spot.Nowhere ≡ spotOf o → o ≡ none
+spot-nowhere none e = refl
+spot-nowhere (some x) e = cc
+
+-- ---- rows that answer with their first index
+module _ (t : ℕ → ℕ → Bool) (m r : ℕ) (f : first (inRow t m) r ≡ none) where
+  pub at-none-row : firstAt (t r) m ≡ none → first (inRow t m) (r + 1) ≡ none
+  unfolding inRow
+  at-none-row e = first-more (inRow t m) r f (row-nothing t m r m (λ j l. at-clear (t r) m j e l))
+
+  pub at-some-row : (i n : ℕ) → r < n → firstAt (t r) m ≡ some i → firstIn t m n ≡ some (r, i)
+  unfolding inRow atPlace
+  at-some-row i n l e =
+      let x = at-found (t r) m i e in
+      first-hit (inRow t m) r n (r, i) l f
+      (first-hit (atPlace t r) i m (r, i) (x .0) (row-nothing t m r i (λ j g. at-clear (t r) i j (x .2) g)) (rw (x .1)))
+
+-- ---- a row as a part of the slice
+module _ (w : ℕ) (ws : List ℕ) (r : ℕ) (l : r < length ws / w) where
+  pub part-is : take (r * w + w - r * w) (drop (r * w) ws) ≡ rowAt w ws r
+  part-is = part-between w ws r (r * w + w) refl (row-ends w ws r l)
+
+  pub part-long : w ≤ length (take (r * w + w - r * w) (drop (r * w) ws))
+  part-long =
+      let g = row-ends w ws r l in
+      let e : r * w + w - r * w ≡ w = omega arith in
+      let n : length (take w (drop (r * w) ws)) ≡ w = length-take-le w (drop (r * w) ws) (omega (arith, length-drop (r * w) ws)) in
+      subst (λ (k : ℕ). w ≤ length (take k (drop (r * w) ws))) (sym e) (omega arith)
+
+  pub part-words : Elements ws → (k : ℕ) → k < w → word (take (r * w + w - r * w) (drop (r * w) ws)) k < p
+  part-words h k g =
+      subst (λ (n : ℕ). n < p) (sym (ap (λ (x : List ℕ). word x k) part-is ∙ word-rowAt w ws r k g))
+      (h (r * w + k) (omega (arith, row-ends w ws r l)))

@@ -1,0 +1,64 @@
+-- `judge_stamps::has_twin` meets its contract: no active row before q has the timestamp. Assumes nothing.
+use mathlib.Core.Path.{_≡_, sym, _∙_}
+use mathlib.Core.Logic.{⊎-elim}
+use mathlib.Core.Option.{none}
+use Prim.Native.Nat.{_≤_, _-_}
+use native.Mathlib.Omega.{arith}
+use Rattle.lists.specs.First.{first, atIndex}
+use Rattle.lists.proofs.First.{first-start, at-more, any-hit, any-none}
+use Rattle.verdict.specs.Verdict.{twin}
+use Rattle.verdict.specs.CoreAndRound.{coreLayout}
+use Rattle.judge_stamps.proofs.Stamps.{twin-off, twin-on}
+use Rattle.judge_stamps.proofs.has_twin.Statement.{statement}
+use Rattle.judge_stamps.proofs.has_twin.Tie as tie
+
+abbrev Inv-loop : tie.InvT-loop
+Inv-loop core r q₀ q = (q ≤ r) × (first (atIndex (twin coreLayout core r)) q ≡ none)
+
+abbrev μ-loop : tie.MeasureT-loop
+μ-loop core r q₀ q = r - q
+
+loop-holds : tie.Need-loop-holds Inv-loop μ-loop
+loop-holds c = (omega arith, first-start _)
+
+core-active-requires : tie.Need-core-active-requires Inv-loop μ-loop
+core-active-requires c κs = omega (arith, c .loop-test .taken)
+
+same-stamp-requires : tie.Need-same-stamp-requires Inv-loop μ-loop
+same-stamp-requires c κs = (omega (arith, c .before .before .loop-test .taken), omega arith)
+
+returns : tie.Need-returns Inv-loop μ-loop
+returns c =
+    let l = c .before .before .before .before .before .loop in
+    sym (any-hit _ _ _ (c .before .before .before .before .loop-test .taken) (l .inv .1)
+    (twin-on _ _ _ _ (sym (c .before .before .before .core-active .ensures) ∙ c .before .before .if1 .taken) (sym (c .before .same-stamp .ensures) ∙ c .if2 .taken)))
+
+add-q : tie.Need-add-q Inv-loop μ-loop
+add-q c = omega arith
+
+loop-less : tie.Need-loop-less Inv-loop μ-loop
+loop-less c = omega arith
+
+loop-again : tie.Need-loop-again Inv-loop μ-loop
+loop-again c =
+    let h = c .before .before .before .loop .inv .1 in
+    let e = sym (c .before .core-active .ensures) in
+    (omega arith, at-more _ _ h (⊎-elim (λ w. twin-on _ _ _ _ (e ∙ w .0 .taken) (sym (w .1 .ensures) ∙ w .2 .left)) (λ w. twin-off _ _ _ (e ∙ w .left)) (c .if1 .came)))
+
+returns-2 : tie.Need-returns-2 Inv-loop μ-loop
+returns-2 c = sym (any-none _ _ _ (c .before .loop .inv .0) (c .loop-test .left) (c .before .loop .inv .1))
+
+pub has-twin-spec : {M : Type 1} → statement M
+has-twin-spec =
+    tie.close
+    (tie.spec
+    Inv-loop
+    μ-loop
+    loop-holds
+    core-active-requires
+    same-stamp-requires
+    returns
+    add-q
+    loop-less
+    loop-again
+    returns-2)

@@ -1,0 +1,57 @@
+-- The four Keccak tuples of core rows and round rows, and the columns that they are made of. Assumes nothing.
+use mathlib.Core.Bool.{Bool, not, _&&_}
+use mathlib.Core.List.{List}
+use Prim.Native.Nat.{ℕ, _+_}
+use lib.Dec.{eqb}
+use Rattle.lists.specs.Tab.{word}
+use Rattle.lists.specs.First.{any}
+use Rattle.field.specs.Field.{fadd}
+use Rattle.keccak.specs.Columns as core
+use Rattle.keccak.specs.Tuples.{coreSent, coreReceived}
+use Rattle.keccak_rnd.specs.Columns as round
+use Rattle.keccak_rnd.specs.Tuples.{roundReceived, roundSent}
+use Rattle.judge_tuples.specs.declared.Port.{Port}
+use Rattle.judge_tuples.specs.declared.Port.the-variants.{CoreSend, CoreReceive, RoundReceive, RoundSend}
+
+-- the values of the tuple, as the bus has them
+unfoldable pub tupleOf : Port → List ℕ → List ℕ
+tupleOf CoreSend x = coreSent 24 x
+tupleOf CoreReceive x = coreReceived x
+tupleOf RoundReceive x = roundReceived x
+tupleOf RoundSend x = roundSent x
+
+-- how many words its row has
+unfoldable pub widthOf : Port → ℕ
+widthOf CoreSend = core.NUM-COLUMNS
+widthOf CoreReceive = core.NUM-COLUMNS
+widthOf RoundReceive = round.NUM-COLUMNS
+widthOf RoundSend = round.NUM-COLUMNS
+
+-- the round that it names
+unfoldable pub roundOf : Port → List ℕ → ℕ
+roundOf CoreSend x = 0
+roundOf CoreReceive x = 24
+roundOf RoundReceive x = word x round.ROUND
+roundOf RoundSend x = fadd (word x round.ROUND) 1
+
+-- where its state stands: the first eight words, lane (0, 0), and the others, counted from where the first would stand
+unfoldable pub laneAt : Port → ℕ
+laneAt CoreSend = core.INPUT-STATE
+laneAt CoreReceive = core.OUTPUT-STATE
+laneAt RoundReceive = round.START
+laneAt RoundSend = round.IOTA
+
+unfoldable pub restAt : Port → ℕ
+restAt CoreSend = core.INPUT-STATE
+restAt CoreReceive = core.OUTPUT-STATE
+restAt RoundReceive = round.START
+restAt RoundSend = round.CHI
+
+-- word k of a from i on is not word k of b from j on
+unfoldable pub apart : List ℕ → ℕ → List ℕ → ℕ → ℕ → Bool
+apart a i b j k = not (eqb (word a (i + k)) (word b (j + k)))
+
+-- whether the states of two tuples have the same words, by their columns
+unfoldable pub sameState : Port → List ℕ → Port → List ℕ → Bool
+sameState s x q y =
+    not (any (apart x (laneAt s) y (laneAt q)) 8) && not (any (apart x (restAt s + 8) y (restAt q + 8)) 192)

@@ -1,0 +1,112 @@
+// The Keccak tuples of core rows and round rows, compared by the columns that they are made of.
+use field::Fe;
+ghost use mathlib.Core.Path.{_≡_};
+ghost use mathlib.Core.Bool.{not};
+ghost use Prim.Native.Nat.{_+_, _≤_};
+ghost use lib.ListN.{length};
+ghost use Rattle.lists.specs.First.{any};
+ghost use Rattle.field.specs.Field.{fadd};
+ghost use Rattle.bus.specs.Words.{wordsTest};
+ghost use Rattle.judge_tuples.specs.Port.{widthOf, laneAt, restAt, roundOf, tupleOf, apart, sameState};
+
+// Which of the four: a core row sends INPUT and receives OUTPUT, a round row receives START and sends the state after it.
+pub enum Port {
+    CoreSend,
+    CoreReceive,
+    RoundReceive,
+    RoundSend,
+}
+
+// The column of lane (0, 0), and where that of the other lanes would begin: a round row has lane (0, 0) after iota apart.
+fn lane_at(port: Port) -> usize
+    ensures { λ r. ⌜ r ≡ laneAt port ⌝ }
+{
+    match port {
+        Port::CoreSend => 10,
+        Port::CoreReceive => 210,
+        Port::RoundReceive => 3,
+        Port::RoundSend => 1471,
+    }
+}
+
+fn rest_at(port: Port) -> usize
+    ensures { λ r. ⌜ r ≡ restAt port ⌝ }
+{
+    match port {
+        Port::CoreSend => 10,
+        Port::CoreReceive => 210,
+        Port::RoundReceive => 3,
+        Port::RoundSend => 1263,
+    }
+}
+
+// The element after a word, which may be any.
+fn next(round: u64) -> u64
+    ensures { λ r. ⌜ r ≡ fadd round 1 ⌝ }
+{
+    if round < Fe::P - 1 {
+        round + 1
+    } else {
+        round - (Fe::P - 1)
+    }
+}
+
+// The round that a tuple names.
+fn round_of(row: &[u64], port: Port) -> u64
+    requires { ⌜ widthOf port ≤ length (now row) ⌝ }
+    ensures { λ r. ⌜ r ≡ roundOf port (now (row .entry)) ⌝ }
+{
+    match port {
+        Port::CoreSend => 0,
+        Port::CoreReceive => 24,
+        Port::RoundReceive => row[2],
+        Port::RoundSend => next(row[2]),
+    }
+}
+
+// Whether the n words of a from i on are those of b from j on.
+fn same_words(a: &[u64], i: usize, b: &[u64], j: usize, n: usize) -> bool
+    requires { ⌜ (i + n ≤ length (now a)) × (j + n ≤ length (now b)) ⌝ }
+    ensures { λ r. ⌜ r ≡ not (any (apart (now (a .entry)) i (now (b .entry)) j) n) ⌝ }
+{
+    let mut k = 0;
+    while k < n {
+        if a[i + k] != b[j + k] {
+            return false;
+        }
+        k += 1;
+    }
+    true
+}
+
+// Whether two tuples have one state.
+fn same_state(x: &[u64], s: Port, y: &[u64], q: Port) -> bool
+    requires { ⌜ (widthOf s ≤ length (now x)) × (widthOf q ≤ length (now y)) ⌝ }
+    ensures { λ r. ⌜ r ≡ sameState s (now (x .entry)) q (now (y .entry)) ⌝ }
+{
+    let here = lane_at(s);
+    let there = lane_at(q);
+    if !same_words(x, here, y, there, 8) {
+        return false;
+    }
+    let from = rest_at(s) + 8;
+    let to = rest_at(q) + 8;
+    same_words(x, from, y, to, 192)
+}
+
+// Whether tuple s of the row x is tuple q of the row y. Timestamps come first: most rows differ there.
+pub fn same_tuple(x: &[u64], s: Port, y: &[u64], q: Port) -> bool
+    requires { ⌜ (widthOf s ≤ length (now x)) × (widthOf q ≤ length (now y)) ⌝ }
+    ensures { λ r. ⌜ r ≡ wordsTest (tupleOf s (now (x .entry))) (tupleOf q (now (y .entry))) ⌝ }
+{
+    if x[0] != y[0] {
+        return false;
+    }
+    if x[1] != y[1] {
+        return false;
+    }
+    if round_of(x, s) != round_of(y, q) {
+        return false;
+    }
+    same_state(x, s, y, q)
+}

@@ -1,0 +1,30 @@
+// The verdict on two tables.
+use judge::verdict;
+use judge_words::verdict_words;
+ghost use mathlib.Core.Path.{_≡_};
+ghost use mathlib.Core.List.{[], _∷_};
+ghost use Rattle.verdict.specs.Verdict.{verdictWords};
+ghost use Rattle.verdict.specs.CoreAndRound.{verdictOf};
+
+// The four words of `verdictWords`: the kind; then the count where the tables hold, or the failure's table, row and index, or
+// a refusal's number and detail.
+#[repr(C)]
+pub struct FlatVerdict {
+    pub kind: u64,
+    pub first: u64,
+    pub second: u64,
+    pub third: u64,
+}
+
+#[no_mangle]
+pub extern "C" fn keccak_tables_verdict(core: &[u64], round: &[u64]) -> FlatVerdict
+    ensures { λ r. ⌜ r .kind ∷ r .first ∷ r .second ∷ r .third ∷ [] ≡ verdictWords (verdictOf (now (core .entry)) (now (round .entry))) ⌝ }
+{
+    let words = verdict_words(verdict(core, round));
+    FlatVerdict {
+        kind: words[0],
+        first: words[1],
+        second: words[2],
+        third: words[3],
+    }
+}
