@@ -44,7 +44,6 @@ pub struct FlatTuple {
 }
 
 /// A verdict: its kind, then three words as the kind has them.
-#[cfg(feature = "verdict")]
 #[repr(C)]
 pub struct FlatVerdict {
     pub kind: u64,
@@ -137,9 +136,6 @@ bind! {
     keccak_rnd_values = keccak_tables_keccak_rnd_values(read row, write out) -> FlatAnswer;
     keccak_rnd_bus_interaction =
         keccak_tables_keccak_rnd_bus_interaction(read row, number index: usize, write out) -> FlatTuple;
-}
 
-#[cfg(feature = "verdict")]
-bind! {
     verdict = keccak_tables_verdict(read core, read round) -> FlatVerdict;
 }

@@ -29,7 +29,6 @@ pub mod is_wh;
 pub mod keccak;
 pub mod keccak_rc;
 pub mod keccak_rnd;
-#[cfg(feature = "verdict")]
 pub mod verdict;
 
 #[allow(unsafe_code)]

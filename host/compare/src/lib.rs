@@ -1,7 +1,8 @@
 //! The proved tables held against the published Rust: what is compared, and how a comparison is counted and told.
 //!
 //! `rows` compares rows, tables, keys, counters and refusals, `values` the constraint values of core and round rows and
-//! `tuples` their tuples. A further area (the verdict) is a module beside them and a name in `bin/differential.rs`.
+//! `tuples` their tuples. `verdicts` holds the verdict against `judge`, a judge of its own, on the tables of `dishonest`. A
+//! further area is a module beside them and a name in `bin/differential.rs`.
 
 #![warn(missing_docs)]
 
@@ -17,5 +18,4 @@ pub mod tuple_list;
 pub mod tuples;
 pub mod untouched;
 pub mod values;
-#[cfg(feature = "verdict")]
 pub mod verdicts;
