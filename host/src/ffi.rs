@@ -43,6 +43,15 @@ pub struct FlatTuple {
     pub multiplicity: u64,
 }
 
+/// A verdict: its kind, then three words as the kind has them.
+#[repr(C)]
+pub struct FlatVerdict {
+    pub kind: u64,
+    pub first: u64,
+    pub second: u64,
+    pub third: u64,
+}
+
 /// A key, which is never refused.
 #[repr(C)]
 pub struct FlatKey {
@@ -127,4 +136,6 @@ bind! {
     keccak_rnd_values = keccak_tables_keccak_rnd_values(read row, write out) -> FlatAnswer;
     keccak_rnd_bus_interaction =
         keccak_tables_keccak_rnd_bus_interaction(read row, number index: usize, write out) -> FlatTuple;
+
+    verdict = keccak_tables_verdict(read core, read round) -> FlatVerdict;
 }

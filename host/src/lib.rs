@@ -29,6 +29,7 @@ pub mod is_wh;
 pub mod keccak;
 pub mod keccak_rc;
 pub mod keccak_rnd;
+pub mod verdict;
 
 #[allow(unsafe_code)]
 mod ffi;

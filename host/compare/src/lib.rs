@@ -1,13 +1,16 @@
 //! The proved tables held against the published Rust: what is compared, and how a comparison is counted and told.
 //!
 //! `rows` compares rows, tables, keys, counters and refusals, `values` the constraint values of core and round rows and
-//! `tuples` their tuples. A further area (the verdict) is a module beside them and a name in `bin/differential.rs`.
+//! `tuples` their tuples. `verdicts` holds the verdict against `judge`, a judge of its own, on the tables of `dishonest`. A
+//! further area is a module beside them and a name in `bin/differential.rs`.
 
 #![warn(missing_docs)]
 
 pub mod comparison;
+pub mod dishonest;
 pub mod evaluated;
 pub mod inputs;
+pub mod judge;
 pub mod lent;
 pub mod refused;
 pub mod rows;
@@ -15,3 +18,4 @@ pub mod tuple_list;
 pub mod tuples;
 pub mod untouched;
 pub mod values;
+pub mod verdicts;

@@ -4,12 +4,13 @@
 use std::process::ExitCode;
 
 use compare::comparison::Comparison;
-use compare::{rows, tuples, values};
+use compare::{rows, tuples, values, verdicts};
 
 const USAGE: &str = "\
 usage: differential rows [SEED [N]]      (N drawn operations)
        differential values [SEED [N]]    (N drawn rows of each kind)
        differential tuples [SEED [N]]    (N drawn rows of each kind)
+       differential verdict [SEED [N]]   (N changes of words, and N of rows)
 Seed 1 and 300 where none is given.";
 
 fn main() -> ExitCode {
@@ -30,6 +31,7 @@ fn main() -> ExitCode {
         "rows" => rows::compare(&mut comparison, seed, n),
         "values" => values::compare(&mut comparison, seed, n),
         "tuples" => tuples::compare(&mut comparison, seed, n),
+        "verdict" => verdicts::compare(&mut comparison, seed, n),
         _ => return usage(),
     }
     comparison.finish()

@@ -1,4 +1,5 @@
-//! Times the proved calls against the published Rust's on the same inputs: `bench rows`, `bench values`, `bench tuples`.
+//! Times the proved calls against the published Rust's on the same inputs: `bench rows`, `bench values`, `bench tuples`,
+//! `bench verdict`.
 //! It prints for each call the best of several runs, ours and theirs in turn, and lines `ratio NAME X.XX`: our time over
 //! theirs. The comment at the top of each area's file says what is timed.
 
@@ -6,6 +7,7 @@ mod rows;
 mod timing;
 mod tuples;
 mod values;
+mod verdict;
 
 use std::process::ExitCode;
 
@@ -16,8 +18,9 @@ fn main() -> ExitCode {
         ["rows"] => rows::run(),
         ["values"] => values::run(),
         ["tuples"] => tuples::run(),
+        ["verdict"] => verdict::run(),
         _ => {
-            eprintln!("usage: bench rows | bench values | bench tuples");
+            eprintln!("usage: bench rows | bench values | bench tuples | bench verdict");
             return ExitCode::from(2);
         }
     }

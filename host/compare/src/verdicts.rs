@@ -1,0 +1,168 @@
+//! The proved verdict against the independent judge's: on every named pair of tables, and on written tables of which one or
+//! two words were changed or rows exchanged, copied, dropped and shuffled.
+
+use keccak_tables::verdict::{Table, Verdict, verdict};
+use keccak_tables::{P, Refusal, keccak, keccak_rnd};
+
+use crate::comparison::Comparison;
+use crate::dishonest::{Tables, exchange, pairs, shuffle};
+use crate::inputs::Words;
+use crate::judge;
+
+/// The whole area: the named pairs, `n` drawn changes of words, and as many of rows.
+pub fn compare(comparison: &mut Comparison, seed: u64, n: usize) {
+    comparison.group("named pairs of tables, against the judge and against thought");
+    for pair in pairs(seed) {
+        let input = |_| format!("the pair '{}' of seed {seed}", pair.name);
+        let ours = judged(comparison, &input, &pair.tables);
+        comparison.equal(input, &ours, &pair.expected.words());
+    }
+
+    comparison.group("written tables with one or two words changed");
+    let mut words = Words::new(seed);
+    let written: Vec<Tables> = (0..5).map(|calls| Tables::written(calls, &mut words)).collect();
+    for change in 0..n {
+        let mut tables = written[words.below(5) as usize].clone();
+        let mut changes = String::new();
+        for _ in 0..=words.below(2) {
+            changes += &changed(&mut tables, &mut words);
+        }
+        judged(
+            comparison,
+            &|_| format!("change {change} of seed {seed}:{changes}"),
+            &tables,
+        );
+    }
+
+    comparison
+        .group("written tables with rows exchanged, copied, dropped or shuffled, and now and then a word changed");
+    for change in 0..n {
+        let mut tables = written[words.below(5) as usize].clone();
+        let mut changes = String::new();
+        for _ in 0..=words.below(4) {
+            changes += &moved(&mut tables, &mut words);
+        }
+        if words.below(3) == 0 {
+            changes += &changed(&mut tables, &mut words);
+        }
+        judged(
+            comparison,
+            &|_| format!("move {change} of seed {seed}:{changes}"),
+            &tables,
+        );
+    }
+}
+
+/// Our verdict on two tables, held against the judge's.
+fn judged(comparison: &mut Comparison, input: &dyn Fn(usize) -> String, tables: &Tables) -> [u64; 4] {
+    let Tables { core, round } = tables;
+    let ours = words(verdict(core, round));
+    comparison.equal(input, &ours, &judge::verdict(core, round).words());
+    ours
+}
+
+/// A verdict's four words.
+pub fn words(answer: Result<Verdict, Refusal>) -> [u64; 4] {
+    let theirs = |table| match table {
+        Table::Core => judge::Table::Core,
+        Table::Round => judge::Table::Round,
+    };
+    match answer {
+        Ok(Verdict::Holds { active }) => judge::Verdict::Holds(active),
+        Ok(Verdict::Value { table, row, index }) => judge::Verdict::Value(theirs(table), row, index),
+        Ok(Verdict::Lookup { table, row, index }) => judge::Verdict::Lookup(theirs(table), row, index),
+        Ok(Verdict::Repeated { row }) => judge::Verdict::Timestamp(row),
+        Ok(Verdict::Unbalanced { table, row, index }) => judge::Verdict::Balance(theirs(table), row, index),
+        Err(refusal) => judge::Verdict::Refused(refusal.number(), refusal.detail()),
+    }
+    .words()
+}
+
+/// One of the two tables, with its name and width; the round table more often.
+fn one_of<'a>(tables: &'a mut Tables, words: &mut Words) -> (&'static str, &'a mut Vec<u64>, usize) {
+    if words.below(3) == 0 {
+        ("core", &mut tables.core, keccak::NUM_COLUMNS)
+    } else {
+        ("round", &mut tables.round, keccak_rnd::NUM_COLUMNS)
+    }
+}
+
+/// So many rows, from the first, that most often all of them are active as written.
+fn rows_to_change(table: &[u64], width: usize, words: &mut Words) -> usize {
+    let active = table.chunks_exact(width).filter(|row| row[width - 1] == 1).count();
+    if active > 0 && words.below(4) > 0 {
+        active
+    } else {
+        table.len() / width
+    }
+}
+
+/// Moves rows of a table, and says which.
+fn moved(tables: &mut Tables, words: &mut Words) -> String {
+    let (name, table, width) = one_of(tables, words);
+    if table.is_empty() {
+        return String::new();
+    }
+    let rows = rows_to_change(table, width, words) as u64;
+    let [a, b] = [(); 2].map(|()| words.below(rows) as usize);
+    let all = a * width..(a + 1) * width;
+    match words.below(8) {
+        0 => {
+            table.copy_within(all, b * width);
+            format!(" {name} row {a} copied over row {b};")
+        }
+        1 => {
+            table.drain(all);
+            format!(" {name} row {a} dropped;")
+        }
+        2 => {
+            table.extend_from_within(all);
+            format!(" {name} row {a} doubled at the end;")
+        }
+        3 => {
+            shuffle(table, width, words);
+            format!(" {name} shuffled;")
+        }
+        4 => {
+            // The timestamp alone: a row of one call filed under another.
+            for word in 0..2 {
+                table[b * width + word] = table[a * width + word];
+            }
+            format!(" {name} row {b} with the timestamp of row {a};")
+        }
+        _ => {
+            exchange(table, width, a, b);
+            format!(" {name} rows {a} and {b} exchanged;")
+        }
+    }
+}
+
+/// Changes a word, most often one of an active row, and says which.
+fn changed(tables: &mut Tables, words: &mut Words) -> String {
+    let (name, table, width) = one_of(tables, words);
+    if table.is_empty() {
+        return String::new();
+    }
+    let rows = rows_to_change(table, width, words);
+    let row = words.below(rows as u64) as usize;
+    // The two timestamp words, ROUND and MU are few among the columns.
+    let column = match words.below(8) {
+        0 => words.below(3) as usize,
+        1 => width - 1,
+        _ => words.below(width as u64) as usize,
+    };
+    let was = table[row * width + column];
+    let word = match words.below(12) {
+        0 => words.below(2),
+        1 => 256,
+        2 => P - 1,
+        3 => P + words.below(2),
+        4 => words.element(),
+        5 => table[words.below(rows as u64) as usize * width + column],
+        6 => was + 1,
+        7 => was.wrapping_sub(1).min(P - 1),
+        _ => was ^ 1 << words.below(8),
+    };
+    table[row * width + column] = word;
+    format!(" {name} row {row} column {column} is {word}, was {was};")
+}

@@ -1,0 +1,108 @@
+//! The verdict on a core table and a round table: whether both hold together, or the first failure.
+
+use std::fmt;
+
+use crate::ffi::{self, FlatVerdict};
+use crate::refusal::Refusal;
+
+/// One of the two tables.
+#[derive(Debug, Clone, Copy, PartialEq, Eq, Hash)]
+pub enum Table {
+    /// The core table.
+    Core,
+    /// The round table.
+    Round,
+}
+
+/// What is said of two tables. Rows and indexes count from 0. Failures are looked for in this order, those of a kind in the
+/// core table before the round table, but for the timestamps, which come between the two: core values, core lookups,
+/// timestamps, round values, round lookups, balance. The first one is named, by its lowest row, then its lowest index.
+#[derive(Debug, Clone, Copy, PartialEq, Eq, Hash)]
+pub enum Verdict {
+    /// Both tables hold.
+    Holds {
+        /// The active core rows.
+        active: u64,
+    },
+    /// A constraint value is not 0.
+    Value {
+        /// In which table.
+        table: Table,
+        /// In which row.
+        row: u64,
+        /// Which value.
+        index: u64,
+    },
+    /// A tuple is not found where it is looked up.
+    Lookup {
+        /// In which table.
+        table: Table,
+        /// In which row.
+        row: u64,
+        /// Which tuple.
+        index: u64,
+    },
+    /// An earlier active core row has this active core row's timestamp.
+    Repeated {
+        /// Which row.
+        row: u64,
+    },
+    /// A tuple of the Keccak bus is not sent as often as it is received.
+    Unbalanced {
+        /// In which table.
+        table: Table,
+        /// In which row.
+        row: u64,
+        /// Which tuple.
+        index: u64,
+    },
+}
+
+/// Judges a core table of rows of [`keccak::NUM_COLUMNS`](crate::keccak::NUM_COLUMNS) words and a round table of rows of
+/// [`keccak_rnd::NUM_COLUMNS`](crate::keccak_rnd::NUM_COLUMNS) words. Either may be empty.
+pub fn verdict(core: &[u64], round: &[u64]) -> Result<Verdict, Refusal> {
+    from_flat(ffi::verdict(core, round))
+}
+
+fn from_flat(flat: FlatVerdict) -> Result<Verdict, Refusal> {
+    let FlatVerdict {
+        kind,
+        first,
+        second: row,
+        third: index,
+    } = flat;
+    let table = if first == 0 { Table::Core } else { Table::Round };
+    Ok(match kind {
+        0 => Verdict::Holds { active: first },
+        1 | 4 => Verdict::Value { table, row, index },
+        2 | 5 => Verdict::Lookup { table, row, index },
+        3 => Verdict::Repeated { row },
+        6 => Verdict::Unbalanced { table, row, index },
+        _ => match Refusal::from_flat(first, row) {
+            Err(refusal) => return Err(refusal),
+            Ok(()) => unreachable!("the definition of the verdicts has no kind {kind} with refusal 0"),
+        },
+    })
+}
+
+/// One line: `holds N`; or `core` or `round`, `row R`, then `value I`, `lookup I`, `timestamp 0` or `balance I`.
+impl fmt::Display for Verdict {
+    fn fmt(&self, f: &mut fmt::Formatter<'_>) -> fmt::Result {
+        match *self {
+            Self::Holds { active } => write!(f, "holds {active}"),
+            Self::Value { table, row, index } => write!(f, "{table} row {row} value {index}"),
+            Self::Lookup { table, row, index } => write!(f, "{table} row {row} lookup {index}"),
+            Self::Repeated { row } => write!(f, "core row {row} timestamp 0"),
+            Self::Unbalanced { table, row, index } => write!(f, "{table} row {row} balance {index}"),
+        }
+    }
+}
+
+impl fmt::Display for Table {
+    fn fmt(&self, f: &mut fmt::Formatter<'_>) -> fmt::Result {
+        f.write_str(match self {
+            Self::Core => "core",
+            Self::Round => "round",
+        })
+    }
+}
