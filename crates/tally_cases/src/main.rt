@@ -1,0 +1,163 @@
+// Prints what `tally` says of files that are built here: a line with the file's name, then its lines. The file `stdout` has
+// the same lines from elsewhere.
+use libc::STDOUT_FILENO;
+use op_file::Cursor;
+use op_file::feed;
+use op_file::finish;
+use op_file::start;
+use tally_text::put_tally;
+ghost use Prim.Native.Nat.{_≤_};
+
+// The highest address whose 25 lanes end below 2^64, and the next.
+const LAST: u64 = 18446744073709551423;
+
+const HIGH: u64 = 18446744073709551424;
+
+// Byte k of a number, lowest first.
+fn byte_of(x: u64, k: u64) -> u8
+    requires { ⌜ k ≤ 7 ⌝ }
+{
+    ((x >> (8 * k)) % 256) as u8
+}
+
+// Two records of these addresses; all other words are 0.
+fn records(first: u64, second: u64) -> [u8; 836] {
+    let mut file = [0u8; 836];
+    file[0] = 0x4B;
+    file[1] = 0x4F;
+    file[418] = 0x4B;
+    file[419] = 0x4F;
+    for k in 0..8 {
+        file[10 + k] = byte_of(first, k as u64);
+        file[428 + k] = byte_of(second, k as u64);
+    }
+    file
+}
+
+// The same with another byte at a place.
+fn changed(file: [u8; 836], at: usize, b: u8) -> [u8; 836]
+    requires { ⌜ at ≤ 835 ⌝ }
+{
+    let mut other = file;
+    other[at] = b;
+    other
+}
+
+// The lines of a reader at the end of its file.
+fn print_tally(c: Cursor) {
+    let mut space = [0u8; 512];
+    let n = put_tally(finish(c), &mut space);
+    io::write_all(STDOUT_FILENO, &space[..n]);
+}
+
+// The first n bytes of a file, read at once after so many good records.
+fn print_after(name: &[u8], records: u64, file: &[u8], n: usize) {
+    io::write_all(STDOUT_FILENO, name);
+    let c = Cursor::Reading {
+        n: records,
+        at: 0,
+        addr: 0,
+    };
+    if n <= file.len() {
+        print_tally(feed(c, &file[0..n]));
+    }
+}
+
+// The first n bytes of a file, read at once.
+fn print_first(name: &[u8], file: &[u8], n: usize) {
+    io::write_all(STDOUT_FILENO, name);
+    if n <= file.len() {
+        print_tally(feed(start(), &file[0..n]));
+    }
+}
+
+// The same byte by byte.
+fn print_bytes(name: &[u8], file: &[u8]) {
+    io::write_all(STDOUT_FILENO, name);
+    let mut c = start();
+    for k in 0..file.len() {
+        c = feed(c, &file[k..k + 1]);
+    }
+    print_tally(c);
+}
+
+// The same in two pieces.
+fn print_pieces(name: &[u8], file: &[u8], cut: usize) {
+    io::write_all(STDOUT_FILENO, name);
+    if cut <= file.len() {
+        print_tally(feed(feed(start(), &file[0..cut]), &file[cut..]));
+    }
+}
+
+fn good_files() {
+    let file = records(4096, 8192);
+    print_first(b"empty\n", &file, 0);
+    print_first(b"one record\n", &file, 418);
+    print_first(b"two records\n", &file, 836);
+    print_bytes(b"two records, byte by byte\n", &file);
+    print_pieces(b"two records, cut in an address\n", &file, 432);
+}
+
+fn cut_files() {
+    let file = records(4096, 8192);
+    print_first(b"one byte\n", &file, 1);
+    print_first(b"one byte too few\n", &file, 417);
+    print_first(b"one byte too many\n", &file, 419);
+}
+
+fn wrong_marks() {
+    let second = changed(records(4096, 8192), 419, 0x4E);
+    print_first(b"wrong second byte in record 2\n", &second, 836);
+    print_first(b"wrong first byte\n", &changed(second, 0, 0x4A), 836);
+    print_first(b"wrong second byte\n", &changed(second, 1, 0x4B), 418);
+}
+
+fn high_addresses() {
+    let file = records(LAST, HIGH);
+    print_first(b"highest address\n", &file, 418);
+    print_first(b"high address in record 2\n", &file, 836);
+    print_bytes(b"high address in record 2, byte by byte\n", &file);
+    print_pieces(
+        b"high address in record 2, cut in the address\n",
+        &file,
+        429,
+    );
+}
+
+fn two_faults() {
+    let high = records(HIGH, 18446744073709551615);
+    print_first(b"two high addresses\n", &high, 836);
+    print_first(b"high address, then a cut record\n", &high, 500);
+    let marked = changed(high, 1, 0x4E);
+    print_first(b"high address and wrong mark\n", &marked, 836);
+    print_first(b"high address, wrong mark and cut\n", &marked, 417);
+}
+
+// The last record that a file may have is the 89,478,485th.
+fn last_records() {
+    let file = records(4096, 8192);
+    print_after(b"last record\n", 89478484, &file, 418);
+    print_after(b"a byte after the last record\n", 89478484, &file, 419);
+    let after = changed(file, 418, 0);
+    print_after(
+        b"a record with a wrong mark after the last\n",
+        89478484,
+        &after,
+        836,
+    );
+    print_after(
+        b"wrong mark in the last record, and more\n",
+        89478484,
+        &changed(after, 1, 0),
+        836,
+    );
+}
+
+fn main() {
+    good_files();
+    cut_files();
+    wrong_marks();
+    high_addresses();
+    two_faults();
+    last_records();
+}
