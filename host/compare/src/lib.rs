@@ -9,4 +9,5 @@ pub mod comparison;
 pub mod inputs;
 pub mod lent;
 pub mod rows;
+pub mod tally;
 pub mod untouched;

@@ -5,8 +5,10 @@ use std::process::ExitCode;
 
 use compare::comparison::Comparison;
 use compare::rows;
+use compare::tally;
 
-const USAGE: &str = "usage: differential rows [SEED [N]]    (seed 1 and 300 drawn operations where none is given)";
+const USAGE: &str =
+    "usage: differential rows|tally [SEED [N]]    (seed 1 and 300 drawn operations where none is given)";
 
 fn main() -> ExitCode {
     let arguments: Vec<String> = std::env::args().skip(1).collect();
@@ -24,6 +26,7 @@ fn main() -> ExitCode {
     let mut comparison = Comparison::default();
     match area {
         "rows" => rows::compare(&mut comparison, seed, n),
+        "tally" => tally::compare(&mut comparison, seed, n),
         _ => return usage(),
     }
     comparison.finish()
