@@ -1,4 +1,5 @@
-//! The functions of the archive, and the only `unsafe` of this crate. `crates/keccak_tables/src` has each one's contract.
+//! The functions of the archive; with `file_ffi`, the only `unsafe` of this crate. `crates/keccak_tables/src` has each
+//! one's contract.
 //!
 //! A slice is passed as a pointer, then a length in words. None of the functions has a condition on its arguments beyond
 //! that these come from a slice; no two slices of a call overlap, because one of them is a `&mut`.

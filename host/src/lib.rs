@@ -29,10 +29,13 @@ pub mod is_wh;
 pub mod keccak;
 pub mod keccak_rc;
 pub mod keccak_rnd;
+pub mod operation_file;
 pub mod verdict;
 
 #[allow(unsafe_code)]
 mod ffi;
+#[allow(unsafe_code)]
+mod file_ffi;
 mod operation;
 mod refusal;
 mod tuple;

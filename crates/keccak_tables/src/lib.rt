@@ -15,6 +15,7 @@ pub mod evaluators;
 pub mod judge_calls;
 pub mod lookups;
 pub mod round_calls;
+pub mod tally_calls;
 
 // Number and detail of the refusal, or 0 and 0 where the call did its work.
 #[repr(C)]

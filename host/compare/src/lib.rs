@@ -14,6 +14,7 @@ pub mod judge;
 pub mod lent;
 pub mod refused;
 pub mod rows;
+pub mod tally;
 pub mod tuple_list;
 pub mod tuples;
 pub mod untouched;

@@ -4,13 +4,14 @@
 use std::process::ExitCode;
 
 use compare::comparison::Comparison;
-use compare::{rows, tuples, values, verdicts};
+use compare::{rows, tally, tuples, values, verdicts};
 
 const USAGE: &str = "\
 usage: differential rows [SEED [N]]      (N drawn operations)
        differential values [SEED [N]]    (N drawn rows of each kind)
        differential tuples [SEED [N]]    (N drawn rows of each kind)
        differential verdict [SEED [N]]   (N changes of words, and N of rows)
+       differential tally [SEED [N]]     (N drawn files)
 Seed 1 and 300 where none is given.";
 
 fn main() -> ExitCode {
@@ -32,6 +33,7 @@ fn main() -> ExitCode {
         "values" => values::compare(&mut comparison, seed, n),
         "tuples" => tuples::compare(&mut comparison, seed, n),
         "verdict" => verdicts::compare(&mut comparison, seed, n),
+        "tally" => tally::compare(&mut comparison, seed, n),
         _ => return usage(),
     }
     comparison.finish()

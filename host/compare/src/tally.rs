@@ -1,0 +1,164 @@
+//! The operation file: its sums against those of the published Rust's tuples, its operations both ways, and damaged files
+//! against a second reading of the interface's text.
+
+use keccak_tables::keccak::LAST_ADDRESS;
+use keccak_tables::operation_file::{RECORD_BYTES, Sums, Tally, read_operations, write_operations};
+use keccak_tables::{OP_WORDS, Refusal};
+
+use crate::comparison::Comparison;
+use crate::inputs::Words;
+use crate::lent::Lent;
+
+/// The whole area: files of 0 to 40 records, some longer ones, and `n` damaged ones.
+pub fn compare(comparison: &mut Comparison, seed: u64, n: usize) {
+    let mut words = Words::new(seed);
+    let lists: Vec<Vec<u64>> = (0..=40).map(|n| words.operations(n)).collect();
+    comparison.group("sums of 0 to 40 operations");
+    for ops in &lists {
+        sums(comparison, &mut words, ops);
+    }
+    comparison.group("sums of 41 to 300 operations");
+    for _ in 0..8 {
+        let n = 41 + words.below(260) as usize;
+        let ops = words.operations(n);
+        sums(comparison, &mut words, &ops);
+    }
+    comparison.group("operations of a file, both ways");
+    for ops in &lists {
+        both_ways(comparison, &mut words, ops);
+    }
+    comparison.group("damaged files");
+    for _ in 0..n {
+        damaged(comparison, &mut words);
+    }
+}
+
+/// The bytes of a list of operations.
+fn file_of(ops: &[u64]) -> Vec<u8> {
+    let record = |words: &[u64]| {
+        [
+            vec![0x4B, 0x4F],
+            words.iter().flat_map(|word| word.to_le_bytes()).collect(),
+        ]
+        .concat()
+    };
+    ops.chunks_exact(OP_WORDS).flat_map(record).collect()
+}
+
+/// What our reader says of a file that is cut at drawn places.
+fn read(words: &mut Words, file: &[u8]) -> Result<Sums, Refusal> {
+    let most = [1, 20, 500, 5_000][words.below(4) as usize];
+    let mut tally = Tally::new();
+    let mut rest = file;
+    while !rest.is_empty() {
+        let (piece, later) = rest.split_at((words.below(most) as usize + 1).min(rest.len()));
+        tally.feed(piece);
+        rest = later;
+    }
+    tally.finish()
+}
+
+fn numbers(sums: &Sums) -> [u64; 10] {
+    [
+        sums.ops,
+        sums.core_rows,
+        sums.round_rows,
+        sums.byte_alu,
+        sums.are_bytes,
+        sums.keccak_rc,
+        sums.is_halfword,
+        sums.is_wh,
+        sums.memw,
+        sums.ecall,
+    ]
+}
+
+fn sums(comparison: &mut Comparison, words: &mut Words, ops: &[u64]) {
+    let input = || format!("a file of {} operations", ops.len() / OP_WORDS);
+    let expected = oracle::tally(ops).map(|(_, sum)| u64::try_from(sum).expect("a sum is a word"));
+    if let Some(ours) = comparison.done(input, read(words, &file_of(ops))) {
+        comparison.equal(|_| input(), &numbers(&ours), &expected);
+    }
+}
+
+fn both_ways(comparison: &mut Comparison, words: &mut Words, ops: &[u64]) {
+    let input = || format!("{} operations", ops.len() / OP_WORDS);
+    let file = file_of(ops);
+    let mut list = Lent::drawn(ops.len() + words.below(3) as usize, words);
+    comparison.done(input, read_operations(&file, list.slice()));
+    list.holds(comparison, |_| input(), ops);
+
+    let past = words.below(3) as usize;
+    let mut bytes = vec![0xA5; file.len() + past];
+    comparison.done(input, write_operations(ops, &mut bytes));
+    let expected = [file.clone(), vec![0xA5; past]].concat();
+    comparison.equal(|_| input(), &widened(&bytes), &widened(&expected));
+
+    if !ops.is_empty() {
+        let mut short = Lent::drawn(ops.len() - 1, words);
+        comparison.refused(input, read_operations(&file, short.slice()), 3, ops.len() as u64);
+        short.kept(comparison, |_| input());
+        let mut bytes = vec![0xA5; file.len() - 1];
+        comparison.refused(input, write_operations(ops, &mut bytes), 3, file.len() as u64);
+        comparison.equal(|_| input(), &widened(&bytes), &vec![0xA5; file.len() - 1]);
+    }
+}
+
+fn widened(bytes: &[u8]) -> Vec<u64> {
+    bytes.iter().map(|&byte| byte.into()).collect()
+}
+
+/// Up to three faults in a file of a few records; some of them hit the same record, some none.
+fn damaged(comparison: &mut Comparison, words: &mut Words) {
+    let records = words.below(6) as usize + 1;
+    let ops = words.operations(records);
+    let mut file = file_of(&ops);
+    for _ in 0..=words.below(3) {
+        let start = words.below(records as u64) as usize * RECORD_BYTES;
+        match words.below(4) {
+            0 => set(&mut file, start + words.below(2) as usize, &[words.word() as u8]),
+            1 => set(
+                &mut file,
+                start + 10,
+                &(LAST_ADDRESS - 1 + words.below(4)).to_le_bytes(),
+            ),
+            2 => file.truncate(words.below(file.len() as u64 + 1) as usize),
+            _ => file.push(words.word() as u8),
+        }
+    }
+    let input = || format!("the file {file:?}");
+    let answer = read(words, &file);
+    let mut list = Lent::drawn(ops.len() + OP_WORDS, words);
+    let listed = read_operations(&file, list.slice());
+    match first_fault(&file) {
+        Some((number, detail)) => {
+            comparison.refused(input, answer, number, detail);
+            comparison.refused(input, listed, number, detail);
+            list.kept(comparison, |_| input());
+        }
+        None => {
+            let whole = file.len() / RECORD_BYTES;
+            if let Some(ours) = comparison.done(input, answer) {
+                comparison.equal(|_| input(), &numbers(&ours)[..1], &[whole as u64]);
+            }
+            comparison.done(input, listed);
+        }
+    }
+}
+
+fn set(file: &mut [u8], at: usize, bytes: &[u8]) {
+    if let Some(part) = file.get_mut(at..at + bytes.len()) {
+        part.copy_from_slice(bytes);
+    }
+}
+
+/// The interface's text again: of the first faulty record 6 for a cut or another mark, else 4 for its address.
+fn first_fault(file: &[u8]) -> Option<(u64, u64)> {
+    file.chunks(RECORD_BYTES).enumerate().find_map(|(i, record)| {
+        if record.len() < RECORD_BYTES || !record.starts_with(b"KO") {
+            return Some((6, (i * RECORD_BYTES) as u64));
+        }
+        let address = u64::from_le_bytes(record[10..18].try_into().expect("eight bytes"));
+        (u128::from(address) + 192 >= 1 << 64).then_some((4, address))
+    })
+}
