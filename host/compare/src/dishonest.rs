@@ -128,7 +128,7 @@ pub(crate) fn exchange(table: &mut [u64], width: usize, a: usize, b: usize) {
 }
 
 /// Puts the rows into a drawn order.
-pub(crate) fn shuffle(table: &mut [u64], width: usize, words: &mut Words) {
+pub fn shuffle(table: &mut [u64], width: usize, words: &mut Words) {
     for row in (1..table.len() / width).rev() {
         exchange(table, width, row, words.below(row as u64 + 1) as usize);
     }

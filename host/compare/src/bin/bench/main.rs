@@ -1,9 +1,11 @@
 //! Times the proved calls against the published Rust's on the same inputs: `bench rows`, `bench values`, `bench tuples`,
-//! `bench verdict`.
+//! `bench verdict`; and what has no counterpart there: `bench tally`, `bench shuffled`.
 //! It prints for each call the best of several runs, ours and theirs in turn, and lines `ratio NAME X.XX`: our time over
 //! theirs. The comment at the top of each area's file says what is timed.
 
 mod rows;
+mod shuffled;
+mod tally;
 mod timing;
 mod tuples;
 mod values;
@@ -11,18 +13,35 @@ mod verdict;
 
 use std::process::ExitCode;
 
+const USAGE: &str = "\
+usage: bench rows | bench values | bench tuples | bench verdict
+       bench tally [BYTES]      (of the operation file; 1000000000 where none are given)
+       bench shuffled [CALLS]   (100 where none are given)";
+
 fn main() -> ExitCode {
     let arguments: Vec<String> = std::env::args().skip(1).collect();
     let arguments: Vec<&str> = arguments.iter().map(String::as_str).collect();
-    match arguments[..] {
-        ["rows"] => rows::run(),
-        ["values"] => values::run(),
-        ["tuples"] => tuples::run(),
-        ["verdict"] => verdict::run(),
-        _ => {
-            eprintln!("usage: bench rows | bench values | bench tuples | bench verdict");
-            return ExitCode::from(2);
-        }
+    let (area, number) = match arguments[..] {
+        [area] => (area, None),
+        [area, number] => match number.parse() {
+            Ok(number) => (area, Some(number)),
+            Err(_) => return usage(),
+        },
+        _ => return usage(),
+    };
+    match (area, number) {
+        ("rows", None) => rows::run(),
+        ("values", None) => values::run(),
+        ("tuples", None) => tuples::run(),
+        ("verdict", None) => verdict::run(),
+        ("tally", bytes) => tally::run(bytes.unwrap_or(tally::BYTES)),
+        ("shuffled", calls) => shuffled::run(calls.unwrap_or(shuffled::CALLS)),
+        _ => return usage(),
     }
     ExitCode::SUCCESS
+}
+
+fn usage() -> ExitCode {
+    eprintln!("{USAGE}");
+    ExitCode::from(2)
 }

@@ -13,6 +13,11 @@ pub fn line(what: &str, time: Duration, items: usize) {
     println!("  {what:<34} {:>9.1} ns each", time.as_secs_f64() * 1e9 / items as f64);
 }
 
+/// The time of all.
+pub fn whole(what: &str, time: Duration) {
+    println!("  {what:<34} {:>9.1} ms in all", time.as_secs_f64() * 1e3);
+}
+
 /// The time of a call; what it answers is dropped afterwards.
 pub fn time<T>(call: impl FnOnce() -> T) -> Duration {
     let start = Instant::now();
