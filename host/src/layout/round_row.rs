@@ -147,13 +147,13 @@ pub static TUPLES: [Group<MakeTuple>; 12] = [
         make: |_| round_constant(),
     },
     Group {
-        name: "parity, stage 0",
+        name: "first stage of C",
         axes: SHEETS,
         says: "CXZ is the XOR of the lanes y = 0 and 1",
         make: first_stage,
     },
     Group {
-        name: "parity, later stages",
+        name: "later stage of C",
         axes: &[(Axis::X, 5), (Axis::Stage, 3), (Axis::Byte, 8)],
         says: "CXZ of stage + 1 is CXZ of stage XOR the lane y = stage + 2",
         make: later_stage,
@@ -188,13 +188,13 @@ pub static TUPLES: [Group<MakeTuple>; 12] = [
         },
     },
     Group {
-        name: "chi, AND",
+        name: "AND of chi",
         axes: BY_X,
         says: "CHI_ANDS is (not pi of x + 1) AND pi of x + 2",
         make: chi_and,
     },
     Group {
-        name: "chi, XOR",
+        name: "XOR of chi",
         axes: BY_X,
         says: "CHI is pi XOR CHI_ANDS",
         make: chi_xor,

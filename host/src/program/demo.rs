@@ -108,7 +108,11 @@ fn show(ops: &[u64], tables: &Tables, streams: &mut Streams) -> Result<Outcome, 
         out,
         "state after round 23 in the round table that the proved code writes. For the zero state its first"
     )?;
-    writeln!(out, "lane is {:016X} (the published value is F1258F7940E1DDE7).", ops[27])?;
+    writeln!(
+        out,
+        "lane is {:016X} (the published value is F1258F7940E1DDE7).",
+        ops[27]
+    )?;
     let (core, round) = (
         tables.core.len() / keccak::NUM_COLUMNS,
         tables.round.len() / keccak_rnd::NUM_COLUMNS,

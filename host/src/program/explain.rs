@@ -35,8 +35,8 @@ fn text(table: &str, kind: &str, index: &str) -> Result<String, String> {
     };
     found.ok_or_else(|| {
         format!(
-            "a {table} row has no {kind} {index}, but {} of them from 0",
-            count(table, kind)
+            "a {table} row has {kind}s 0 to {}, and no {index}",
+            count(table, kind) - 1
         )
     })
 }
@@ -73,9 +73,12 @@ pub fn title(place: &Place) -> String {
 
 fn column(table: Table, index: usize) -> Option<String> {
     let place = layout::column(table, index)?;
+    let place_words = match place.words() {
+        words if words.is_empty() => words,
+        words => format!(" ({words})"),
+    };
     Some(format!(
-        "{table} column {index}: {place} ({})\n  {}\n",
-        title(&place),
+        "{table} column {index}: {place}{place_words}\n  {}\n",
         place.says
     ))
 }
@@ -147,17 +150,17 @@ fn tuple(table: Table, index: usize) -> Option<String> {
     Some(text)
 }
 
-/// The operands in words. Those that are columns next to each other stand in one line.
+/// The operands in words. Columns next to each other, and a constant that is repeated, stand in one line.
 fn operands(table: Table, tuple: &Tuple) -> Vec<(usize, usize, String)> {
-    let single = |at: usize| match tuple.values.get(at) {
-        Some(Operand::Sum(sum)) => sum.single(),
-        _ => None,
-    };
     let mut lines = Vec::new();
     let mut at = 0;
     while at < tuple.values.len() {
         let from = at;
-        while single(at).is_some_and(|column| single(at + 1) == Some(column + 1)) {
+        while tuple
+            .values
+            .get(at + 1)
+            .is_some_and(|next| follows(&tuple.values[at], next))
+        {
             at += 1;
         }
         lines.push((from, at, run(table, tuple, from, at)));
@@ -166,23 +169,35 @@ fn operands(table: Table, tuple: &Tuple) -> Vec<(usize, usize, String)> {
     lines
 }
 
-fn run(table: Table, tuple: &Tuple, from: usize, to: usize) -> String {
-    match (&tuple.values[from], &tuple.values[to]) {
-        (Operand::Syscall(0), _) => "the low 32 bits of the system call's number".into(),
-        (Operand::Syscall(_), _) => "the high 32 bits of the system call's number".into(),
-        (Operand::Sum(first), Operand::Sum(last)) => match (first.single(), last.single()) {
-            (Some(first), Some(last)) if first == last => format!("{}, column {first}", name(table, first)),
-            (Some(first), Some(last)) => {
-                format!(
-                    "{} to {}, columns {first} to {last}",
-                    name(table, first),
-                    name(table, last)
-                )
-            }
-            _ if tuple.bus == Bus::ByteAlu && from == 0 => operation(first),
-            _ => sum_words(table, first),
+/// Whether an operand goes on with the run of the one before it.
+fn follows(before: &Operand, next: &Operand) -> bool {
+    match (before, next) {
+        (Operand::Sum(before), Operand::Sum(next)) => match (before.single(), next.single()) {
+            (Some(before), Some(next)) => next == before + 1,
+            _ => before.terms.is_empty() && before == next,
         },
-        _ => unreachable!("a run of several values is of columns"),
+        _ => false,
+    }
+}
+
+fn run(table: Table, tuple: &Tuple, from: usize, to: usize) -> String {
+    let sum = match &tuple.values[from] {
+        Operand::Syscall(0) => return "the low 32 bits of the system call's number".into(),
+        Operand::Syscall(_) => return "the high 32 bits of the system call's number".into(),
+        Operand::Sum(sum) => sum,
+    };
+    match sum.single() {
+        Some(first) if from == to => format!("{}, column {first}", name(table, first)),
+        Some(first) => {
+            let last = first + to - from;
+            format!(
+                "{} to {}, columns {first} to {last}",
+                name(table, first),
+                name(table, last)
+            )
+        }
+        None if tuple.bus == Bus::ByteAlu && from == 0 => operation(sum),
+        None => sum_words(table, sum),
     }
 }
 
