@@ -1,16 +1,20 @@
 //! `demo`: tables of a few drawn calls, honest and tampered with, and what is said of them.
 
 use std::ffi::OsString;
+use std::io::{self, Write};
 
 use super::{Failure, Outcome, Streams, explain};
 use crate::keccak::LAST_ADDRESS;
-use crate::layout;
+use crate::layout::{self, Place};
 use crate::refusal::Refusal;
 use crate::verdict::{Table, Verdict, verdict};
 use crate::{OP_WORDS, Operation, keccak, keccak_rnd};
 
 /// The calls.
 const CALLS: usize = 3;
+
+/// Lane (0, 0) of Keccak-f[1600] of the zero state.
+const ZERO_LANE: u64 = 0xF125_8F79_40E1_DDE7;
 
 /// The honest tables, and the changes that a trial makes to them.
 #[derive(Clone)]
@@ -42,7 +46,7 @@ const TRIALS: [Trial; 8] = [
         done: "The tables as they were written.",
         change: |_| {},
         expected: "holds 3",
-        shows: "Each of the 3 active core rows has an OUTPUT that is Keccak-f[1600] of its INPUT.",
+        shows: "So each of the 3 active core rows has an OUTPUT that is Keccak-f[1600] of its INPUT: this is proved.",
     },
     Trial {
         done: "In round row 30 (call 1, round 6), the lowest bit of THETA[2][1][4] is changed.",
@@ -98,48 +102,14 @@ pub fn demo(arguments: &[OsString], streams: &mut Streams) -> Result<Outcome, Fa
     }
 }
 
+/// Shows everything, and says whether all was as expected.
 fn show(ops: &[u64], tables: &Tables, streams: &mut Streams) -> Result<Outcome, Failure> {
     let out = &mut *streams.output;
-    writeln!(
-        out,
-        "{CALLS} calls of the permutation: one of the zero state, the others of drawn states. Each OUTPUT is the"
-    )?;
-    writeln!(
-        out,
-        "state after round 23 in the round table that the proved code writes. For the zero state its first"
-    )?;
-    writeln!(
-        out,
-        "lane is {:016X} (the published value is F1258F7940E1DDE7).",
-        ops[27]
-    )?;
-    let (core, round) = (
-        tables.core.len() / keccak::NUM_COLUMNS,
-        tables.round.len() / keccak_rnd::NUM_COLUMNS,
-    );
-    writeln!(
-        out,
-        "Written: a core table of {core} rows and a round table of {round} rows, padding included.\n"
-    )?;
-    let mut fine = ops[27] == 0xF125_8F79_40E1_DDE7;
+    let mut fine = introduce(ops, tables, out)?;
     for trial in &TRIALS {
-        let mut changed = tables.clone();
-        (trial.change)(&mut changed);
-        let answer = verdict(&changed.core, &changed.round);
-        let line = line(answer);
-        writeln!(out, "{}\n    {line}{}\n  {}\n", trial.done, named(answer), trial.shows)?;
-        fine &= line == trial.expected;
+        fine &= show_trial(trial, tables.clone(), out)?;
     }
-    let line = line_of_high_address(ops);
-    writeln!(
-        out,
-        "Tables are asked for, of a call at address 2^64 - 192.\n    {line}"
-    )?;
-    writeln!(
-        out,
-        "  Its last lane would pass 2^64: the writer refuses with number and address, and writes nothing.\n"
-    )?;
-    fine &= line == format!("refused 4 {}", LAST_ADDRESS + 1);
+    fine &= show_high_address(ops, out)?;
     writeln!(
         out,
         "{}",
@@ -152,6 +122,57 @@ fn show(ops: &[u64], tables: &Tables, streams: &mut Streams) -> Result<Outcome, 
     Ok(if fine { Outcome::Fine } else { Outcome::DoesNotHold })
 }
 
+fn introduce(ops: &[u64], tables: &Tables, out: &mut dyn Write) -> io::Result<bool> {
+    let (core, round) = (
+        tables.core.len() / keccak::NUM_COLUMNS,
+        tables.round.len() / keccak_rnd::NUM_COLUMNS,
+    );
+    let first = ops[OP_WORDS - 25];
+    writeln!(
+        out,
+        "{CALLS} calls of the permutation: one of the zero state, the others of drawn states. Each OUTPUT is the"
+    )?;
+    writeln!(
+        out,
+        "state after round 23 in the round table that the proved code writes. For the zero state its first"
+    )?;
+    writeln!(out, "lane is {first:016X} (the published value is {ZERO_LANE:016X}).")?;
+    writeln!(
+        out,
+        "Written: a core table of {core} rows and a round table of {round} rows, padding included.\n"
+    )?;
+    Ok(first == ZERO_LANE)
+}
+
+fn show_trial(trial: &Trial, mut tables: Tables, out: &mut dyn Write) -> io::Result<bool> {
+    (trial.change)(&mut tables);
+    let answer = verdict(&tables.core, &tables.round);
+    writeln!(out, "{}\n    {}", trial.done, line(answer))?;
+    if let Some(place) = named(answer) {
+        writeln!(out, "    ({}: {})", explain::title(&place), place.says)?;
+    }
+    writeln!(out, "  {}\n", trial.shows)?;
+    Ok(line(answer) == trial.expected)
+}
+
+fn show_high_address(ops: &[u64], out: &mut dyn Write) -> io::Result<bool> {
+    let mut ops = ops.to_vec();
+    ops[1] = LAST_ADDRESS + 1;
+    let line = match keccak::keccak_table(&ops) {
+        Ok(_) => "written".into(),
+        Err(refusal) => line(Err(refusal)),
+    };
+    writeln!(
+        out,
+        "The core table is asked for, where call 0 is at address 2^64 - 192.\n    {line}"
+    )?;
+    writeln!(
+        out,
+        "  Its last lane would pass 2^64: the writer refuses with number and address, and writes nothing.\n"
+    )?;
+    Ok(line == format!("refused 4 {}", LAST_ADDRESS + 1))
+}
+
 /// The answer as `judge` prints it.
 fn line(answer: Result<Verdict, Refusal>) -> String {
     match answer {
@@ -160,26 +181,14 @@ fn line(answer: Result<Verdict, Refusal>) -> String {
     }
 }
 
-/// What the index in a verdict is, behind it.
-fn named(answer: Result<Verdict, Refusal>) -> String {
-    let place = match answer {
-        Ok(Verdict::Value { table, index, .. }) => layout::value(table, index as usize).map(|(place, _)| place),
-        Ok(Verdict::Lookup { table, index, .. } | Verdict::Unbalanced { table, index, .. }) => {
+/// What the index in a verdict is.
+fn named(answer: Result<Verdict, Refusal>) -> Option<Place> {
+    match answer.ok()? {
+        Verdict::Value { table, index, .. } => layout::value(table, index as usize).map(|(place, _)| place),
+        Verdict::Lookup { table, index, .. } | Verdict::Unbalanced { table, index, .. } => {
             layout::tuple(table, index as usize).map(|(place, _)| place)
         }
-        _ => None,
-    };
-    place.map_or_else(String::new, |place| {
-        format!("   [{}: {}]", explain::title(&place), place.says)
-    })
-}
-
-fn line_of_high_address(ops: &[u64]) -> String {
-    let mut ops = ops.to_vec();
-    ops[1] = LAST_ADDRESS + 1;
-    match keccak::keccak_table(&ops) {
-        Ok(_) => "written".into(),
-        Err(refusal) => line(Err(refusal)),
+        Verdict::Holds { .. } | Verdict::Repeated { .. } => None,
     }
 }
 
@@ -189,7 +198,7 @@ fn honest() -> Result<(Vec<u64>, Tables), Refusal> {
     let round = keccak_rnd::keccak_rnd_table(&ops)?;
     for (call, operation) in ops.chunks_exact_mut(OP_WORDS).enumerate() {
         let last = call * keccak_rnd::ROUNDS + keccak_rnd::ROUNDS - 1;
-        operation[27..].copy_from_slice(&state_after(&round[last * keccak_rnd::NUM_COLUMNS..])?);
+        operation[OP_WORDS - 25..].copy_from_slice(&state_after(&round[last * keccak_rnd::NUM_COLUMNS..])?);
     }
     let core = keccak::keccak_table(&ops)?;
     Ok((ops, Tables { core, round }))

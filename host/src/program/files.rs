@@ -16,7 +16,10 @@ pub fn read_words(path: &Path) -> Result<Vec<u64>, Failure> {
 
 fn words_of(path: &Path) -> io::Result<Vec<u64>> {
     let mut file = File::open(path)?;
-    let mut words = Vec::with_capacity(file.metadata()?.len() as usize / 8);
+    let mut words = Vec::new();
+    words
+        .try_reserve(file.metadata()?.len() as usize / 8)
+        .map_err(io::Error::other)?;
     let mut buffer = [0; PIECE_BYTES];
     let mut bytes: u64 = 0;
     loop {
