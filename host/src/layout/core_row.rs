@@ -5,12 +5,12 @@ use super::{AND, Operand, Sum, Tuple, Value, byte_alu, cells, constant, lane, re
 use crate::keccak::NUM_COLUMNS;
 use crate::tuple::Bus;
 
-const TIMESTAMP: usize = 0;
-const ADDRESS: usize = 2;
-const INPUT: usize = ADDRESS + 8;
-const OUTPUT: usize = INPUT + 200;
-const POINTER: usize = OUTPUT + 200;
-const MU: usize = NUM_COLUMNS - 1;
+pub(super) const TIMESTAMP: usize = 0;
+pub(super) const ADDRESS: usize = 2;
+pub(super) const INPUT: usize = ADDRESS + 8;
+pub(super) const OUTPUT: usize = INPUT + 200;
+pub(super) const POINTER: usize = OUTPUT + 200;
+pub(super) const MU: usize = NUM_COLUMNS - 1;
 
 const LANES: &[(Axis, usize)] = &[(Axis::Y, 5), (Axis::X, 5), (Axis::Byte, 8)];
 

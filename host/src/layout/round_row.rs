@@ -5,21 +5,21 @@ use super::{AND, Operand, Sum, Tuple, Value, XOR, always_bytes, byte_alu, cells,
 use crate::keccak_rnd::NUM_COLUMNS;
 use crate::tuple::Bus;
 
-const TIMESTAMP: usize = 0;
-const ROUND: usize = 2;
-const START: usize = 3;
-const CXZ: usize = START + 200;
-const CXZ_LEFT: usize = CXZ + 160;
-const CXZ_RIGHT: usize = CXZ_LEFT + 40;
-const DXZ: usize = CXZ_RIGHT + 20;
-const THETA: usize = DXZ + 40;
-const ROT_LEFT: usize = THETA + 200;
-const ROT_RIGHT: usize = ROT_LEFT + 200;
-const CHI_ANDS: usize = ROT_RIGHT + 200;
-const CHI: usize = CHI_ANDS + 200;
-const RC: usize = CHI + 200;
-const IOTA: usize = RC + 8;
-const MU: usize = NUM_COLUMNS - 1;
+pub(super) const TIMESTAMP: usize = 0;
+pub(super) const ROUND: usize = 2;
+pub(super) const START: usize = 3;
+pub(super) const CXZ: usize = START + 200;
+pub(super) const CXZ_LEFT: usize = CXZ + 160;
+pub(super) const CXZ_RIGHT: usize = CXZ_LEFT + 40;
+pub(super) const DXZ: usize = CXZ_RIGHT + 20;
+pub(super) const THETA: usize = DXZ + 40;
+pub(super) const ROT_LEFT: usize = THETA + 200;
+pub(super) const ROT_RIGHT: usize = ROT_LEFT + 200;
+pub(super) const CHI_ANDS: usize = ROT_RIGHT + 200;
+pub(super) const CHI: usize = CHI_ANDS + 200;
+pub(super) const RC: usize = CHI + 200;
+pub(super) const IOTA: usize = RC + 8;
+pub(super) const MU: usize = NUM_COLUMNS - 1;
 
 /// A state: its columns are counted by lane x + 5y.
 const LANES: &[(Axis, usize)] = &[(Axis::Y, 5), (Axis::X, 5), (Axis::Byte, 8)];
@@ -230,7 +230,7 @@ fn round_constant() -> Tuple {
     sends(Bus::KeccakRc, cells([ROUND].into_iter().chain(RC..RC + 8)))
 }
 
-const fn cxz(x: usize, stage: usize, byte: usize) -> usize {
+pub(super) const fn cxz(x: usize, stage: usize, byte: usize) -> usize {
     CXZ + (4 * x + stage) * 8 + byte
 }
 

@@ -148,6 +148,44 @@ fn groups_of_columns_fill_the_rows() {
 }
 
 #[test]
+fn names_go_with_the_columns_of_values_and_tuples() {
+    use super::{core_row, round_row};
+    let first = |table, name: &str| named(table, name).unwrap_or_else(|| panic!("{name}"));
+    let core = [("INPUT", core_row::INPUT), ("OUTPUT", core_row::OUTPUT)];
+    let round = [
+        ("START", round_row::START),
+        ("THETA", round_row::THETA),
+        ("ROT_LEFT", round_row::ROT_LEFT),
+        ("ROT_RIGHT", round_row::ROT_RIGHT),
+        ("CHI_ANDS", round_row::CHI_ANDS),
+        ("CHI", round_row::CHI),
+    ];
+    let groups = core.map(|group| (Table::Core, group)).into_iter();
+    for (table, (name, start)) in groups.chain(round.map(|group| (Table::Round, group))) {
+        for (x, y, byte) in (0..200).map(|at| (at / 40, at / 8 % 5, at % 8)) {
+            assert_eq!(
+                first(table, &format!("{name}[{x}][{y}][{byte}]")),
+                lane(start, x, y, byte)
+            );
+        }
+    }
+    for (x, stage, byte) in (0..160).map(|at| (at / 32, at / 8 % 4, at % 8)) {
+        let name = format!("CXZ[{x}][{stage}][{byte}]");
+        assert_eq!(first(Table::Round, &name), round_row::cxz(x, stage, byte));
+    }
+    assert_eq!(first(Table::Core, "ADDRESS[3]"), core_row::ADDRESS + 3);
+    assert_eq!(first(Table::Core, "POINTER[24][2]"), core_row::POINTER + 74);
+    assert_eq!(first(Table::Core, "MU"), core_row::MU);
+    assert_eq!(first(Table::Round, "ROUND"), round_row::ROUND);
+    assert_eq!(first(Table::Round, "CXZ_LEFT[4][7]"), round_row::CXZ_LEFT + 39);
+    assert_eq!(first(Table::Round, "CXZ_RIGHT[4][3]"), round_row::CXZ_RIGHT + 19);
+    assert_eq!(first(Table::Round, "DXZ[1][2]"), round_row::DXZ + 10);
+    assert_eq!(first(Table::Round, "RC[7]"), round_row::RC + 7);
+    assert_eq!(first(Table::Round, "IOTA[7]"), round_row::IOTA + 7);
+    assert_eq!(first(Table::Round, "MU"), round_row::MU);
+}
+
+#[test]
 fn written_rows_have_the_named_columns() {
     let input: [u64; 25] =
         std::array::from_fn(|lane| u64::from_le_bytes([8 * lane as u8 + 1; 8]) + 0x0706_0504_0302_0100);

@@ -18,7 +18,7 @@ const ZERO_LANE: u64 = 0xF125_8F79_40E1_DDE7;
 
 /// The honest tables, and the changes that a trial makes to them.
 #[derive(Clone)]
-struct Tables {
+pub(super) struct Tables {
     core: Vec<u64>,
     round: Vec<u64>,
 }
@@ -193,7 +193,7 @@ fn named(answer: Result<Verdict, Refusal>) -> Option<Place> {
 }
 
 /// The operations and their tables.
-fn honest() -> Result<(Vec<u64>, Tables), Refusal> {
+pub(super) fn honest() -> Result<(Vec<u64>, Tables), Refusal> {
     let mut ops: Vec<u64> = (0..CALLS as u64).flat_map(|call| drawn(call).words()).collect();
     let round = keccak_rnd::keccak_rnd_table(&ops)?;
     for (call, operation) in ops.chunks_exact_mut(OP_WORDS).enumerate() {

@@ -128,6 +128,8 @@ fn status(outcome: Result<Outcome, Failure>, hint: &str, streams: &mut Streams) 
         Ok(Outcome::DoesNotHold) => return 1,
         Err(Failure::Usage(message)) => format!("{message}\n{hint}\n"),
         Err(Failure::File(path, error)) => format!("{}: {error}\n", path.display()),
+        // Whoever reads the output has seen enough.
+        Err(Failure::Stream(error)) if error.kind() == io::ErrorKind::BrokenPipe => return 2,
         Err(Failure::Stream(error)) => format!("standard input or output: {error}\n"),
     };
     let _ = streams.errors.write_all(message.as_bytes());

@@ -112,6 +112,19 @@ fn written_tables_are_those_of_the_calls() {
 }
 
 #[test]
+fn written_honest_tables_hold() {
+    let folder = Folder::new("honest");
+    let (ops, _) = super::demo::honest().unwrap();
+    let file = folder.put("ops", &records(&ops));
+    let (core, round) = (folder.path("core"), folder.path("round"));
+    assert_eq!(ran(run, &["write", &file, &core, &round], &[]).0, 0);
+    assert_eq!(
+        ran(run, &["judge", &core, &round], &[]),
+        (0, "holds 3\n".into(), String::new())
+    );
+}
+
+#[test]
 fn refused_files_leave_the_tables_alone() {
     let folder = Folder::new("refused");
     let mut file = records(&operations(2));
