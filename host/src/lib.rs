@@ -29,7 +29,9 @@ pub mod is_wh;
 pub mod keccak;
 pub mod keccak_rc;
 pub mod keccak_rnd;
+pub mod layout;
 pub mod operation_file;
+pub mod program;
 pub mod verdict;
 
 #[allow(unsafe_code)]

@@ -1,0 +1,81 @@
+//! Files of words: 8 bytes each, lowest first.
+
+use std::fs::File;
+use std::io::{self, BufWriter, Read, Write};
+use std::path::Path;
+
+use super::Failure;
+
+/// How many bytes are read at once.
+pub const PIECE_BYTES: usize = 1 << 16;
+
+/// The words of a file.
+pub fn read_words(path: &Path) -> Result<Vec<u64>, Failure> {
+    words_of(path).map_err(Failure::file(path))
+}
+
+fn words_of(path: &Path) -> io::Result<Vec<u64>> {
+    let mut file = File::open(path)?;
+    let mut words = Vec::new();
+    words
+        .try_reserve(file.metadata()?.len() as usize / 8)
+        .map_err(io::Error::other)?;
+    let mut buffer = [0; PIECE_BYTES];
+    let mut bytes: u64 = 0;
+    loop {
+        let got = fill(&mut file, &mut buffer)?;
+        bytes += got as u64;
+        let (whole, rest) = buffer[..got].as_chunks::<8>();
+        words.extend(whole.iter().map(|&word| u64::from_le_bytes(word)));
+        if !rest.is_empty() {
+            return Err(io::Error::other(format!("{bytes} bytes are no whole words")));
+        }
+        if got < PIECE_BYTES {
+            return Ok(words);
+        }
+    }
+}
+
+/// Reads until the buffer is full or the input at its end, and says how much came.
+pub fn fill(input: &mut dyn Read, buffer: &mut [u8]) -> io::Result<usize> {
+    let mut filled = 0;
+    while filled < buffer.len() {
+        match input.read(&mut buffer[filled..]) {
+            Ok(0) => break,
+            Ok(got) => filled += got,
+            Err(error) if error.kind() == io::ErrorKind::Interrupted => {}
+            Err(error) => return Err(error),
+        }
+    }
+    Ok(filled)
+}
+
+/// A file of words that is being written.
+pub struct WordFile<'a> {
+    path: &'a Path,
+    file: BufWriter<File>,
+}
+
+impl<'a> WordFile<'a> {
+    pub fn create(path: &'a Path) -> Result<Self, Failure> {
+        let file = File::create(path).map_err(Failure::file(path))?;
+        Ok(Self {
+            path,
+            file: BufWriter::with_capacity(PIECE_BYTES, file),
+        })
+    }
+
+    pub fn put(&mut self, words: &[u64]) -> Result<(), Failure> {
+        let mut put = || {
+            words
+                .iter()
+                .try_for_each(|word| self.file.write_all(&word.to_le_bytes()))
+        };
+        put().map_err(Failure::file(self.path))
+    }
+
+    /// Writes what is still held back.
+    pub fn close(mut self) -> Result<(), Failure> {
+        self.file.flush().map_err(Failure::file(self.path))
+    }
+}

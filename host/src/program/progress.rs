@@ -1,0 +1,51 @@
+//! A line on standard error that says how far long work has come. Only a terminal sees it.
+
+use std::io::{IsTerminal, Write};
+use std::time::{Duration, Instant};
+
+/// How often the line changes.
+const PAUSE: Duration = Duration::from_millis(200);
+
+/// Shows a line in the place of the last one.
+pub fn say(line: &str) {
+    let mut errors = std::io::stderr();
+    if errors.is_terminal() {
+        // A line that is lost is no loss.
+        let _ = write!(errors, "\r\x1b[K{line}").and_then(|()| errors.flush());
+    }
+}
+
+/// Removes the line.
+pub fn clear() {
+    say("");
+}
+
+/// Progress towards a number that is known.
+pub struct Progress {
+    what: &'static str,
+    total: u64,
+    shown: Instant,
+}
+
+impl Progress {
+    pub fn new(what: &'static str, total: u64) -> Self {
+        Self {
+            what,
+            total,
+            shown: Instant::now(),
+        }
+    }
+
+    pub fn at(&mut self, done: u64) {
+        if self.shown.elapsed() >= PAUSE {
+            self.shown = Instant::now();
+            say(&format!("{done} of {} {}", self.total, self.what));
+        }
+    }
+}
+
+impl Drop for Progress {
+    fn drop(&mut self) {
+        clear();
+    }
+}

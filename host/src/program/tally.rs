@@ -1,0 +1,61 @@
+//! `tally [OPS]`: ten lines on an operation file, or its first fault.
+
+use std::ffi::OsString;
+use std::fs::File;
+use std::io::{self, Read};
+use std::path::Path;
+
+use super::{Failure, Outcome, Streams, files, refused};
+use crate::operation_file::{Sums, Tally};
+use crate::refusal::Refusal;
+
+pub fn tally(arguments: &[OsString], streams: &mut Streams) -> Result<Outcome, Failure> {
+    let answer = match arguments {
+        [] => sums_of(streams.input)?,
+        [path] => sums_of_file(Path::new(path))?,
+        _ => return Err(Failure::Usage("tally takes one file or none: [OPS]".into())),
+    };
+    match answer {
+        Ok(sums) => {
+            lines(&sums)
+                .iter()
+                .try_for_each(|(name, number)| writeln!(streams.output, "{name} {number}"))?;
+            Ok(Outcome::Fine)
+        }
+        Err(refusal) => refused(refusal, streams),
+    }
+}
+
+/// The sums of a file that is read to its end or its first fault.
+pub fn sums_of_file(path: &Path) -> Result<Result<Sums, Refusal>, Failure> {
+    File::open(path)
+        .and_then(|mut file| sums_of(&mut file))
+        .map_err(Failure::file(path))
+}
+
+fn sums_of(input: &mut dyn Read) -> io::Result<Result<Sums, Refusal>> {
+    let mut reader = Tally::new();
+    let mut buffer = [0; files::PIECE_BYTES];
+    while reader.fault().is_none() {
+        match files::fill(input, &mut buffer)? {
+            0 => break,
+            got => reader.feed(&buffer[..got]),
+        }
+    }
+    Ok(reader.finish())
+}
+
+fn lines(sums: &Sums) -> [(&'static str, u64); 10] {
+    [
+        ("ops", sums.ops),
+        ("core-rows", sums.core_rows),
+        ("round-rows", sums.round_rows),
+        ("ByteAlu", sums.byte_alu),
+        ("AreBytes", sums.are_bytes),
+        ("KeccakRc", sums.keccak_rc),
+        ("IsHalfword", sums.is_halfword),
+        ("IsWh", sums.is_wh),
+        ("Memw", sums.memw),
+        ("Ecall", sums.ecall),
+    ]
+}

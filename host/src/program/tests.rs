@@ -1,0 +1,255 @@
+//! What the commands print, write and answer.
+
+use std::ffi::OsString;
+use std::fs;
+use std::path::PathBuf;
+
+use super::{Streams, run, run_judge};
+use crate::operation_file::{RECORD_BYTES, write_operations};
+use crate::{OP_WORDS, Operation, P, keccak, keccak_rnd};
+
+type Run = fn(&[OsString], &mut Streams) -> u8;
+
+/// Exit status, standard output and standard error of a run.
+fn ran(run: Run, arguments: &[&str], input: &[u8]) -> (u8, String, String) {
+    let arguments: Vec<OsString> = arguments.iter().map(OsString::from).collect();
+    let (mut input, mut output, mut errors) = (input, Vec::new(), Vec::new());
+    let mut streams = Streams {
+        input: &mut input,
+        output: &mut output,
+        errors: &mut errors,
+    };
+    let status = run(&arguments, &mut streams);
+    (
+        status,
+        String::from_utf8(output).unwrap(),
+        String::from_utf8(errors).unwrap(),
+    )
+}
+
+/// A folder for one test.
+struct Folder(PathBuf);
+
+impl Folder {
+    fn new(name: &str) -> Self {
+        let path = std::env::temp_dir().join(format!("keccak-tables-{name}-{}", std::process::id()));
+        fs::create_dir_all(&path).unwrap();
+        Self(path)
+    }
+
+    fn path(&self, name: &str) -> String {
+        self.0.join(name).to_str().unwrap().to_string()
+    }
+
+    fn put(&self, name: &str, bytes: &[u8]) -> String {
+        fs::write(self.0.join(name), bytes).unwrap();
+        self.path(name)
+    }
+}
+
+impl Drop for Folder {
+    fn drop(&mut self) {
+        let _ = fs::remove_dir_all(&self.0);
+    }
+}
+
+/// Operations with zero OUTPUT.
+fn operations(count: u64) -> Vec<u64> {
+    let operation = |at: u64| Operation {
+        timestamp: at << 20 | 3,
+        address: 4096 + 8 * at,
+        input: std::array::from_fn(|lane| at.wrapping_mul(0x9E37_79B9_7F4A_7C15) ^ lane as u64),
+        output: [0; 25],
+    };
+    (0..count).flat_map(|at| operation(at).words()).collect()
+}
+
+fn records(ops: &[u64]) -> Vec<u8> {
+    let mut file = vec![0; ops.len() / OP_WORDS * RECORD_BYTES];
+    write_operations(ops, &mut file).unwrap();
+    file
+}
+
+fn bytes(words: &[u64]) -> Vec<u8> {
+    words.iter().flat_map(|word| word.to_le_bytes()).collect()
+}
+
+#[test]
+fn demo_ends_well() {
+    let (status, output, errors) = ran(run, &["demo"], &[]);
+    assert_eq!((status, errors.as_str()), (0, ""), "{output}");
+    assert!(output.ends_with("\nAll as expected.\n"));
+    for line in [
+        "holds 3",
+        "round row 30 value 86",
+        "round row 50 lookup 654",
+        "core row 1 balance 3",
+    ] {
+        assert!(output.contains(&format!("\n    {line}")), "{line}");
+    }
+}
+
+#[test]
+fn written_tables_are_those_of_the_calls() {
+    // None, fewer than fill the least table, and more than are read at once.
+    for count in [0, 1, 5, 64, 65, 130] {
+        let folder = Folder::new(&format!("written-{count}"));
+        let ops = operations(count);
+        let file = folder.put("ops", &records(&ops));
+        let (core, round) = (folder.path("core"), folder.path("round"));
+        let (status, output, errors) = ran(run, &["write", &file, &core, &round], &[]);
+        assert_eq!((status, errors.as_str()), (0, ""));
+        assert!(output.starts_with(&format!("ops {count}\ncore-rows ")));
+        assert!(
+            fs::read(core).unwrap() == bytes(&keccak::keccak_table(&ops).unwrap()),
+            "core, {count}"
+        );
+        assert!(
+            fs::read(round).unwrap() == bytes(&keccak_rnd::keccak_rnd_table(&ops).unwrap()),
+            "round, {count}"
+        );
+    }
+}
+
+#[test]
+fn written_honest_tables_hold() {
+    let folder = Folder::new("honest");
+    let (ops, _) = super::demo::honest().unwrap();
+    let file = folder.put("ops", &records(&ops));
+    let (core, round) = (folder.path("core"), folder.path("round"));
+    assert_eq!(ran(run, &["write", &file, &core, &round], &[]).0, 0);
+    assert_eq!(
+        ran(run, &["judge", &core, &round], &[]),
+        (0, "holds 3\n".into(), String::new())
+    );
+}
+
+#[test]
+fn refused_files_leave_the_tables_alone() {
+    let folder = Folder::new("refused");
+    let mut file = records(&operations(2));
+    file[RECORD_BYTES + 10..RECORD_BYTES + 18].copy_from_slice(&u64::MAX.to_le_bytes());
+    let high = folder.put("high", &file);
+    let cut = folder.put("cut", &records(&operations(2))[..RECORD_BYTES + 5]);
+    let (core, round) = (folder.put("core", b"before"), folder.path("round"));
+    for (path, line) in [(&high, "refused 4 18446744073709551615\n"), (&cut, "refused 6 418\n")] {
+        let (status, output, errors) = ran(run, &["write", path, &core, &round], &[]);
+        assert_eq!((status, output.as_str()), (1, line));
+        assert!(!errors.is_empty());
+        assert_eq!(ran(run, &["tally", path], &[]).1, line);
+    }
+    assert_eq!(fs::read(&core).unwrap(), b"before");
+    assert!(!fs::exists(&round).unwrap());
+}
+
+#[test]
+fn judged_files() {
+    let folder = Folder::new("judged");
+    let row = &keccak::keccak_table(&[]).unwrap()[..keccak::NUM_COLUMNS];
+    let honest = folder.put("core", &bytes(row));
+    let none = folder.put("none", &[]);
+    let active = folder.put("active", &bytes(&keccak::keccak_table(&operations(1)).unwrap()));
+    let cut = folder.put("cut", &bytes(&row[1..]));
+    let large = folder.put("large", &bytes(&[vec![0; 485], vec![P]].concat()));
+    let odd = folder.put("odd", &[0; 9]);
+    let missing = folder.path("missing");
+    let cases = [
+        (&honest, &none, 0, "holds 0\n"),
+        (&none, &none, 0, "holds 0\n"),
+        (&active, &none, 1, "core row 0 balance 2\n"),
+        (&cut, &none, 1, "refused 2 0\n"),
+        (&none, &cut, 1, "refused 2 1\n"),
+        (&large, &none, 1, "refused 5 485\n"),
+        (&odd, &none, 2, ""),
+        (&honest, &missing, 2, ""),
+    ];
+    for (core, round, status, line) in cases {
+        let answer = ran(run, &["judge", core, round], &[]);
+        assert_eq!((answer.0, answer.1.as_str()), (status, line));
+        assert_eq!(ran(run_judge, &[core, round], &[]), answer);
+        assert_eq!(answer.2.is_empty(), !line.starts_with("refused") && status < 2);
+    }
+}
+
+#[test]
+fn tallied_files() {
+    let lines = "ops 1\ncore-rows 4\nround-rows 32\nByteAlu 19393\nAreBytes 7044\nKeccakRc 24\nIsHalfword 25\nIsWh 25\n\
+                 Memw 26\nEcall 1\n";
+    let record = records(&operations(1));
+    assert_eq!(ran(run, &["tally"], &record), (0, lines.into(), String::new()));
+    let folder = Folder::new("tallied");
+    let path = folder.put("ops", &record);
+    assert_eq!(ran(run, &["tally", &path], &[]).1, lines);
+    let empty = ran(run, &["tally"], &[]).1;
+    assert!(empty.starts_with("ops 0\ncore-rows 4\nround-rows 4\nByteAlu 0\n"));
+    let (status, output, _) = ran(run, &["tally"], &[0x4B, 0x4E]);
+    assert_eq!((status, output.as_str()), (1, "refused 6 0\n"));
+}
+
+#[test]
+fn every_index_is_explained() {
+    let counts = [
+        ("core", "column", keccak::NUM_COLUMNS),
+        ("core", "value", keccak::NUM_VALUES),
+        ("core", "tuple", keccak::NUM_TUPLES),
+        ("round", "column", keccak_rnd::NUM_COLUMNS),
+        ("round", "value", keccak_rnd::NUM_VALUES),
+        ("round", "tuple", keccak_rnd::NUM_TUPLES),
+    ];
+    for (table, kind, count) in counts {
+        for index in 0..count {
+            let (status, output, _) = ran(run, &["explain", table, kind, &index.to_string()], &[]);
+            assert_eq!(status, 0);
+            assert!(output.starts_with(&format!("{table} {kind} {index}: ")));
+        }
+        let (status, output, errors) = ran(run, &["explain", table, kind, &count.to_string()], &[]);
+        assert_eq!((status, output.as_str()), (2, ""));
+        assert!(errors.starts_with(&format!(
+            "a {table} row has {kind}s 0 to {}, and no {count}\n",
+            count - 1
+        )));
+    }
+}
+
+#[test]
+fn explanations_say_operands() {
+    let text = |arguments: [&str; 3]| ran(run, &[&["explain"], &arguments[..]].concat(), &[]).1;
+    let column = "round column 254: CXZ[1][2][3] (x 1, stage 2, byte 3)\n";
+    assert!(text(["round", "column", "254"]).starts_with(column));
+    assert!(text(["round", "column", "CXZ[1][2][3]"]).starts_with(column));
+    assert!(text(["core", "column", "485"]).starts_with("core column 485: MU\n"));
+    let chi = text(["round", "tuple", "654"]);
+    assert!(chi.starts_with("round tuple 654: AND of chi, x 0, y 3, byte 7\n"));
+    assert!(chi.contains("sent on ByteAlu, MU times; its values (4):\n           0  0 (AND)\n"));
+    assert!(chi.contains("255 - ROT_LEFT[0][1][3] - ROT_RIGHT[0][1][1]\n"));
+    assert!(chi.ends_with("           3  CHI_ANDS[0][3][7], column 1190\n"));
+    let register = text(["core", "tuple", "1"]);
+    assert!(register.contains("      2 to 7  0\n"));
+    assert!(register.contains("    19 to 20  TIMESTAMP[0] to TIMESTAMP[1], columns 0 to 1\n"));
+    assert!(text(["core", "value", "51"]).ends_with("must be 0 mod p: MU * (1 - MU)\n"));
+}
+
+#[test]
+fn wrong_usage_has_status_2() {
+    let cases: [&[&str]; 9] = [
+        &[],
+        &["undo"],
+        &["demo", "1"],
+        &["write", "ops", "core"],
+        &["write", "a", "b", "b"],
+        &["judge", "core"],
+        &["tally", "a", "b"],
+        &["explain", "core", "row", "1"],
+        &["explain", "middle", "column", "1"],
+    ];
+    for arguments in cases {
+        let (status, output, errors) = ran(run, arguments, &[]);
+        assert_eq!((status, output.as_str()), (2, ""), "{arguments:?}");
+        assert!(errors.ends_with("`keccak-tables help` tells the commands\n"));
+    }
+    let (status, help, _) = ran(run, &["help"], &[]);
+    assert_eq!(status, 0);
+    for name in ["demo", "write", "judge", "tally", "explain"] {
+        assert!(help.contains(&format!("keccak-tables {name}")));
+    }
+}
