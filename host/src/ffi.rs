@@ -63,7 +63,7 @@ pub struct FlatKey {
 /// Declares functions of the archive, and for each a safe one on slices: `name = symbol(arguments) -> answer`.
 ///
 /// A `read` argument is a `&[u64]`, a `write` argument a `&mut [u64]`, a `number` argument is passed as it is. Their order is
-/// that of the function in `crates/keccak_tables/src`; nothing but the differential runs checks it.
+/// that of the function in `crates/keccak_tables/src`, which `tests/header.rs` checks.
 macro_rules! bind {
     ($($name:ident = $symbol:ident ( $($kind:ident $argument:ident $(: $type:ty)?),* ) -> $answer:ty;)*) => {
         $(

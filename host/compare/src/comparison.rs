@@ -1,5 +1,6 @@
 //! A run: counts the words compared, tells each difference, and says per group what was compared.
 
+use std::collections::{BTreeMap, BTreeSet};
 use std::process::ExitCode;
 
 use keccak_tables::Refusal;
@@ -13,6 +14,7 @@ pub struct Comparison {
     group: Option<Group>,
     words: u64,
     differences: u64,
+    tried: BTreeMap<&'static str, BTreeSet<u64>>,
 }
 
 struct Group {
@@ -72,6 +74,24 @@ impl Comparison {
     pub fn refused<T>(&mut self, input: impl FnOnce() -> String, answer: Result<T, Refusal>, number: u64, detail: u64) {
         let (ours, our_detail) = numbers(&answer);
         self.equal(|_| input(), &[ours, our_detail], &[number, detail]);
+    }
+
+    /// A call is to be refused with the number and detail of `expected`, or else to do its work. The number is noted.
+    pub fn answered<T>(
+        &mut self,
+        call: &'static str,
+        input: impl FnOnce() -> String,
+        answer: Result<T, Refusal>,
+        expected: Option<(u64, u64)>,
+    ) {
+        let (number, detail) = expected.unwrap_or((0, 0));
+        self.tried.entry(call).or_default().insert(number);
+        self.refused(input, answer, number, detail);
+    }
+
+    /// The numbers with which a call was to be refused so far, 0 where it was to do its work.
+    pub fn numbers_tried(&self, call: &str) -> Vec<u64> {
+        self.tried.get(call).into_iter().flatten().copied().collect()
     }
 
     /// How many comparisons found a difference.

@@ -24,6 +24,10 @@ pub struct Table {
     pub written: fn(&[u64]) -> Result<Vec<u64>, Refusal>,
     /// How many drawn operations are written.
     pub operations: usize,
+    /// The archive's name of the call for values.
+    pub values_name: &'static str,
+    /// The archive's name of the call for a tuple.
+    pub tuple_name: &'static str,
     /// The values of a row.
     pub values: fn(&[u64], &mut [u64]) -> Result<(), Refusal>,
     /// The same by the Rust.
@@ -42,6 +46,8 @@ pub const CORE: Table = Table {
     num_tuples: keccak::NUM_TUPLES,
     written: keccak::keccak_table,
     operations: 50,
+    values_name: "keccak_values",
+    tuple_name: "keccak_bus_interaction",
     values: keccak::core_values,
     rust_values: oracle::core_values,
     tuple: keccak::bus_interaction,
@@ -56,6 +62,8 @@ pub const ROUND: Table = Table {
     num_tuples: keccak_rnd::NUM_TUPLES,
     written: keccak_rnd::keccak_rnd_table,
     operations: 3,
+    values_name: "keccak_rnd_values",
+    tuple_name: "keccak_rnd_bus_interaction",
     values: keccak_rnd::round_values,
     rust_values: oracle::round_values,
     tuple: |row, index, _, out| keccak_rnd::bus_interaction(row, index, out),

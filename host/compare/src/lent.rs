@@ -1,4 +1,4 @@
-//! A slice lent to a call, with guard words before and after it.
+//! A slice lent to a call, with guards before and after it.
 
 use crate::comparison::Comparison;
 use crate::inputs::Words;
@@ -53,9 +53,60 @@ impl Lent {
         );
     }
 
+    /// Every guard is to be as it was, whatever the slice holds.
+    pub fn guards_kept(&self, comparison: &mut Comparison, input: impl Fn() -> String) {
+        let end = self.words.len() - GUARDS;
+        for guards in [0..GUARDS, end..end + GUARDS] {
+            let (now, before) = (&self.words[guards.clone()], &self.before[guards]);
+            comparison.equal(|_| format!("a guard, {}", input()), now, before);
+        }
+    }
+
     /// Every word is to be as it was.
     pub fn kept(&self, comparison: &mut Comparison, input: impl FnOnce(usize) -> String) {
         self.holds(comparison, input, &[]);
+    }
+}
+
+/// The same of bytes.
+pub struct LentBytes {
+    before: Vec<u8>,
+    bytes: Vec<u8>,
+}
+
+impl LentBytes {
+    /// `length` bytes to lend, all drawn.
+    pub fn drawn(length: usize, words: &mut Words) -> Self {
+        let lent: Vec<u8> = (0..length).map(|_| words.word() as u8).collect();
+        Self::new(&lent, words)
+    }
+
+    /// These bytes to lend.
+    pub fn new(lent: &[u8], words: &mut Words) -> Self {
+        let mut guards = || (0..GUARDS).map(|_| words.word() as u8).collect::<Vec<_>>();
+        let bytes = [guards(), lent.to_vec(), guards()].concat();
+        Self {
+            before: bytes.clone(),
+            bytes,
+        }
+    }
+
+    /// The slice that is lent.
+    pub fn slice(&mut self) -> &mut [u8] {
+        let end = self.bytes.len() - GUARDS;
+        &mut self.bytes[GUARDS..end]
+    }
+
+    /// The first bytes are to be these, and every byte past them and every guard as it was.
+    pub fn holds(&self, comparison: &mut Comparison, input: impl FnOnce() -> String, expected: &[u8]) {
+        let mut all = self.before.clone();
+        all[GUARDS..GUARDS + expected.len()].copy_from_slice(expected);
+        let [now, all] = [&self.bytes, &all].map(|bytes| bytes.iter().map(|&byte| byte.into()).collect::<Vec<u64>>());
+        comparison.equal(
+            |place| format!("byte {place} from the guards on, {}", input()),
+            &now,
+            &all,
+        );
     }
 }
 

@@ -1,8 +1,9 @@
 //! The proved tables held against the published Rust: what is compared, and how a comparison is counted and told.
 //!
 //! `rows` compares rows, tables, keys, counters and refusals, `values` the constraint values of core and round rows and
-//! `tuples` their tuples. `verdicts` holds the verdict against `judge`, a judge of its own, on the tables of `dishonest`. A
-//! further area is a module beside them and a name in `bin/differential.rs`.
+//! `tuples` their tuples. `verdicts` holds the verdict against `judge`, a judge of its own, on the tables of `dishonest`. `tally`
+//! reads operation files, `limit` the longest ones, and `refusals` has the table of what each call refuses. A further area is a
+//! module beside them and a name in `bin/differential.rs`.
 
 #![warn(missing_docs)]
 
@@ -12,6 +13,8 @@ pub mod evaluated;
 pub mod inputs;
 pub mod judge;
 pub mod lent;
+pub mod limit;
+pub mod refusals;
 pub mod refused;
 pub mod rows;
 pub mod tally;

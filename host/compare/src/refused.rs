@@ -8,11 +8,12 @@ use crate::inputs::Words;
 use crate::lent::Lent;
 use crate::tuple_list::TupleCall;
 
-/// One call on a drawn slice of `length` words. `expected` is the refusal's number and detail, or none where the call is
-/// accepted; refused, it leaves every word as it was.
+/// One call, by the archive's name for it, on a drawn slice of `length` words. `expected` is the refusal's number and detail,
+/// or none where the call is accepted; refused, it leaves every word as it was, and accepted, every guard.
 pub fn on_slice<T>(
     comparison: &mut Comparison,
     words: &mut Words,
+    name: &'static str,
     length: usize,
     input: impl Fn() -> String,
     expected: Option<(u64, u64)>,
@@ -21,14 +22,11 @@ pub fn on_slice<T>(
     let mut lent = Lent::drawn(length, words);
     let answer = call(lent.slice());
     let input = || format!("{}, a slice of {length} words", input());
-    match expected {
-        None => {
-            comparison.done(input, answer);
-        }
-        Some((number, detail)) => {
-            comparison.refused(input, answer, number, detail);
-            lent.kept(comparison, |_| input());
-        }
+    comparison.answered(name, input, answer, expected);
+    if expected.is_some() {
+        lent.kept(comparison, |_| input());
+    } else {
+        lent.guards_kept(comparison, input);
     }
 }
 
@@ -37,6 +35,8 @@ type OnRow<'a> = dyn Fn(&[u64], &mut [u64]) -> Result<(), Refusal> + 'a;
 
 /// A call that reads a row and writes to a slice.
 pub struct RowCall<'a> {
+    /// The archive's name for it.
+    pub call_name: &'static str,
     /// What it is.
     pub name: String,
     /// The columns that it reads.
@@ -64,7 +64,7 @@ impl RowCall<'_> {
         let mut row = Lent::new(row, words);
         let input = row.slice().to_vec();
         let input = || format!("{}: {input:?}", self.name);
-        on_slice(comparison, words, room, input, expected, |out| {
+        on_slice(comparison, words, self.call_name, room, input, expected, |out| {
             (self.call)(row.slice(), out)
         });
         row.kept(comparison, |_| input());
@@ -123,7 +123,7 @@ pub fn row_calls(comparison: &mut Comparison, words: &mut Words, call: &RowCall)
 pub fn tuple_calls(
     comparison: &mut Comparison,
     words: &mut Words,
-    name: &str,
+    (call_name, name): (&'static str, &str),
     columns: usize,
     lengths: &[usize],
     call: &impl TupleCall,
@@ -131,6 +131,7 @@ pub fn tuple_calls(
     let count = lengths.len();
     let with_index = |index: usize, check: &mut dyn FnMut(&RowCall)| {
         check(&RowCall {
+            call_name,
             name: format!("tuple {index} of a {name} row"),
             columns,
             needed: lengths.get(index).copied().unwrap_or(1),

@@ -34,7 +34,7 @@ pub fn compare(comparison: &mut Comparison, seed: u64, n: usize) {
 }
 
 /// The bytes of a list of operations.
-fn file_of(ops: &[u64]) -> Vec<u8> {
+pub fn file_of(ops: &[u64]) -> Vec<u8> {
     let record = |words: &[u64]| {
         [
             vec![0x4B, 0x4F],
@@ -46,7 +46,7 @@ fn file_of(ops: &[u64]) -> Vec<u8> {
 }
 
 /// What our reader says of a file that is cut at drawn places.
-fn read(words: &mut Words, file: &[u8]) -> Result<Sums, Refusal> {
+pub fn read(words: &mut Words, file: &[u8]) -> Result<Sums, Refusal> {
     let most = [1, 20, 500, 5_000][words.below(4) as usize];
     let mut tally = Tally::new();
     let mut rest = file;
@@ -153,7 +153,7 @@ fn set(file: &mut [u8], at: usize, bytes: &[u8]) {
 }
 
 /// The interface's text again: of the first faulty record 6 for a cut or another mark, else 4 for its address.
-fn first_fault(file: &[u8]) -> Option<(u64, u64)> {
+pub fn first_fault(file: &[u8]) -> Option<(u64, u64)> {
     file.chunks(RECORD_BYTES).enumerate().find_map(|(i, record)| {
         if record.len() < RECORD_BYTES || !record.starts_with(b"KO") {
             return Some((6, (i * RECORD_BYTES) as u64));

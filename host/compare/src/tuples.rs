@@ -36,12 +36,14 @@ fn all_tuples(comparison: &mut Comparison, words: &mut Words, table: &Table, wha
     tuples(comparison, words, what, row, call, &expected);
 }
 
-fn refusals(comparison: &mut Comparison, words: &mut Words, table: &Table) {
+/// The refusals of the call for a tuple of a row.
+pub fn refusals(comparison: &mut Comparison, words: &mut Words, table: &Table) {
     let lengths: Vec<usize> = (table.rust_tuples)(&vec![0; table.columns], 0)
         .iter()
         .map(|tuple| tuple.values.len())
         .collect();
     let syscall = words.word();
     let call = |row: &[u64], index: usize, out: &mut [u64]| (table.tuple)(row, index, syscall, out);
-    tuple_calls(comparison, words, table.name, table.columns, &lengths, &call);
+    let names = (table.tuple_name, table.name);
+    tuple_calls(comparison, words, names, table.columns, &lengths, &call);
 }

@@ -67,8 +67,10 @@ fn zeros(comparison: &mut Comparison, words: &mut Words, table: &Table) {
     }
 }
 
-fn refusals(comparison: &mut Comparison, words: &mut Words, table: &Table) {
+/// The refusals of the call for the values of a row.
+pub fn refusals(comparison: &mut Comparison, words: &mut Words, table: &Table) {
     let call = RowCall {
+        call_name: table.values_name,
         name: format!("the values of a {} row", table.name),
         columns: table.columns,
         needed: table.num_values,

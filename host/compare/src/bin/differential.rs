@@ -1,17 +1,35 @@
-//! The proved tables against the published Rust, area by area: rows, constraint values, tuples. The last line reads
-//! `compared W words, 0 differences`, and a difference names its input and makes the exit status 1.
+//! The proved tables against the published Rust, area by area. The last line reads `compared W words, 0 differences`, and a
+//! difference names its input and makes the exit status 1. `all` runs every area of `AREAS` in turn, with one sum at the end,
+//! and ends with the first area that has a difference.
 
 use std::process::ExitCode;
 
 use compare::comparison::Comparison;
-use compare::{rows, tally, tuples, values, verdicts};
+use compare::{limit, refusals, rows, tally, tuples, values, verdicts};
+
+/// An area: it compares with a seed and a number of drawn inputs.
+type Area = fn(&mut Comparison, u64, usize);
+
+/// The areas, in the order in which `all` runs them.
+const AREAS: [(&str, Area); 7] = [
+    ("rows", rows::compare),
+    ("values", values::compare),
+    ("tuples", tuples::compare),
+    ("tally", tally::compare),
+    ("verdict", verdicts::compare),
+    ("refusals", refusals::compare),
+    ("limit", limit::compare),
+];
 
 const USAGE: &str = "\
-usage: differential rows [SEED [N]]      (N drawn operations)
+usage: differential all [SEED [N]]       (each of these in turn)
+       differential rows [SEED [N]]      (N drawn operations)
        differential values [SEED [N]]    (N drawn rows of each kind)
        differential tuples [SEED [N]]    (N drawn rows of each kind)
        differential verdict [SEED [N]]   (N changes of words, and N of rows)
        differential tally [SEED [N]]     (N drawn files)
+       differential refusals [SEED [N]]  (N / 20 times the drawn lists)
+       differential limit [SEED]         (files of 37 GB; N has no part in it)
 Seed 1 and 300 where none is given.";
 
 fn main() -> ExitCode {
@@ -27,14 +45,20 @@ fn main() -> ExitCode {
     let seed = numbers.first().copied().unwrap_or(1);
     let n = numbers.get(1).map_or(300, |&n| n as usize);
 
+    let chosen: Vec<(&str, Area)> = AREAS
+        .into_iter()
+        .filter(|(name, _)| [name, "all"].contains(&area))
+        .collect();
+    if chosen.is_empty() {
+        return usage();
+    }
     let mut comparison = Comparison::default();
-    match area {
-        "rows" => rows::compare(&mut comparison, seed, n),
-        "values" => values::compare(&mut comparison, seed, n),
-        "tuples" => tuples::compare(&mut comparison, seed, n),
-        "verdict" => verdicts::compare(&mut comparison, seed, n),
-        "tally" => tally::compare(&mut comparison, seed, n),
-        _ => return usage(),
+    for (name, compare) in chosen {
+        compare(&mut comparison, seed, n);
+        if comparison.differences() > 0 {
+            println!("the area '{name}' has a difference");
+            break;
+        }
     }
     comparison.finish()
 }

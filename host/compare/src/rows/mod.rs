@@ -4,7 +4,7 @@
 mod bitwise;
 mod constants;
 mod keys;
-mod refusals;
+pub mod refusals;
 mod tables;
 
 use keccak_tables::Refusal;

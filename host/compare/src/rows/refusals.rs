@@ -14,6 +14,7 @@ use crate::untouched::Untouched;
 /// The detail of a list with too many operations, and of a count of them.
 const TOO_MANY: u64 = MAX_OPS as u64 + 1;
 
+/// The refusals of the calls of this area.
 pub fn compare(comparison: &mut Comparison, words: &mut Words) {
     comparison.group("refusals: bitwise rows, indexes and counters");
     bitwise_calls(comparison, words);
@@ -39,17 +40,21 @@ fn bitwise_calls(comparison: &mut Comparison, words: &mut Words) {
             };
             let input = format!("generate_bitwise_row({index})");
             let call = |row: &mut [u64]| bitwise::generate_bitwise_row(index, row);
-            on_slice(comparison, words, length, || input.clone(), expected, call);
+            on_slice(
+                comparison,
+                words,
+                "generate_bitwise_row",
+                length,
+                || input.clone(),
+                expected,
+                call,
+            );
         }
     }
     for z in [15, 16, 17, 255] {
         let input = || format!("row_index(1, 2, {z})");
-        match z {
-            15 => {
-                comparison.done(input, bitwise::row_index(1, 2, z));
-            }
-            _ => comparison.refused(input, bitwise::row_index(1, 2, z), 1, 16),
-        }
+        let expected = (z >= 16).then_some((1, 16));
+        comparison.answered("bitwise_row_index", input, bitwise::row_index(1, 2, z), expected);
     }
     for kind in [0, 9, 10, 11, usize::MAX] {
         for z in [0, 15, 16, 255] {
@@ -61,7 +66,15 @@ fn bitwise_calls(comparison: &mut Comparison, words: &mut Words) {
                 };
                 let input = format!("bump of kind {kind}, z = {z}");
                 let call = |counters: &mut [u64]| bitwise::bump(counters, kind, 3, 4, z);
-                on_slice(comparison, words, length, || input.clone(), Some(expected), call);
+                on_slice(
+                    comparison,
+                    words,
+                    "bitwise_bump",
+                    length,
+                    || input.clone(),
+                    Some(expected),
+                    call,
+                );
             }
         }
     }
@@ -70,6 +83,7 @@ fn bitwise_calls(comparison: &mut Comparison, words: &mut Words) {
     on_slice(
         comparison,
         words,
+        "bitwise_bump",
         end - 1,
         || "bump at 0".into(),
         Some((3, end as u64)),
@@ -84,11 +98,10 @@ fn bitwise_calls(comparison: &mut Comparison, words: &mut Words) {
             let mut counters = Lent::new(counters.slice(), words);
             let answer = bitwise::bump(counters.slice(), kind, x, y, z);
             let input = || format!("bump of the counter at {place}, which holds {word}");
+            let expected = refused.then_some((5, place as u64));
+            comparison.answered("bitwise_bump", input, answer, expected);
             if refused {
-                comparison.refused(input, answer, 5, place as u64);
                 counters.kept(comparison, |_| input());
-            } else {
-                comparison.done(input, answer);
             }
         }
     }
@@ -104,7 +117,15 @@ fn constant_calls(comparison: &mut Comparison, words: &mut Words) {
             };
             let input = format!("generate_row({round})");
             let call = |out: &mut [u64]| keccak_rc::generate_row(round, out);
-            on_slice(comparison, words, length, || input.clone(), expected, call);
+            on_slice(
+                comparison,
+                words,
+                "keccak_rc_generate_row",
+                length,
+                || input.clone(),
+                expected,
+                call,
+            );
         }
     }
     for length in [0, 319, 320, 321] {
@@ -112,6 +133,7 @@ fn constant_calls(comparison: &mut Comparison, words: &mut Words) {
         on_slice(
             comparison,
             words,
+            "generate_keccak_rc_trace",
             length,
             || "the constant table".into(),
             short,
@@ -121,7 +143,15 @@ fn constant_calls(comparison: &mut Comparison, words: &mut Words) {
             let expected = if n >= TOO_MANY { Some((1, TOO_MANY)) } else { short };
             let input = format!("update_multiplicities to {n}");
             let call = |table: &mut [u64]| keccak_rc::update_multiplicities(table, n);
-            on_slice(comparison, words, length, || input.clone(), expected, call);
+            on_slice(
+                comparison,
+                words,
+                "keccak_rc_update_multiplicities",
+                length,
+                || input.clone(),
+                expected,
+                call,
+            );
         }
     }
 }
@@ -129,18 +159,21 @@ fn constant_calls(comparison: &mut Comparison, words: &mut Words) {
 fn tuples_of_lookups(comparison: &mut Comparison, words: &mut Words) {
     let lengths = [2, 2, 2, 2, 1, 1, 4, 4, 4, 4];
     let call = &bitwise::bus_interaction;
-    tuple_calls(comparison, words, "bitwise", bitwise::NUM_COLUMNS, &lengths, call);
+    let names = ("bitwise_bus_interaction", "bitwise");
+    tuple_calls(comparison, words, names, bitwise::NUM_COLUMNS, &lengths, call);
     let call = &keccak_rc::bus_interaction;
-    tuple_calls(comparison, words, "keccak_rc", keccak_rc::NUM_COLUMNS, &[9], call);
+    let names = ("keccak_rc_bus_interaction", "keccak_rc");
+    tuple_calls(comparison, words, names, keccak_rc::NUM_COLUMNS, &[9], call);
     let call = &is_wh::bus_interaction;
-    tuple_calls(comparison, words, "is_wh", is_wh::NUM_COLUMNS, &[1, 1, 1, 1, 2], call);
+    let names = ("is_wh_bus_interaction", "is_wh");
+    tuple_calls(comparison, words, names, is_wh::NUM_COLUMNS, &[1, 1, 1, 1, 2], call);
 }
 
 /// The words that a call needs for n operations.
 type Needed = fn(usize) -> usize;
 
 /// The calls that take a list, with the words that each needs.
-const LIST_CALLS: [(&str, Needed, ListCall); 4] = [
+const LIST_CALLS: [(&'static str, Needed, ListCall); 4] = [
     (
         "generate_keccak_trace",
         |n| n.next_power_of_two().max(4) * 486,
@@ -153,7 +186,7 @@ const LIST_CALLS: [(&str, Needed, ListCall); 4] = [
     ),
     ("is_wh_keys", |n| 50 * n, keccak::is_wh_keys),
     (
-        "keccak_row of the last",
+        "keccak_row",
         |_| 486,
         |ops, row| keccak::keccak_row(ops, (ops.len() / OP_WORDS).saturating_sub(1), row),
     ),
@@ -162,8 +195,7 @@ const LIST_CALLS: [(&str, Needed, ListCall); 4] = [
 fn operation_calls(comparison: &mut Comparison, words: &mut Words) {
     for (name, needed, call) in LIST_CALLS {
         for n in [0, 1, 3, 5] {
-            let of_a_row = name.starts_with("keccak_row");
-            let none = (of_a_row && n == 0).then_some((1, 0));
+            let none = (name == "keccak_row" && n == 0).then_some((1, 0));
             let needed = needed(n);
             for past in [0, 1, 51] {
                 let mut ops = words.operations(n);
@@ -176,6 +208,7 @@ fn operation_calls(comparison: &mut Comparison, words: &mut Words) {
                     on_slice(
                         comparison,
                         words,
+                        name,
                         length,
                         || input.clone(),
                         expected,
@@ -193,6 +226,7 @@ fn operation_calls(comparison: &mut Comparison, words: &mut Words) {
         on_slice(
             comparison,
             words,
+            "keccak_row",
             486,
             || input.clone(),
             expected,
@@ -206,7 +240,7 @@ fn operation_calls(comparison: &mut Comparison, words: &mut Words) {
 fn high_addresses(
     comparison: &mut Comparison,
     words: &mut Words,
-    (name, needed, call): (&str, usize, ListCall),
+    (name, needed, call): (&'static str, usize, ListCall),
     n: usize,
 ) {
     for at in 0..n {
@@ -222,6 +256,7 @@ fn high_addresses(
             on_slice(
                 comparison,
                 words,
+                name,
                 needed,
                 || input.clone(),
                 expected,
@@ -232,6 +267,7 @@ fn high_addresses(
                 on_slice(
                     comparison,
                     words,
+                    name,
                     needed - 1,
                     || input.clone(),
                     expected,
@@ -265,6 +301,7 @@ fn too_many(comparison: &mut Comparison, words: &mut Words) {
             on_slice(
                 comparison,
                 words,
+                name,
                 8,
                 || input.clone(),
                 Some(expected),
@@ -287,7 +324,15 @@ fn round_rows(comparison: &mut Comparison, words: &mut Words) {
                 let start = words.take(lanes);
                 let input = format!("keccak_rnd_row of round {round} from {lanes} lanes");
                 let call = |row: &mut [u64]| keccak_rnd::keccak_rnd_row(1, &start, round, row);
-                on_slice(comparison, words, length, || input.clone(), expected, call);
+                on_slice(
+                    comparison,
+                    words,
+                    "keccak_rnd_row",
+                    length,
+                    || input.clone(),
+                    expected,
+                    call,
+                );
             }
         }
     }
@@ -296,18 +341,13 @@ fn round_rows(comparison: &mut Comparison, words: &mut Words) {
 fn counts(comparison: &mut Comparison) {
     for n in [MAX_OPS, MAX_OPS + 1, MAX_OPS + 2, usize::MAX] {
         let answers = [
-            keccak::keccak_height(n).map(drop),
-            keccak_rnd::keccak_rnd_height(n).map(drop),
-            keccak_rnd::padding_are_bytes(n).map(drop),
+            ("keccak_height", keccak::keccak_height(n).map(drop)),
+            ("keccak_rnd_height", keccak_rnd::keccak_rnd_height(n).map(drop)),
+            ("padding_are_bytes", keccak_rnd::padding_are_bytes(n).map(drop)),
         ];
-        for answer in answers {
-            let input = || format!("a height or padding lookups for n = {n}");
-            match n {
-                MAX_OPS => {
-                    comparison.done(input, answer);
-                }
-                _ => comparison.refused(input, answer, 1, TOO_MANY),
-            }
+        for (name, answer) in answers {
+            let expected = (n > MAX_OPS).then_some((1, TOO_MANY));
+            comparison.answered(name, || format!("{name}({n})"), answer, expected);
         }
     }
 }

@@ -1,11 +1,25 @@
 //! Times, and how they are told.
 
 use std::hint::black_box;
+use std::sync::Mutex;
 use std::time::{Duration, Instant};
+
+/// The ratios so far, in the order of the runs.
+static RATIOS: Mutex<Vec<(String, f64)>> = Mutex::new(Vec::new());
 
 /// Our time over theirs.
 pub fn ratio(name: &str, ours: Duration, theirs: Duration) {
-    println!("ratio {name} {:.2}", ours.as_secs_f64() / theirs.as_secs_f64());
+    let ratio = ours.as_secs_f64() / theirs.as_secs_f64();
+    println!("ratio {name} {ratio:.2}");
+    RATIOS.lock().expect("one thread").push((name.to_string(), ratio));
+}
+
+/// A table of every ratio of this run.
+pub fn table() {
+    println!("\n| name | ratio |\n|---|---|");
+    for (name, ratio) in RATIOS.lock().expect("one thread").iter() {
+        println!("| {name} | {ratio:.2} |");
+    }
 }
 
 /// The time of one of `items` items.

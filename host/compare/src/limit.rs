@@ -1,0 +1,71 @@
+//! Operation files about the most records that one may have: 37 GB, which repeat a piece of 55 MB.
+
+use keccak_tables::operation_file::{RECORD_BYTES, Sums, Tally, read_operations};
+use keccak_tables::{MAX_OPS, OP_WORDS};
+
+use crate::comparison::Comparison;
+use crate::inputs::Words;
+use crate::lent::Lent;
+use crate::tally::file_of;
+use crate::untouched::Repeated;
+
+/// The records of the piece: so many that it is whole pages.
+const RECORDS: usize = 1 << 17;
+
+/// What every file with a byte too many is refused with.
+const PAST_END: Option<(u64, u64)> = Some((1, MAX_OPS as u64 + 1));
+
+/// The whole area; nothing in it but the piece's operations is drawn.
+pub fn compare(comparison: &mut Comparison, seed: u64, _n: usize) {
+    let mut words = Words::new(seed);
+    let piece = file_of(&words.operations(RECORDS));
+    let Some(file) = Repeated::new(&piece, MAX_OPS / RECORDS + 1) else {
+        println!("no addresses for a file of {MAX_OPS} records: files about the limit are not tried");
+        return;
+    };
+    let most = MAX_OPS * RECORD_BYTES;
+    comparison.group("sums of the longest file, and a byte more");
+    reader(comparison, &file.bytes()[..most]);
+    comparison.group("operations of the longest file into a short list, and a byte or a record more");
+    for (length, expected) in [
+        (most, Some((3, (MAX_OPS * OP_WORDS) as u64))),
+        (most + 1, PAST_END),
+        (most + RECORD_BYTES, PAST_END),
+    ] {
+        let mut list = Lent::drawn(8, &mut words);
+        let answer = read_operations(&file.bytes()[..length], list.slice());
+        let input = || format!("a file of {length} bytes");
+        comparison.answered("read_operations", input, answer, expected);
+        list.kept(comparison, |_| input());
+    }
+}
+
+/// The longest file in one piece; then its end, a byte that begins a record, and one that does not.
+fn reader(comparison: &mut Comparison, file: &[u8]) {
+    let mut tally = Tally::new();
+    tally.feed(file);
+    let fault = |tally: &Tally| tally.fault().map_or(Ok(()), Err);
+    comparison.answered("tally_feed", || "the longest file".into(), fault(&tally), None);
+    if let Some(sums) = comparison.done(|| "the longest file".into(), tally.clone().finish()) {
+        comparison.equal(|_| "the longest file".into(), &numbers(&sums), &expected());
+    }
+    for byte in *b"KO" {
+        let mut tally = tally.clone();
+        tally.feed(&[byte]);
+        let input = || format!("the longest file and the byte {byte}");
+        comparison.answered("tally_feed", input, fault(&tally), PAST_END);
+        comparison.answered("tally_finish", input, tally.finish(), PAST_END);
+    }
+}
+
+/// Three of the sums.
+fn numbers(sums: &Sums) -> [u64; 3] {
+    [sums.ops, sums.core_rows, sums.are_bytes]
+}
+
+/// The same by the interface's text.
+fn expected() -> [u64; 3] {
+    let n = MAX_OPS as u64;
+    let height = n.next_power_of_two();
+    [n, height, 5_284 * n + oracle::padding_are_bytes(MAX_OPS)]
+}

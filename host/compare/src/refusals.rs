@@ -1,0 +1,443 @@
+//! Refusals, call by call: every condition that the interface lists for a call, its neighbours, and several at once, with guards
+//! around every slice. Here stand the cases that the other areas don't have; those that they have are run again, and then each
+//! call is to have been tried with every number that [`MATRIX`] lists for it, and with no other.
+
+use keccak_tables::is_wh::IsWhKey;
+use keccak_tables::keccak::LAST_ADDRESS;
+use keccak_tables::operation_file::{RECORD_BYTES, Tally, read_operations, write_operations};
+use keccak_tables::verdict::verdict;
+use keccak_tables::{MAX_OPS, OP_WORDS, P, Refusal, bitwise, keccak, keccak_rnd};
+
+use crate::comparison::Comparison;
+use crate::evaluated::{CORE, ROUND};
+use crate::inputs::Words;
+use crate::judge;
+use crate::lent::{Lent, LentBytes};
+use crate::tally::{file_of, first_fault, read};
+use crate::untouched::Untouched;
+use crate::{rows, tuples, values, verdicts};
+
+/// The numbers with which each call is tried, 0 being that it does its work. What only a file of 37 GB can cause is in
+/// `limit.rs`: 1 in `tally_feed`, `tally_finish` and `read_operations`.
+///
+/// | what | 1 | 2 | 3 | 4 | 5 | 6 |
+/// |---|---|---|---|---|---|---|
+/// | a bitwise or constant row | index | | slice | | | |
+/// | `bitwise_bump` | kind, Z | | counters | | counter | |
+/// | a constant table, its multiplicities | n | | table | | | |
+/// | a call on a list | n, index | list | slice | address | | |
+/// | a round row | round | | START, row | | | |
+/// | a height, the padding's lookups | n | | | | | |
+/// | values | | | row, slice | | column | |
+/// | a tuple | index | | row, slice | | column | |
+/// | `verdict` | | core, round | | | core, round | |
+/// | a file's reader | n | | | address | | mark, cut |
+/// | `read_operations` | n | | list | address | | mark, cut |
+pub const MATRIX: [(&str, &[u64]); 28] = [
+    ("generate_bitwise_row", &[0, 1, 3]),
+    ("bitwise_row_index", &[0, 1]),
+    ("bitwise_bump", &[0, 1, 3, 5]),
+    ("bitwise_bus_interaction", &[0, 1, 3, 5]),
+    ("keccak_rc_generate_row", &[0, 1, 3]),
+    ("generate_keccak_rc_trace", &[0, 3]),
+    ("keccak_rc_update_multiplicities", &[0, 1, 3]),
+    ("keccak_rc_bus_interaction", &[0, 1, 3, 5]),
+    ("is_wh_key", &[0]),
+    ("is_wh_bus_interaction", &[0, 1, 3, 5]),
+    ("keccak_row", &[0, 1, 2, 3, 4]),
+    ("generate_keccak_trace", &[0, 1, 2, 3, 4]),
+    ("is_wh_keys", &[0, 1, 2, 3, 4]),
+    ("keccak_height", &[0, 1]),
+    ("keccak_values", &[0, 3, 5]),
+    ("keccak_bus_interaction", &[0, 1, 3, 5]),
+    ("keccak_rnd_row", &[0, 1, 3]),
+    ("generate_keccak_rnd_trace", &[0, 1, 2, 3, 4]),
+    ("keccak_rnd_height", &[0, 1]),
+    ("padding_are_bytes", &[0, 1]),
+    ("keccak_rnd_values", &[0, 3, 5]),
+    ("keccak_rnd_bus_interaction", &[0, 1, 3, 5]),
+    ("verdict", &[0, 2, 5]),
+    ("tally_start", &[0]),
+    ("tally_feed", &[0, 4, 6]),
+    ("tally_finish", &[0, 4, 6]),
+    ("read_operations", &[0, 3, 4, 6]),
+    ("write_operations", &[0, 1, 2, 3, 4]),
+];
+
+/// The detail of a list with too many operations.
+const TOO_MANY: u64 = MAX_OPS as u64 + 1;
+
+/// The whole area; `n` times the lists and files that are drawn.
+pub fn compare(comparison: &mut Comparison, seed: u64, n: usize) {
+    let mut words = Words::new(seed);
+    rows::refusals::compare(comparison, &mut words);
+    comparison.group("refusals: values and tuples of core and round rows");
+    for table in [CORE, ROUND] {
+        values::refusals(comparison, &mut words, &table);
+        tuples::refusals(comparison, &mut words, &table);
+    }
+    comparison.group("refusals: counters, every set of conditions");
+    counters(comparison, &mut words);
+    comparison.group("refusals: calls on lists, every set of conditions");
+    for _ in 0..n.div_ceil(20) {
+        lists(comparison, &mut words);
+    }
+    comparison.group("refusals: lists about the limit, every set of conditions");
+    long_lists(comparison, &mut words);
+    comparison.group("refusals: files, every mark, cut and set of conditions");
+    files(comparison, &mut words);
+    comparison.group("refusals: verdicts on tables of every length about a row's, and with words about p");
+    verdicts_refused(comparison, &mut words);
+    comparison.group("refusals: what was tried, call by call");
+    matrix(comparison);
+}
+
+/// Each call was tried with what the matrix lists; two calls refuse nothing.
+fn matrix(comparison: &mut Comparison) {
+    let key = IsWhKey::of_dword(u64::MAX);
+    comparison.answered("is_wh_key", || "a key".into(), Ok::<_, Refusal>(key), None);
+    let fault = Tally::new().fault().map_or(Ok(()), Err);
+    comparison.answered("tally_start", || "a reader".into(), fault, None);
+    for (call, numbers) in MATRIX {
+        let tried = comparison.numbers_tried(call);
+        comparison.equal(|_| format!("the numbers with which {call} was tried"), &tried, numbers);
+    }
+}
+
+/// The first of the conditions that are met, which stand in the order of the checks.
+fn first(conditions: &[(bool, u64, u64)]) -> Option<(u64, u64)> {
+    let met = conditions.iter().find(|(met, ..)| *met);
+    met.map(|&(_, number, detail)| (number, detail))
+}
+
+/// Kind, Z, length and the charged counter, each about its edge, in every combination. The counters beside the charged one
+/// are no elements: they are not read.
+fn counters(comparison: &mut Comparison, words: &mut Words) {
+    let end = bitwise::NUM_COUNTERS;
+    let (x, y) = (words.word() as u8, words.word() as u8);
+    let all = vec![P; end + 1];
+    let mut counters = Lent::new(&all, words);
+    for (kind, z) in [(0, 0), (9, 15), (10, 15), (9, 16), (10, 16), (usize::MAX, 255)] {
+        for length in [0, end - 1, end, end + 1] {
+            for word in [0, P - 1, P, P + 1, u64::MAX] {
+                let row = usize::from(x) + 256 * usize::from(y) + 65_536 * usize::from(z);
+                let place = row * 10 + kind.min(9);
+                if let Some(counter) = counters.slice().get_mut(place) {
+                    *counter = word;
+                }
+                let expected = first(&[
+                    (kind >= 10, 1, 10),
+                    (z >= 16, 1, 16),
+                    (length < end, 3, end as u64),
+                    (word >= P, 5, place as u64),
+                ]);
+                let answer = bitwise::bump(&mut counters.slice()[..length], kind, x, y, z);
+                let input = || format!("bump of kind {kind} at {x}, {y}, {z} of {length} counters, which holds {word}");
+                comparison.answered("bitwise_bump", input, answer, expected);
+                if let Some(counter) = counters.slice().get_mut(place) {
+                    let after = if expected.is_none() { (word + 1) % P } else { word };
+                    comparison.equal(|_| input(), &[*counter], &[after]);
+                    *counter = P;
+                }
+            }
+        }
+    }
+    counters.kept(comparison, |_| "the other counters".into());
+}
+
+/// A call on a list: its name, the words or bytes that it needs for n operations, and the call on a list, an index and a slice.
+type IndexedCall = fn(&[u64], usize, &mut [u64]) -> Result<(), Refusal>;
+
+/// The calls that write words, and the words that each needs for n operations.
+const LIST_CALLS: [(&str, fn(usize) -> usize, IndexedCall); 4] = [
+    ("keccak_row", |_| 486, keccak::keccak_row),
+    (
+        "generate_keccak_trace",
+        |n| n.next_power_of_two().max(4) * 486,
+        |ops, _, table| keccak::generate_keccak_trace(ops, table),
+    ),
+    ("is_wh_keys", |n| 50 * n, |ops, _, out| keccak::is_wh_keys(ops, out)),
+    (
+        "generate_keccak_rnd_trace",
+        |n| (24 * n).next_power_of_two().max(4) * 1480,
+        |ops, _, table| keccak_rnd::generate_keccak_rnd_trace(ops, table),
+    ),
+];
+
+/// A list that is lent to each call on lists, an index for the call that takes one, and the refusals before and after that
+/// of the slice, which is lent one short, with just the room, and with one more.
+struct OnList<'a> {
+    ops: &'a [u64],
+    index: usize,
+    what: &'a str,
+}
+
+impl OnList<'_> {
+    /// The refusal of a call that needs `needed` and is lent `room`.
+    fn expected(&self, takes_index: bool, needed: usize, room: usize) -> Option<(u64, u64)> {
+        let n = self.ops.len() / OP_WORDS;
+        let earlier = first(&[
+            (n > MAX_OPS, 1, TOO_MANY),
+            (takes_index && self.index >= n, 1, n as u64),
+            (!self.ops.len().is_multiple_of(OP_WORDS), 2, 2),
+            (room < needed, 3, needed as u64),
+        ]);
+        earlier.or_else(|| {
+            let addresses = self.ops.chunks_exact(OP_WORDS).map(|operation| operation[1]);
+            addresses
+                .into_iter()
+                .find(|&address| address > LAST_ADDRESS)
+                .map(|address| (4, address))
+        })
+    }
+
+    fn input(&self, name: &str, room: usize) -> String {
+        format!("{name}, {}, index {}, a slice of {room}", self.what, self.index)
+    }
+
+    /// Every call on lists that writes words, with so many words more or fewer than it needs.
+    fn into_words(&self, comparison: &mut Comparison, words: &mut Words, off: isize) {
+        let n = self.ops.len() / OP_WORDS;
+        for (name, needed, call) in LIST_CALLS {
+            let needed = needed(n);
+            let room = needed.saturating_add_signed(off).min(1 << 20);
+            let expected = self.expected(name == "keccak_row", needed, room);
+            let mut out = Lent::drawn(room, words);
+            let answer = call(self.ops, self.index, out.slice());
+            comparison.answered(name, || self.input(name, room), answer, expected);
+            if expected.is_some() {
+                out.kept(comparison, |_| self.input(name, room));
+            } else {
+                out.guards_kept(comparison, || self.input(name, room));
+            }
+        }
+    }
+
+    /// The call that writes bytes.
+    fn into_bytes(&self, comparison: &mut Comparison, words: &mut Words, off: isize) {
+        let needed = self.ops.len() / OP_WORDS * RECORD_BYTES;
+        let room = needed.saturating_add_signed(off).min(1 << 20);
+        let expected = self.expected(false, needed, room);
+        let mut file = LentBytes::drawn(room, words);
+        let answer = write_operations(self.ops, file.slice());
+        let input = || self.input("write_operations", room);
+        comparison.answered("write_operations", input, answer, expected);
+        let written = if expected.is_none() {
+            file_of(self.ops)
+        } else {
+            Vec::new()
+        };
+        file.holds(comparison, input, &written);
+    }
+}
+
+/// Lists of 0 to 5 operations, whole or not, with and without high addresses, and indexes about the end.
+fn lists(comparison: &mut Comparison, words: &mut Words) {
+    for n in [0, 1, 3, 5] {
+        for past in [0, 1, 2, 51] {
+            for high in [None, Some(LAST_ADDRESS), Some(LAST_ADDRESS + 1), Some(u64::MAX)] {
+                let mut list = words.operations(n);
+                // What is past the last operation looks like one at a high address.
+                list.extend(vec![u64::MAX; past]);
+                if let (Some(address), 1..) = (high, n) {
+                    let at = words.below(n as u64) as usize;
+                    list[at * OP_WORDS + 1] = address;
+                    if address > LAST_ADDRESS && words.below(2) == 0 {
+                        list[(n - 1) * OP_WORDS + 1] = address;
+                    }
+                }
+                let what = format!("{n} operations and {past} words, {high:?} among the addresses");
+                let mut lent = Lent::new(&list, words);
+                for index in [0, n.saturating_sub(1), n, n + 1, usize::MAX] {
+                    let ops = &*lent.slice();
+                    let on_list = OnList {
+                        ops,
+                        index,
+                        what: &what,
+                    };
+                    for off in [-1, 0, 1] {
+                        on_list.into_words(comparison, words, off);
+                        on_list.into_bytes(comparison, words, off);
+                    }
+                }
+                lent.kept(comparison, |_| format!("the list, which is only read: {what}"));
+            }
+        }
+    }
+}
+
+/// As many operations as a list may have, one more and two more, whole or not, the first address high or not. No slice has the
+/// room, so nothing but the first address could be read.
+fn long_lists(comparison: &mut Comparison, words: &mut Words) {
+    let Some(mut untouched) = Untouched::new((MAX_OPS + 3) * OP_WORDS) else {
+        println!(
+            "no addresses for a list of {} operations: lists about the limit are not tried",
+            MAX_OPS + 3
+        );
+        return;
+    };
+    for address in [0, u64::MAX] {
+        untouched.words_mut()[1] = address;
+        for n in [MAX_OPS, MAX_OPS + 1, MAX_OPS + 2] {
+            for past in [0, 1, 51] {
+                for index in [0, n - 1, n, usize::MAX] {
+                    let ops = &untouched.words()[..n * OP_WORDS + past];
+                    let what = format!("{n} operations and {past} words, the first address {address}");
+                    let on_list = OnList {
+                        ops,
+                        index,
+                        what: &what,
+                    };
+                    let short = isize::MIN;
+                    on_list.into_words(comparison, words, short);
+                    on_list.into_bytes(comparison, words, short);
+                }
+            }
+        }
+    }
+}
+
+/// Files of three records: every byte in place of either mark, every cut, and addresses about the last, in each record and
+/// together, read in pieces and into a list that has the room or not.
+fn files(comparison: &mut Comparison, words: &mut Words) {
+    let ops = words.operations(3);
+    let whole = file_of(&ops);
+    for record in 0..3 {
+        let start = record * RECORD_BYTES;
+        for byte in 0..=255 {
+            for mark in [start, start + 1] {
+                let mut file = whole.clone();
+                file[mark] = byte;
+                one_file(comparison, words, &file);
+            }
+        }
+        for address in [LAST_ADDRESS - 1, LAST_ADDRESS, LAST_ADDRESS + 1, u64::MAX] {
+            for other in 0..3 {
+                let mut file = whole.clone();
+                file[start + 10..start + 18].copy_from_slice(&address.to_le_bytes());
+                one_file(comparison, words, &file);
+                // 6 before 4 within a record; of two records, the first that is faulty.
+                file[other * RECORD_BYTES + 1] = 0;
+                one_file(comparison, words, &file);
+                for end in [1, 2, 9, 10, 17, 18, 19, 417] {
+                    one_file(comparison, words, &file[..other * RECORD_BYTES + end]);
+                }
+            }
+            let mut file = whole.clone();
+            file[start + 10..start + 18].copy_from_slice(&address.to_le_bytes());
+            for end in (0..=file.len()).step_by(11).chain([start + 417, start + 418]) {
+                one_file(comparison, words, &file[..end]);
+            }
+        }
+    }
+    for end in 0..=whole.len() {
+        one_file(comparison, words, &whole[..end]);
+    }
+}
+
+/// One file, in pieces, and into lists of no word, one short, with just the room and one more.
+fn one_file(comparison: &mut Comparison, words: &mut Words, file: &[u8]) {
+    let fault = first_fault(file);
+    let input = || format!("the file {file:?}");
+    let mut lent = LentBytes::new(file, words);
+    comparison.answered("tally_finish", input, read(words, lent.slice()), fault);
+    // A cut is a fault only at the end of the file.
+    let cut = file.len() / RECORD_BYTES * RECORD_BYTES;
+    let marked = file[cut..].iter().zip(b"KO").all(|(byte, mark)| byte == mark);
+    let so_far = first_fault(&file[..cut]).or(first(&[(!marked, 6, cut as u64)]));
+    let mut tally = Tally::new();
+    tally.feed(lent.slice());
+    comparison.answered("tally_feed", input, tally.fault().map_or(Ok(()), Err), so_far);
+    let needed = cut / RECORD_BYTES * OP_WORDS;
+    for room in [0, needed.saturating_sub(1), needed, needed + 1] {
+        let mut list = Lent::drawn(room, words);
+        let answer = read_operations(lent.slice(), list.slice());
+        let expected = fault.or(first(&[(room < needed, 3, needed as u64)]));
+        comparison.answered("read_operations", input, answer, expected);
+        if expected.is_some() {
+            list.kept(comparison, |_| input());
+        } else {
+            list.guards_kept(comparison, input);
+        }
+    }
+    lent.holds(comparison, input, &[]);
+}
+
+/// Tables of no row, one word fewer than a row, a row, one word more and two rows, each with no word, one or two words about
+/// p, against the judge; both tables are lent with guards.
+fn verdicts_refused(comparison: &mut Comparison, words: &mut Words) {
+    let lengths = |width: usize| {
+        [
+            0,
+            1,
+            width - 1,
+            width,
+            width + 1,
+            2 * width - 1,
+            2 * width,
+            2 * width + 1,
+        ]
+    };
+    for core_length in lengths(keccak::NUM_COLUMNS) {
+        for round_length in lengths(keccak_rnd::NUM_COLUMNS) {
+            for spoilt in 0..9 {
+                let (in_core, in_round) = (spoilt % 3, spoilt / 3);
+                let core = spoilt_table(words, core_length, in_core);
+                let round = spoilt_table(words, round_length, in_round);
+                one_verdict(comparison, words, &core, &round);
+            }
+        }
+    }
+    for word in [P - 1, P, P + 1, u64::MAX] {
+        for place in 0..2 * keccak::NUM_COLUMNS {
+            let mut core = vec![0; 2 * keccak::NUM_COLUMNS];
+            core[place] = word;
+            one_verdict(comparison, words, &core, &[]);
+        }
+        for place in 0..2 * keccak_rnd::NUM_COLUMNS {
+            let mut round = vec![0; 2 * keccak_rnd::NUM_COLUMNS];
+            round[place] = word;
+            one_verdict(comparison, words, &[], &round);
+        }
+    }
+}
+
+/// A table of zeros with so many words that are no elements, where it has a place for them.
+fn spoilt_table(words: &mut Words, length: usize, spoilt: usize) -> Vec<u64> {
+    let mut table = vec![0; length];
+    for _ in 0..spoilt.min(length) {
+        let place = words.below(length as u64) as usize;
+        table[place] = [P, P + 1, u64::MAX][words.below(3) as usize];
+    }
+    table
+}
+
+fn one_verdict(comparison: &mut Comparison, words: &mut Words, core: &[u64], round: &[u64]) {
+    let expected = judge::verdict(core, round);
+    let refused = match expected {
+        judge::Verdict::Refused(number, detail) => Some((number, detail)),
+        _ => None,
+    };
+    let [mut lent_core, mut lent_round] = [core, round].map(|table| Lent::new(table, words));
+    let answer = verdict(lent_core.slice(), lent_round.slice());
+    let input = || format!("core {core:?}, round {round:?}");
+    comparison.answered("verdict", input, answer, refused);
+    comparison.equal(|_| input(), &verdicts::words(answer), &expected.words());
+    lent_core.kept(comparison, |_| input());
+    lent_round.kept(comparison, |_| input());
+}
+
+#[cfg(test)]
+mod tests {
+    use super::MATRIX;
+
+    #[test]
+    fn the_matrix_has_every_call_of_the_header() {
+        let header = include_str!("../../../include/keccak_tables.h");
+        let declared = header.lines().filter(|line| line.starts_with("keccak_tables_")).count();
+        assert_eq!(declared, MATRIX.len());
+        for (call, _) in MATRIX {
+            assert_eq!(header.matches(&format!(" keccak_tables_{call}(")).count(), 1, "{call}");
+        }
+    }
+}

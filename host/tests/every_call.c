@@ -1,0 +1,334 @@
+/*
+ * Calls every function of the archive through the header, with a check on each answer and on a refusal where there is one.
+ * The names of the functions that were called go to the standard output. host/tests/header.rs compiles and runs it.
+ */
+#include "keccak_tables.h"
+
+#include <stdio.h>
+#include <stdlib.h>
+#include <string.h>
+
+/* A function, its name being told. */
+#define CALL(function) (puts(#function), function)
+
+/* Ends the program where a check fails. */
+#define CHECK(condition)                                                                                                          \
+    do {                                                                                                                          \
+        if (!(condition)) {                                                                                                       \
+            fprintf(stderr, "%s:%d: %s\n", __FILE__, __LINE__, #condition);                                                       \
+            exit(1);                                                                                                              \
+        }                                                                                                                         \
+    } while (0)
+
+/* The answer is that of a call that did its work, or that of one that is refused. */
+#define DONE(answer) CHECK((answer).number == 0 && (answer).detail == 0)
+#define REFUSED(answer, n, d) CHECK((answer).number == (n) && (answer).detail == (d))
+
+/* Stands past every slice that is written. */
+#define GUARD 0xA5A5A5A5A5A5A5A5u
+
+enum { ADDRESS_HALF = 2, ADDRESS_WORD = 3, TIMESTAMP = 5, CORE = 4 * 486, ROUND = 32 * 1480 };
+
+static uint64_t operation[52];
+static uint64_t core[CORE + 1];
+static uint64_t rounds[ROUND + 1];
+
+static void bitwise_calls(void) {
+    static const uint64_t expected[11] = {52, 18, 4, 16, 54, 38, 0, 0, 0, 9024, 1};
+    uint64_t row[22], out[5];
+    row[11] = GUARD;
+    keccak_tables_answer answer = CALL(keccak_tables_generate_bitwise_row)(266804, row, 11);
+    DONE(answer);
+    CHECK(memcmp(row, expected, sizeof expected) == 0 && row[11] == GUARD);
+    answer = keccak_tables_generate_bitwise_row(KECCAK_TABLES_BITWISE_ROWS, row, 11);
+    REFUSED(answer, 1, 1048576);
+    answer = keccak_tables_generate_bitwise_row(0, row, 10);
+    REFUSED(answer, 3, 11);
+    CHECK(memcmp(row, expected, sizeof expected) == 0);
+
+    keccak_tables_number number = CALL(keccak_tables_bitwise_row_index)(52, 18, 4);
+    DONE(number);
+    CHECK(number.value == 266804);
+    number = keccak_tables_bitwise_row_index(52, 18, 16);
+    REFUSED(number, 1, 16);
+    CHECK(number.value == 0);
+
+    size_t length = KECCAK_TABLES_BITWISE_COUNTERS;
+    uint64_t *counters = calloc(length, sizeof *counters);
+    CHECK(counters != NULL);
+    answer = CALL(keccak_tables_bitwise_bump)(counters, length, 7, 52, 18, 4);
+    DONE(answer);
+    CHECK(counters[2668047] == 1 && counters[2668046] == 0 && counters[2668048] == 0);
+    answer = keccak_tables_bitwise_bump(counters, length, 10, 52, 18, 16);
+    REFUSED(answer, 1, 10);
+    answer = keccak_tables_bitwise_bump(counters, length, 9, 52, 18, 16);
+    REFUSED(answer, 1, 16);
+    answer = keccak_tables_bitwise_bump(counters, length - 1, 7, 52, 18, 4);
+    REFUSED(answer, 3, length);
+    counters[2668047] = KECCAK_TABLES_P;
+    answer = keccak_tables_bitwise_bump(counters, length, 7, 52, 18, 4);
+    REFUSED(answer, 5, 2668047);
+    free(counters);
+
+    for (size_t kind = 0; kind < 10; kind++)
+        row[11 + kind] = 100 + kind;
+    out[4] = GUARD;
+    keccak_tables_tuple tuple = CALL(keccak_tables_bitwise_bus_interaction)(row, 21, 9, out, 4);
+    DONE(tuple);
+    /* XOR is ByteAlu's operation 2. */
+    CHECK(tuple.bus == 0 && tuple.side == 1 && tuple.length == 4 && tuple.multiplicity == 109);
+    CHECK(out[0] == 2 && out[1] == 52 && out[2] == 18 && out[3] == 38 && out[4] == GUARD);
+    tuple = keccak_tables_bitwise_bus_interaction(row, 21, 10, out, 4);
+    REFUSED(tuple, 1, 10);
+    tuple = keccak_tables_bitwise_bus_interaction(row, 20, 9, out, 3);
+    REFUSED(tuple, 3, 21);
+    row[20] = KECCAK_TABLES_P;
+    tuple = keccak_tables_bitwise_bus_interaction(row, 21, 9, out, 4);
+    REFUSED(tuple, 5, 20);
+    CHECK(tuple.bus == 0 && tuple.side == 0 && tuple.length == 0 && tuple.multiplicity == 0);
+}
+
+static void constant_calls(void) {
+    /* The last round's constant is 8000000080008008, hexadecimal. */
+    static const uint64_t expected[9] = {23, 8, 128, 0, 128, 0, 0, 0, 128};
+    uint64_t row[10], table[321], out[9];
+    row[9] = GUARD;
+    keccak_tables_answer answer = CALL(keccak_tables_keccak_rc_generate_row)(23, row, 9);
+    DONE(answer);
+    CHECK(memcmp(row, expected, sizeof expected) == 0 && row[9] == GUARD);
+    answer = keccak_tables_keccak_rc_generate_row(32, row, 9);
+    REFUSED(answer, 1, 32);
+    answer = keccak_tables_keccak_rc_generate_row(31, row, 8);
+    REFUSED(answer, 3, 9);
+
+    table[320] = GUARD;
+    answer = CALL(keccak_tables_generate_keccak_rc_trace)(table, 320);
+    DONE(answer);
+    CHECK(memcmp(table + 230, expected, sizeof expected) == 0 && table[239] == 0 && table[310] == 31 && table[320] == GUARD);
+    answer = keccak_tables_generate_keccak_rc_trace(table, 319);
+    REFUSED(answer, 3, 320);
+
+    answer = CALL(keccak_tables_keccak_rc_update_multiplicities)(table, 320, 7);
+    DONE(answer);
+    CHECK(table[9] == 7 && table[239] == 7 && table[249] == 0 && table[320] == GUARD);
+    answer = keccak_tables_keccak_rc_update_multiplicities(table, 320, KECCAK_TABLES_MAX_OPS + 1);
+    REFUSED(answer, 1, 89478486);
+    answer = keccak_tables_keccak_rc_update_multiplicities(table, 319, KECCAK_TABLES_MAX_OPS);
+    REFUSED(answer, 3, 320);
+
+    keccak_tables_tuple tuple = CALL(keccak_tables_keccak_rc_bus_interaction)(table + 230, 10, 0, out, 9);
+    DONE(tuple);
+    CHECK(tuple.bus == 4 && tuple.side == 1 && tuple.length == 9 && tuple.multiplicity == 7);
+    CHECK(memcmp(out, expected, sizeof expected) == 0);
+    tuple = keccak_tables_keccak_rc_bus_interaction(table, 10, 1, out, 9);
+    REFUSED(tuple, 1, 1);
+}
+
+static void key_calls(void) {
+    keccak_tables_key key = CALL(keccak_tables_is_wh_key)(0x0123456789ABCDEF);
+    CHECK(key.word == 0x01234567 && key.half == 0x89AB);
+
+    uint64_t row[4] = {3, 2, 1, 9}, out[3] = {0, 0, GUARD};
+    keccak_tables_tuple tuple = CALL(keccak_tables_is_wh_bus_interaction)(row, 4, 4, out, 2);
+    DONE(tuple);
+    CHECK(tuple.bus == 3 && tuple.side == 1 && tuple.length == 2 && tuple.multiplicity == 9);
+    /* The lowest halfword is the key's half, the other two its word. */
+    CHECK(out[0] == 65538 && out[1] == 3 && out[2] == GUARD);
+    tuple = keccak_tables_is_wh_bus_interaction(row, 4, 5, out, 2);
+    REFUSED(tuple, 1, 5);
+    tuple = keccak_tables_is_wh_bus_interaction(row, 4, 4, out, 1);
+    REFUSED(tuple, 3, 2);
+}
+
+static void core_calls(void) {
+    uint64_t row[487], keys[51], values[53], out[204];
+    row[486] = keys[50] = values[52] = core[CORE] = GUARD;
+    keccak_tables_answer answer = CALL(keccak_tables_keccak_row)(operation, 52, 0, row, 486);
+    DONE(answer);
+    CHECK(row[0] == TIMESTAMP && row[2 + 2] == ADDRESS_HALF && row[2 + 4] == ADDRESS_WORD && row[485] == 1 && row[486] == GUARD);
+    answer = keccak_tables_keccak_row(operation, 52, 1, row, 486);
+    REFUSED(answer, 1, 1);
+    answer = keccak_tables_keccak_row(operation, 52, 0, row, 485);
+    REFUSED(answer, 3, 486);
+
+    answer = CALL(keccak_tables_generate_keccak_trace)(operation, 52, core, CORE);
+    DONE(answer);
+    CHECK(memcmp(core, row, 486 * sizeof *row) == 0 && core[486 + 413] == 8 && core[486 + 485] == 0 && core[CORE] == GUARD);
+    answer = keccak_tables_generate_keccak_trace(operation, 51, core, CORE);
+    REFUSED(answer, 2, 2);
+    answer = keccak_tables_generate_keccak_trace(operation, 52, core, CORE - 1);
+    REFUSED(answer, 3, CORE);
+
+    answer = CALL(keccak_tables_is_wh_keys)(operation, 52, keys, 50);
+    DONE(answer);
+    CHECK(keys[0] == ADDRESS_WORD && keys[1] == ADDRESS_HALF && keys[48] == ADDRESS_WORD && keys[50] == GUARD);
+    uint64_t address = operation[1];
+    operation[1] = KECCAK_TABLES_LAST_ADDRESS + 1;
+    answer = keccak_tables_is_wh_keys(operation, 52, keys, 50);
+    REFUSED(answer, 4, operation[1]);
+    operation[1] = address;
+
+    keccak_tables_number number = CALL(keccak_tables_keccak_height)(5);
+    DONE(number);
+    CHECK(number.value == 8);
+    number = keccak_tables_keccak_height(KECCAK_TABLES_MAX_OPS + 1);
+    REFUSED(number, 1, 89478486);
+
+    answer = CALL(keccak_tables_keccak_values)(row, 486, values, 52);
+    DONE(answer);
+    for (size_t value = 0; value < 52; value++)
+        CHECK(values[value] == 0);
+    CHECK(values[52] == GUARD);
+    answer = keccak_tables_keccak_values(row, 486, values, 51);
+    REFUSED(answer, 3, 52);
+
+    keccak_tables_tuple tuple = CALL(keccak_tables_keccak_bus_interaction)(row, 486, 0, 0x700000006, out, 204);
+    DONE(tuple);
+    CHECK(tuple.bus == 7 && tuple.side == 1 && tuple.multiplicity == 1 && tuple.length <= 203);
+    /* The number's two halves are among the values. */
+    size_t low = 0, high = 0;
+    for (size_t value = 0; value < tuple.length; value++) {
+        low += out[value] == 6;
+        high += out[value] == 7;
+    }
+    CHECK(low == 1 && high == 1);
+    tuple = keccak_tables_keccak_bus_interaction(row, 486, 84, 0, out, 204);
+    REFUSED(tuple, 1, 84);
+    row[485] = KECCAK_TABLES_P;
+    tuple = keccak_tables_keccak_bus_interaction(row, 487, 83, 0, out, 204);
+    REFUSED(tuple, 5, 485);
+}
+
+static void round_calls(void) {
+    uint64_t row[1481], values[142], out[203];
+    row[1480] = values[141] = rounds[ROUND] = GUARD;
+    keccak_tables_answer answer = CALL(keccak_tables_keccak_rnd_row)(TIMESTAMP, operation + 2, 25, 0, row, 1480);
+    DONE(answer);
+    /* From the zero state, lane 0 is 1 after round 0. */
+    CHECK(row[0] == TIMESTAMP && row[1471] == 1 && row[1472] == 0 && row[1479] == 1 && row[1480] == GUARD);
+    answer = keccak_tables_keccak_rnd_row(TIMESTAMP, operation + 2, 24, 24, row, 1479);
+    REFUSED(answer, 1, 24);
+    answer = keccak_tables_keccak_rnd_row(TIMESTAMP, operation + 2, 24, 23, row, 1479);
+    REFUSED(answer, 3, 25);
+    answer = keccak_tables_keccak_rnd_row(TIMESTAMP, operation + 2, 25, 23, row, 1479);
+    REFUSED(answer, 3, 1480);
+
+    answer = CALL(keccak_tables_generate_keccak_rnd_trace)(operation, 52, rounds, ROUND);
+    DONE(answer);
+    CHECK(memcmp(rounds, row, 1480 * sizeof *row) == 0 && rounds[24 * 1480 + 1479] == 0 && rounds[ROUND] == GUARD);
+    answer = keccak_tables_generate_keccak_rnd_trace(operation, 53, rounds, ROUND);
+    REFUSED(answer, 2, 2);
+    answer = keccak_tables_generate_keccak_rnd_trace(operation, 52, rounds, ROUND - 1);
+    REFUSED(answer, 3, ROUND);
+
+    keccak_tables_number number = CALL(keccak_tables_keccak_rnd_height)(2731);
+    DONE(number);
+    CHECK(number.value == 131072);
+    number = keccak_tables_keccak_rnd_height(KECCAK_TABLES_MAX_OPS + 1);
+    REFUSED(number, 1, 89478486);
+    number = CALL(keccak_tables_padding_are_bytes)(1);
+    DONE(number);
+    CHECK(number.value == 1760);
+    number = keccak_tables_padding_are_bytes(KECCAK_TABLES_MAX_OPS + 1);
+    REFUSED(number, 1, 89478486);
+
+    answer = CALL(keccak_tables_keccak_rnd_values)(row, 1480, values, 141);
+    DONE(answer);
+    for (size_t value = 0; value < 141; value++)
+        CHECK(values[value] == 0);
+    CHECK(values[141] == GUARD);
+    answer = keccak_tables_keccak_rnd_values(row, 1479, values, 140);
+    REFUSED(answer, 3, 1480);
+
+    keccak_tables_tuple tuple = CALL(keccak_tables_keccak_rnd_bus_interaction)(row, 1480, 0, out, 203);
+    DONE(tuple);
+    CHECK(tuple.bus == 5 && tuple.side == 1 && tuple.length == 203 && tuple.multiplicity == 1 && out[0] == TIMESTAMP);
+    tuple = keccak_tables_keccak_rnd_bus_interaction(row, 1480, 1031, out, 203);
+    REFUSED(tuple, 1, 1031);
+    tuple = keccak_tables_keccak_rnd_bus_interaction(row, 1480, 0, out, 202);
+    REFUSED(tuple, 3, 203);
+}
+
+/* The operation claims a zero output, which is wrong; then the output is put right by the last round's row. */
+static void verdict_calls(void) {
+    uint64_t out[203];
+    keccak_tables_judgement verdict = CALL(keccak_tables_verdict)(core, CORE, rounds, ROUND);
+    CHECK(verdict.kind == 6 && verdict.first == 0 && verdict.second == 0);
+    keccak_tables_tuple tuple = keccak_tables_keccak_bus_interaction(core, 486, (size_t)verdict.third, 0, out, 203);
+    DONE(tuple);
+    CHECK(tuple.bus == 5 && tuple.side == 1);
+
+    const uint64_t *last = rounds + 23 * 1480;
+    memcpy(core + 210, last + 1471, 8 * sizeof *core);
+    memcpy(core + 218, last + 1271, 192 * sizeof *core);
+    verdict = keccak_tables_verdict(core, CORE, rounds, ROUND);
+    CHECK(verdict.kind == 0 && verdict.first == 1 && verdict.second == 0 && verdict.third == 0);
+    verdict = keccak_tables_verdict(core, CORE - 1, rounds, ROUND - 1);
+    CHECK(verdict.kind == 7 && verdict.first == 2 && verdict.second == 0 && verdict.third == 0);
+    verdict = keccak_tables_verdict(core, CORE, rounds, ROUND - 1);
+    CHECK(verdict.kind == 7 && verdict.first == 2 && verdict.second == 1 && verdict.third == 0);
+    rounds[ROUND - 1] = UINT64_MAX;
+    verdict = keccak_tables_verdict(core, CORE, rounds, ROUND);
+    CHECK(verdict.kind == 7 && verdict.first == 5 && verdict.second == ROUND - 1 && verdict.third == 0);
+}
+
+static void file_calls(void) {
+    uint8_t file[419];
+    uint64_t list[53];
+    file[418] = 0xA5;
+    list[52] = GUARD;
+    keccak_tables_answer answer = CALL(keccak_tables_write_operations)(operation, 52, file, 418);
+    DONE(answer);
+    CHECK(file[0] == 0x4B && file[1] == 0x4F && file[2] == TIMESTAMP && file[10 + 2] == ADDRESS_HALF && file[418] == 0xA5);
+    answer = keccak_tables_write_operations(operation, 52, file, 417);
+    REFUSED(answer, 3, 418);
+    answer = CALL(keccak_tables_read_operations)(file, 418, list, 52);
+    DONE(answer);
+    CHECK(memcmp(list, operation, sizeof operation) == 0 && list[52] == GUARD);
+    answer = keccak_tables_read_operations(file, 417, list, 52);
+    REFUSED(answer, 6, 0);
+    answer = keccak_tables_read_operations(file, 418, list, 51);
+    REFUSED(answer, 3, 52);
+
+    keccak_tables_cursor cursor = CALL(keccak_tables_tally_start)();
+    DONE(cursor);
+    cursor = CALL(keccak_tables_tally_feed)(cursor, file, 13);
+    DONE(cursor);
+    CHECK(cursor.records == 0 && cursor.at == 13);
+    keccak_tables_sums sums = CALL(keccak_tables_tally_finish)(cursor);
+    REFUSED(sums, 6, 0);
+    cursor = keccak_tables_tally_feed(cursor, file + 13, 405);
+    sums = keccak_tables_tally_finish(cursor);
+    DONE(sums);
+    CHECK(sums.ops == 1 && sums.core_rows == 4 && sums.round_rows == 32 && sums.byte_alu == 19393 && sums.are_bytes == 7044);
+    CHECK(sums.keccak_rc == 24 && sums.is_halfword == 25 && sums.is_wh == 25 && sums.memw == 26 && sums.ecall == 1);
+    cursor = keccak_tables_tally_feed(cursor, file + 1, 1);
+    REFUSED(cursor, 6, 418);
+
+    /* A reader that has read as many records as a file may have: its end is no fault, a byte more is. */
+    keccak_tables_cursor full = {0, 0, KECCAK_TABLES_MAX_OPS, 0, 0};
+    sums = keccak_tables_tally_finish(full);
+    DONE(sums);
+    CHECK(sums.ops == KECCAK_TABLES_MAX_OPS);
+    cursor = keccak_tables_tally_feed(full, file, 0);
+    DONE(cursor);
+    cursor = keccak_tables_tally_feed(full, file, 1);
+    REFUSED(cursor, 1, 89478486);
+    full.records--;
+    cursor = keccak_tables_tally_feed(full, file, 418);
+    DONE(cursor);
+    CHECK(cursor.records == KECCAK_TABLES_MAX_OPS && cursor.at == 0);
+}
+
+int main(void) {
+    operation[0] = TIMESTAMP;
+    operation[1] = ((uint64_t)ADDRESS_WORD << 32) + ((uint64_t)ADDRESS_HALF << 16);
+    bitwise_calls();
+    constant_calls();
+    key_calls();
+    core_calls();
+    round_calls();
+    verdict_calls();
+    file_calls();
+    return 0;
+}

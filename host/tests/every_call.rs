@@ -1,0 +1,281 @@
+//! Every function of the safe interface, called once or more, with a check on its answer and on a refusal.
+
+#[allow(dead_code)]
+mod interface;
+
+use keccak_tables::is_wh::IsWhKey;
+use keccak_tables::operation_file::Tally;
+use keccak_tables::verdict::{Table, Verdict};
+use keccak_tables::{
+    Bus, BusInteraction, Lent, MAX_OPS, OP_WORDS, Operation, P, Refusal, Side, bitwise, is_wh, keccak, keccak_rc,
+    keccak_rnd, operation_file, verdict,
+};
+
+const GUARD: u64 = 0xA5A5_A5A5_A5A5_A5A5;
+const TOO_MANY: Refusal = Refusal::PastEnd {
+    limit: MAX_OPS as u64 + 1,
+};
+
+fn operation() -> Operation {
+    Operation {
+        timestamp: 5,
+        address: 0x0003_0002_0008,
+        input: [0; 25],
+        output: [0; 25],
+    }
+}
+
+fn received(bus: Bus, length: usize, multiplicity: u64) -> Result<BusInteraction, Refusal> {
+    Ok(BusInteraction {
+        bus,
+        side: Side::Receiver,
+        length,
+        multiplicity,
+    })
+}
+
+#[test]
+fn bitwise_calls() {
+    let mut row = [GUARD; 12];
+    assert_eq!(bitwise::generate_bitwise_row(266_804, &mut row), Ok(()));
+    assert_eq!(row, [52, 18, 4, 16, 54, 38, 0, 0, 0, 9024, 1, GUARD]);
+    let refused = bitwise::generate_bitwise_row(bitwise::NUM_ROWS, &mut row);
+    assert_eq!(refused, Err(Refusal::PastEnd { limit: 1_048_576 }));
+
+    assert_eq!(bitwise::row_index(52, 18, 4), Ok(266_804));
+    assert_eq!(bitwise::row_index(52, 18, 16), Err(Refusal::PastEnd { limit: 16 }));
+
+    let mut counters = vec![0; bitwise::NUM_COUNTERS];
+    counters[2_668_047] = P - 1;
+    assert_eq!(bitwise::bump(&mut counters, 9, 52, 18, 4), Ok(()));
+    assert_eq!(bitwise::bump(&mut counters, 7, 52, 18, 4), Ok(()));
+    assert_eq!(counters[2_668_045..2_668_051], [0, 0, 0, 0, 1, 0]);
+    let refused = bitwise::bump(&mut counters, 10, 52, 18, 16);
+    assert_eq!(refused, Err(Refusal::PastEnd { limit: 10 }));
+
+    let mut all = [7; bitwise::NUM_COLUMNS];
+    all[..11].copy_from_slice(&row[..11]);
+    let mut out = [GUARD; 5];
+    assert_eq!(
+        bitwise::bus_interaction(&all, 9, &mut out),
+        received(Bus::ByteAlu, 4, 7)
+    );
+    assert_eq!(out, [2, 52, 18, 38, GUARD]);
+    all[20] = P;
+    let refused = bitwise::bus_interaction(&all, 9, &mut out);
+    assert_eq!(refused, Err(Refusal::NotElement { place: 20 }));
+}
+
+#[test]
+fn constant_calls() {
+    let last = [23, 8, 128, 0, 128, 0, 0, 0, 128];
+    let mut row = [GUARD; 10];
+    assert_eq!(keccak_rc::generate_row(23, &mut row), Ok(()));
+    assert_eq!((&row[..9], row[9]), (&last[..], GUARD));
+    assert_eq!(
+        keccak_rc::generate_row(32, &mut row),
+        Err(Refusal::PastEnd { limit: 32 })
+    );
+
+    let mut table = [GUARD; keccak_rc::TABLE_WORDS + 1];
+    assert_eq!(keccak_rc::generate_keccak_rc_trace(&mut table), Ok(()));
+    assert_eq!((&table[230..239], table[239], table[320]), (&last[..], 0, GUARD));
+    let refused = keccak_rc::generate_keccak_rc_trace(&mut table[..319]);
+    assert_eq!(refused, Err(Refusal::TooShort { needed: 320 }));
+
+    assert_eq!(keccak_rc::update_multiplicities(&mut table, 7), Ok(()));
+    assert_eq!([table[9], table[239], table[249]], [7, 7, 0]);
+    let refused = keccak_rc::update_multiplicities(&mut table, MAX_OPS as u64 + 1);
+    assert_eq!(refused, Err(TOO_MANY));
+
+    let answer = keccak_rc::bus_interaction(&table[230..240], 0, &mut row);
+    assert_eq!(answer, received(Bus::KeccakRc, 9, 7));
+    assert_eq!((&row[..9], row[9]), (&last[..], GUARD));
+    let refused = keccak_rc::bus_interaction(&table[230..240], 1, &mut row);
+    assert_eq!(refused, Err(Refusal::PastEnd { limit: 1 }));
+}
+
+#[test]
+fn key_calls() {
+    let key = IsWhKey::of_dword(0x0123_4567_89AB_CDEF);
+    assert_eq!((key.word, key.half), (0x0123_4567, 0x89AB));
+
+    let mut out = [GUARD; 3];
+    let answer = is_wh::bus_interaction(&[3, 2, 1, 9], 4, &mut out);
+    assert_eq!(answer, received(Bus::IsWh, 2, 9));
+    assert_eq!(out, [65_538, 3, GUARD]);
+    let refused = is_wh::bus_interaction(&[3, 2, 1, 9], 4, &mut out[..1]);
+    assert_eq!(refused, Err(Refusal::TooShort { needed: 2 }));
+}
+
+#[test]
+fn core_calls() {
+    let list = operation().words();
+    let mut row = [GUARD; keccak::NUM_COLUMNS + 1];
+    assert_eq!(keccak::keccak_row(&list, 0, &mut row), Ok(()));
+    assert_eq!(row[..10], [5, 0, 8, 0, 2, 0, 3, 0, 0, 0]);
+    assert_eq!(row[485..], [1, GUARD]);
+    let refused = keccak::keccak_row(&list, 1, &mut row);
+    assert_eq!(refused, Err(Refusal::PastEnd { limit: 1 }));
+
+    let mut table = vec![GUARD; 4 * keccak::NUM_COLUMNS + 1];
+    assert_eq!(keccak::generate_keccak_trace(&list, &mut table), Ok(()));
+    assert_eq!((&table[..486], table[486 + 413], table[1944]), (&row[..486], 8, GUARD));
+    assert_eq!(keccak::keccak_table(&list), Ok(table[..1944].to_vec()));
+    let refused = keccak::generate_keccak_trace(&list[..51], &mut table);
+    assert_eq!(refused, Err(Refusal::NotWhole { which: Lent::List }));
+    assert_eq!(
+        keccak::keccak_table(&list[1..]),
+        Err(Refusal::NotWhole { which: Lent::List })
+    );
+
+    let mut keys = [GUARD; keccak::KEY_WORDS + 1];
+    assert_eq!(keccak::is_wh_keys(&list, &mut keys), Ok(()));
+    assert_eq!((keys[0], keys[1], keys[50]), (3, 2, GUARD));
+    let mut high = list;
+    high[1] = keccak::LAST_ADDRESS + 1;
+    let refused = keccak::is_wh_keys(&high, &mut keys);
+    assert_eq!(refused, Err(Refusal::HighAddress { address: high[1] }));
+
+    assert_eq!(keccak::keccak_height(5), Ok(8));
+    assert_eq!(keccak::keccak_height(MAX_OPS + 1), Err(TOO_MANY));
+
+    let mut values = [GUARD; keccak::NUM_VALUES + 1];
+    assert_eq!(keccak::core_values(&row, &mut values), Ok(()));
+    assert_eq!((&values[..52], values[52]), (&[0; 52][..], GUARD));
+    let refused = keccak::core_values(&row[..485], &mut values);
+    assert_eq!(refused, Err(Refusal::TooShort { needed: 486 }));
+
+    let mut out = [GUARD; keccak::MAX_TUPLE_LENGTH];
+    let answer = keccak::bus_interaction(&row, 0, 0x7_0000_0006, &mut out).expect("a tuple");
+    assert_eq!(
+        (answer.bus, answer.side, answer.multiplicity),
+        (Bus::Ecall, Side::Receiver, 1)
+    );
+    assert!(out[..answer.length].windows(2).any(|halves| halves == [6, 7]));
+    let refused = keccak::bus_interaction(&row, 84, 0, &mut out);
+    assert_eq!(refused, Err(Refusal::PastEnd { limit: 84 }));
+}
+
+#[test]
+fn round_calls() {
+    let list = operation().words();
+    let mut row = [GUARD; keccak_rnd::NUM_COLUMNS + 1];
+    assert_eq!(keccak_rnd::keccak_rnd_row(5, &[0; 25], 0, &mut row), Ok(()));
+    assert_eq!((row[0], row[1471], row[1479], row[1480]), (5, 1, 1, GUARD));
+    let refused = keccak_rnd::keccak_rnd_row(5, &[0; 24], 0, &mut row);
+    assert_eq!(refused, Err(Refusal::TooShort { needed: 25 }));
+
+    let words = 32 * keccak_rnd::NUM_COLUMNS;
+    let mut table = vec![GUARD; words + 1];
+    assert_eq!(keccak_rnd::generate_keccak_rnd_trace(&list, &mut table), Ok(()));
+    assert_eq!((&table[..1480], table[words]), (&row[..1480], GUARD));
+    assert_eq!(keccak_rnd::keccak_rnd_table(&list), Ok(table[..words].to_vec()));
+    let refused = keccak_rnd::generate_keccak_rnd_trace(&list, &mut table[..words - 1]);
+    assert_eq!(refused, Err(Refusal::TooShort { needed: words as u64 }));
+
+    assert_eq!(keccak_rnd::keccak_rnd_height(2_731), Ok(131_072));
+    assert_eq!(keccak_rnd::keccak_rnd_height(MAX_OPS + 1), Err(TOO_MANY));
+    assert_eq!(keccak_rnd::padding_are_bytes(2), Ok(3_520));
+    assert_eq!(keccak_rnd::padding_are_bytes(MAX_OPS + 1), Err(TOO_MANY));
+
+    let mut values = [GUARD; keccak_rnd::NUM_VALUES + 1];
+    assert_eq!(keccak_rnd::round_values(&row, &mut values), Ok(()));
+    assert_eq!((&values[..141], values[141]), (&[0; 141][..], GUARD));
+    let mut out = [GUARD; keccak_rnd::MAX_TUPLE_LENGTH];
+    assert_eq!(
+        keccak_rnd::bus_interaction(&row, 0, &mut out),
+        received(Bus::Keccak, 203, 1)
+    );
+    assert_eq!(out[0], 5);
+    row[1479] = P;
+    let refused = Err(Refusal::NotElement { place: 1479 });
+    assert_eq!(keccak_rnd::round_values(&row, &mut values), refused);
+    assert_eq!(keccak_rnd::bus_interaction(&row, 0, &mut out).map(drop), refused);
+}
+
+#[test]
+fn verdict_calls() {
+    let list = operation().words();
+    let mut core = keccak::keccak_table(&list).expect("a core table");
+    let round = keccak_rnd::keccak_rnd_table(&list).expect("a round table");
+    let unbalanced = verdict::verdict(&core, &round).expect("a verdict");
+    assert!(
+        matches!(
+            unbalanced,
+            Verdict::Unbalanced {
+                table: Table::Core,
+                row: 0,
+                ..
+            }
+        ),
+        "{unbalanced}"
+    );
+    let last = &round[23 * keccak_rnd::NUM_COLUMNS..];
+    core[210..218].copy_from_slice(&last[1471..1479]);
+    core[218..410].copy_from_slice(&last[1271..1463]);
+    assert_eq!(verdict::verdict(&core, &round), Ok(Verdict::Holds { active: 1 }));
+    let refused = verdict::verdict(&core, &round[1..]);
+    assert_eq!(refused, Err(Refusal::NotWhole { which: Lent::Round }));
+}
+
+#[test]
+fn file_calls() {
+    let list = operation().words();
+    let mut file = [0xA5; operation_file::RECORD_BYTES + 1];
+    assert_eq!(operation_file::write_operations(&list, &mut file), Ok(()));
+    assert_eq!((&file[..3], file[418]), (&[0x4B, 0x4F, 5][..], 0xA5));
+    let refused = operation_file::write_operations(&list, &mut file[..417]);
+    assert_eq!(refused, Err(Refusal::TooShort { needed: 418 }));
+
+    let mut read = [GUARD; OP_WORDS + 1];
+    assert_eq!(operation_file::read_operations(&file[..418], &mut read), Ok(()));
+    assert_eq!((&read[..52], read[52]), (&list[..], GUARD));
+    let refused = operation_file::read_operations(&file, &mut read);
+    assert_eq!(refused, Err(Refusal::BadRecord { start: 418 }));
+
+    let mut tally = Tally::default();
+    tally.feed(&file[..13]);
+    assert_eq!(tally.clone().finish(), Err(Refusal::BadRecord { start: 0 }));
+    tally.feed(&file[13..418]);
+    assert_eq!(tally.fault(), None);
+    let sums = tally.clone().finish().expect("sums");
+    assert_eq!((sums.ops, sums.byte_alu, sums.are_bytes), (1, 19_393, 7_044));
+    tally.feed(&[0]);
+    assert_eq!(tally.fault(), Some(Refusal::BadRecord { start: 418 }));
+    assert_eq!(Tally::new().finish().map(|sums| sums.core_rows), Ok(4));
+}
+
+/// Each public function of the modules on tables stands in this file by its module's name, each method by its own.
+#[test]
+fn none_is_left_out() {
+    let here = include_str!("every_call.rs");
+    let mut functions = 0;
+    for module in [
+        "bitwise",
+        "is_wh",
+        "keccak",
+        "keccak_rc",
+        "keccak_rnd",
+        "operation_file",
+        "verdict",
+    ] {
+        let source = interface::host_source(&format!("{module}.rs"));
+        for line in source.lines() {
+            if let Some(function) = line.strip_prefix("pub fn ") {
+                let name = function.split('(').next().expect("a name");
+                assert!(here.contains(&format!(" {module}::{name}(")) || here.contains(&format!("({module}::{name}(")));
+                functions += 1;
+            } else if let Some(method) = line.strip_prefix("    pub fn ") {
+                let name = method.split('(').next().expect("a name");
+                assert!(
+                    here.contains(&format!(".{name}(")) || here.contains(&format!("::{name}(")),
+                    "{name}"
+                );
+                functions += 1;
+            }
+        }
+    }
+    // Those of the archive; two more that allocate a table, and the reader's fault.
+    assert_eq!(functions, interface::exports().len() + 3);
+}

@@ -1,0 +1,276 @@
+/*
+ * The proved Keccak tables, by C linkage: the functions of libkeccak_tables.a, which `rt staticlib keccak_tables` makes.
+ * crates/keccak_tables/src has the contract of each; host/tests/header.rs holds this page against it.
+ *
+ * A slice is a pointer, then a length: in words of 64 bits, or in bytes where the pointer is one to bytes. The pointer is not
+ * NULL, even where the length is 0, and is aligned; a slice that is written overlaps no other slice of the call. That is all
+ * that a caller has to keep; every number and every word is allowed, and the call answers:
+ *
+ *   number 0   it did its work: the slice begins with what is asked for, and the words past that are as they were;
+ *   number N   it is refused, and every word is as it was. The checks are made in the order of their numbers, those of one
+ *              number in the order of the arguments, and the first that refuses is told:
+ *
+ *   N  what is wrong                                                            detail
+ *   1  an index, kind, Z, round or number of operations past its end            the least number refused
+ *   2  a table or a list that is not whole rows or operations                   0 core, 1 round, 2 list
+ *   3  a slice too short                                                        the length needed
+ *   4  an address above 2^64 - 193: the 25 lanes would pass 2^64                the first such address
+ *   5  a column, a word of a judged table or a counter that is not below p      its place in the slice, from 0
+ *   6  a wrong mark or a cut record in an operation file                        the byte where the record starts
+ *
+ * A list of operations is flat, 52 words each: timestamp, address, 25 input lanes, 25 output lanes; lane (x, y) is at x + 5y.
+ * A row may be lent longer than its columns; the rest is neither read nor written.
+ */
+#ifndef KECCAK_TABLES_H
+#define KECCAK_TABLES_H
+
+#include <stddef.h>
+#include <stdint.h>
+
+#ifdef __cplusplus
+extern "C" {
+#endif
+
+/* p = 2^64 - 2^32 + 1: a field element is a word below it. */
+#define KECCAK_TABLES_P 0xFFFFFFFF00000001
+
+/* The words of an operation, the most operations of a list, the highest accepted address, the bytes of a file's record. */
+#define KECCAK_TABLES_OP_WORDS 52
+#define KECCAK_TABLES_MAX_OPS 89478485
+#define KECCAK_TABLES_LAST_ADDRESS 0xFFFFFFFFFFFFFF3F
+#define KECCAK_TABLES_RECORD_BYTES 418
+
+/* Bitwise rows: their number, the columns that the index fixes, all columns; the kinds of lookup; the counters. */
+#define KECCAK_TABLES_BITWISE_ROWS 1048576
+#define KECCAK_TABLES_BITWISE_FIXED_COLUMNS 11
+#define KECCAK_TABLES_BITWISE_COLUMNS 21
+#define KECCAK_TABLES_BITWISE_KINDS 10
+#define KECCAK_TABLES_BITWISE_COUNTERS 10485760
+
+/* Constant rows: their number, the columns that the row's number fixes, all columns, the words of the table. */
+#define KECCAK_TABLES_RC_ROWS 32
+#define KECCAK_TABLES_RC_FIXED_COLUMNS 9
+#define KECCAK_TABLES_RC_COLUMNS 10
+#define KECCAK_TABLES_RC_WORDS 320
+
+/* Rows of keys: their columns and tuples. */
+#define KECCAK_TABLES_IS_WH_COLUMNS 4
+#define KECCAK_TABLES_IS_WH_TUPLES 5
+
+/* Core rows: columns, values, tuples; the words of an operation's keys. */
+#define KECCAK_TABLES_CORE_COLUMNS 486
+#define KECCAK_TABLES_CORE_VALUES 52
+#define KECCAK_TABLES_CORE_TUPLES 84
+#define KECCAK_TABLES_KEY_WORDS 50
+
+/* Round rows: rounds of an operation, columns, values, tuples. */
+#define KECCAK_TABLES_ROUNDS 24
+#define KECCAK_TABLES_ROUND_COLUMNS 1480
+#define KECCAK_TABLES_ROUND_VALUES 141
+#define KECCAK_TABLES_ROUND_TUPLES 1031
+
+/* The most values that a tuple of any row has. */
+#define KECCAK_TABLES_MAX_TUPLE_LENGTH 203
+
+/* The answer of a call that only writes. */
+typedef struct keccak_tables_answer {
+    uint64_t number;
+    uint64_t detail;
+} keccak_tables_answer;
+
+/* The answer of a call that gives a number, 0 where it is refused. */
+typedef struct keccak_tables_number {
+    uint64_t number;
+    uint64_t detail;
+    uint64_t value;
+} keccak_tables_number;
+
+/*
+ * The answer of a call that gives a tuple; its values are in the lent slice. Buses: 0 ByteAlu, 1 AreBytes, 2 IsHalfword,
+ * 3 IsWh, 4 KeccakRc, 5 Keccak, 6 Memw, 7 Ecall, 8 Msb8, 9 Msb16, 10 Zero, 11 IsB20, 12 Hwsl. Sides: 0 sender, 1 receiver.
+ * Where it is refused, these four are 0.
+ */
+typedef struct keccak_tables_tuple {
+    uint64_t number;
+    uint64_t detail;
+    uint64_t bus;
+    uint64_t side;
+    uint64_t length;
+    uint64_t multiplicity;
+} keccak_tables_tuple;
+
+/* A key: bits 32 to 63 of a pointer, and bits 16 to 31. */
+typedef struct keccak_tables_key {
+    uint64_t word;
+    uint64_t half;
+} keccak_tables_key;
+
+/*
+ * A verdict. Kinds 1 to 6 are failures, in the order in which they are looked for, and then `first` is the table (0 core,
+ * 1 round), `second` the row and `third` the index of the value or tuple, all from 0:
+ *   1 core value   2 core lookup   3 a timestamp that an earlier active core row has   4 round value   5 round lookup
+ *   6 a Keccak tuple that is not sent as often as received
+ * Kind 0: both tables hold, `first` is the number of active core rows. Kind 7: refused, `first` is number, `second` detail.
+ */
+typedef struct keccak_tables_judgement {
+    uint64_t kind;
+    uint64_t first;
+    uint64_t second;
+    uint64_t third;
+} keccak_tables_judgement;
+
+/*
+ * Where a reader of an operation file stands: number and detail of the first fault, or 0 and 0 and then the whole records, the
+ * bytes of the next one, and what its address bytes so far make. Hand it from call to call as it is.
+ */
+typedef struct keccak_tables_cursor {
+    uint64_t number;
+    uint64_t detail;
+    uint64_t records;
+    size_t at;
+    uint64_t address;
+} keccak_tables_cursor;
+
+/* What a file's tables would hold and send: operations, heights, and per bus the sum of multiplicities (Ecall: received). */
+typedef struct keccak_tables_sums {
+    uint64_t number;
+    uint64_t detail;
+    uint64_t ops;
+    uint64_t core_rows;
+    uint64_t round_rows;
+    uint64_t byte_alu;
+    uint64_t are_bytes;
+    uint64_t keccak_rc;
+    uint64_t is_halfword;
+    uint64_t is_wh;
+    uint64_t memw;
+    uint64_t ecall;
+} keccak_tables_sums;
+
+/* ---- bitwise rows and their counters ---- */
+
+/* Writes the 11 fixed columns of row `index` = x + 256 y + 65,536 z. 1 index >= 1,048,576; 3 row < 11. */
+keccak_tables_answer keccak_tables_generate_bitwise_row(size_t index, uint64_t *row, size_t row_length);
+
+/* The index of the row of x, y and z. 1 z >= 16. */
+keccak_tables_number keccak_tables_bitwise_row_index(uint8_t x, uint8_t y, uint8_t z);
+
+/*
+ * Adds one, mod p, to the counter of a kind of lookup in the row of x, y and z, at row * 10 + kind. Kinds: 0 MSB8, 1 MSB16,
+ * 2 ZERO, 3 ARE_BYTES, 4 IS_HALF, 5 IS_B20, 6 HWSL, 7 AND, 8 OR, 9 XOR.
+ * 1 kind >= 10, then z >= 16; 3 counters < 10,485,760; 5 that counter is p or more.
+ */
+keccak_tables_answer keccak_tables_bitwise_bump(uint64_t *counters, size_t counters_length, size_t kind, uint8_t x, uint8_t y,
+                                                uint8_t z);
+
+/* Tuple `index` of a row of 21 columns. 1 index >= 10; 3 row < 21, then out < the tuple's length; 5 a column. */
+keccak_tables_tuple keccak_tables_bitwise_bus_interaction(const uint64_t *row, size_t row_length, size_t index, uint64_t *out,
+                                                          size_t out_length);
+
+/* ---- round constants ---- */
+
+/* Writes the 9 fixed columns of a constant row: its number, then the constant's bytes. 1 round >= 32; 3 out < 9. */
+keccak_tables_answer keccak_tables_keccak_rc_generate_row(size_t round, uint64_t *out, size_t out_length);
+
+/* Writes the 32 rows of 10 columns, every multiplicity 0. 3 table < 320. */
+keccak_tables_answer keccak_tables_generate_keccak_rc_trace(uint64_t *table, size_t table_length);
+
+/* Sets the multiplicities of rounds 0 to 23 to n. 1 n > 89,478,485; 3 table < 320. */
+keccak_tables_answer keccak_tables_keccak_rc_update_multiplicities(uint64_t *table, size_t table_length, uint64_t n);
+
+/* Tuple `index` of a row of 10 columns, of which it has one. 1 index >= 1; 3 row < 10, then out < 9; 5 a column. */
+keccak_tables_tuple keccak_tables_keccak_rc_bus_interaction(const uint64_t *row, size_t row_length, size_t index, uint64_t *out,
+                                                            size_t out_length);
+
+/* ---- keys of pointers ---- */
+
+/* The key of a number. Never refused. */
+keccak_tables_key keccak_tables_is_wh_key(uint64_t value);
+
+/* Tuple `index` of a row of 4 columns. 1 index >= 5; 3 row < 4, then out < the tuple's length; 5 a column. */
+keccak_tables_tuple keccak_tables_is_wh_bus_interaction(const uint64_t *row, size_t row_length, size_t index, uint64_t *out,
+                                                        size_t out_length);
+
+/* ---- the core table ---- */
+
+/*
+ * Writes the core row of operation `index` of a list.
+ * 1 more than 89,478,485 operations, then index >= their number; 2 the list; 3 row < 486; 4 the first high address of the list.
+ */
+keccak_tables_answer keccak_tables_keccak_row(const uint64_t *ops, size_t ops_length, size_t index, uint64_t *row,
+                                              size_t row_length);
+
+/* Writes the core table of a list. 1 more than 89,478,485 operations; 2 the list; 3 table < height * 486; 4 a high address. */
+keccak_tables_answer keccak_tables_generate_keccak_trace(const uint64_t *ops, size_t ops_length, uint64_t *table,
+                                                         size_t table_length);
+
+/* Writes the keys of a list, 25 to an operation. 1 more than 89,478,485 operations; 2 the list; 3 out < 50 n; 4 a high address. */
+keccak_tables_answer keccak_tables_is_wh_keys(const uint64_t *ops, size_t ops_length, uint64_t *out, size_t out_length);
+
+/* The height of the core table of n operations: the next power of two, at least 4. 1 n > 89,478,485. */
+keccak_tables_number keccak_tables_keccak_height(size_t n);
+
+/* Writes the 52 constraint values of a core row. 3 row < 486, then out < 52; 5 a column. */
+keccak_tables_answer keccak_tables_keccak_values(const uint64_t *row, size_t row_length, uint64_t *out, size_t out_length);
+
+/*
+ * Tuple `index` of a core row; `syscall` is the number of the system call, which stands in tuple 0.
+ * 1 index >= 84; 3 row < 486, then out < the tuple's length; 5 a column.
+ */
+keccak_tables_tuple keccak_tables_keccak_bus_interaction(const uint64_t *row, size_t row_length, size_t index, uint64_t syscall,
+                                                         uint64_t *out, size_t out_length);
+
+/* ---- the round table ---- */
+
+/* Writes the row of a round from the 25 lanes of START. 1 round >= 24; 3 start < 25, then row < 1,480. */
+keccak_tables_answer keccak_tables_keccak_rnd_row(uint64_t timestamp, const uint64_t *start, size_t start_length, size_t round,
+                                                  uint64_t *row, size_t row_length);
+
+/* Writes the round table of a list. 1 more than 89,478,485 operations; 2 the list; 3 table < height * 1,480; 4 a high address. */
+keccak_tables_answer keccak_tables_generate_keccak_rnd_trace(const uint64_t *ops, size_t ops_length, uint64_t *table,
+                                                             size_t table_length);
+
+/* The height of the round table of n operations: the next power of two of 24 n, at least 4. 1 n > 89,478,485. */
+keccak_tables_number keccak_tables_keccak_rnd_height(size_t n);
+
+/* How many AreBytes tuples the padding rows of that table send; 0 where n is 0. 1 n > 89,478,485. */
+keccak_tables_number keccak_tables_padding_are_bytes(size_t n);
+
+/* Writes the 141 constraint values of a round row. 3 row < 1,480, then out < 141; 5 a column. */
+keccak_tables_answer keccak_tables_keccak_rnd_values(const uint64_t *row, size_t row_length, uint64_t *out, size_t out_length);
+
+/* Tuple `index` of a round row. 1 index >= 1,031; 3 row < 1,480, then out < the tuple's length; 5 a column. */
+keccak_tables_tuple keccak_tables_keccak_rnd_bus_interaction(const uint64_t *row, size_t row_length, size_t index, uint64_t *out,
+                                                             size_t out_length);
+
+/* ---- the verdict ---- */
+
+/* Judges a core table and a round table, either possibly empty. 2 core, then round, is not whole rows; 5 a word, core first. */
+keccak_tables_judgement keccak_tables_verdict(const uint64_t *core, size_t core_length, const uint64_t *round,
+                                              size_t round_length);
+
+/* ---- operation files: records of 418 bytes, 4B 4F and then an operation's 52 words, lowest byte first ---- */
+
+/* A reader at the beginning of a file. Never refused. */
+keccak_tables_cursor keccak_tables_tally_start(void);
+
+/*
+ * Reads the next piece of the file, cut anywhere; a fault stays what it is. 1 a byte after record 89,478,485; 4 a record's
+ * address, once it is read whole; 6 a wrong mark.
+ */
+keccak_tables_cursor keccak_tables_tally_feed(keccak_tables_cursor cursor, const uint8_t *bytes, size_t bytes_length);
+
+/* What the file says at its end: the reader's fault, or 6 a cut record, or the sums. */
+keccak_tables_sums keccak_tables_tally_finish(keccak_tables_cursor cursor);
+
+/* Writes the operations of a whole file. 1, 4 and 6 as a reader gives them, for the first faulty record; then 3 ops < 52 n. */
+keccak_tables_answer keccak_tables_read_operations(const uint8_t *file, size_t file_length, uint64_t *ops, size_t ops_length);
+
+/* Writes the records of a list. 1 more than 89,478,485 operations; 2 the list; 3 file < 418 n; 4 a high address. */
+keccak_tables_answer keccak_tables_write_operations(const uint64_t *ops, size_t ops_length, uint8_t *file, size_t file_length);
+
+#ifdef __cplusplus
+}
+#endif
+
+#endif
