@@ -6,7 +6,7 @@ use lib.Dec.{leb, ltb}
 use lib.ListN.{length, getD, set}
 use Rattle.lists.specs.Tab.{word}
 use Rattle.field.specs.Field.{p, fadd}
-use Rattle.answer.specs.Refusal.{refuseIf, accepted}
+use Rattle.answer.specs.Refusal.{refuseIf, accepted, afterwards}
 use Rattle.answer.specs.declared.Refusal.{Refusal}
 use Rattle.answer.specs.declared.Refusal.the-variants.{PastEnd, TooShort, NotElement}
 use Rattle.bitwise.specs.Columns.{NUM-LOOKUP-TYPES, NUM-COUNTERS, Z-END}
@@ -28,3 +28,8 @@ bumpRefusal counters kind x y z =
     (refuseIf (ltb (length counters) NUM-COUNTERS) (TooShort NUM-COUNTERS)
     (refuseIf (leb p (word counters (counterAt kind x y z))) (NotElement (counterAt kind x y z))
     accepted)))
+
+-- What it leaves: the counter charged, or the old counters where it is refused.
+abbrev pub bumpAfter : List ℕ → ℕ → ℕ → ℕ → ℕ → List ℕ
+bumpAfter counters kind x y z =
+    afterwards (bumpRefusal counters kind x y z) (charge counters (counterAt kind x y z)) counters

@@ -8,7 +8,7 @@ use lib.Dec.{eqb, leb, ltb}
 use lib.ListN.{length}
 use Rattle.lists.specs.Tab.{pick}
 use Rattle.bits.specs.Bits.{hwsl, hwslCarry}
-use Rattle.answer.specs.Refusal.{refuseIf, accepted}
+use Rattle.answer.specs.Refusal.{refuseIf, accepted, overwrite, afterwards}
 use Rattle.answer.specs.declared.Refusal.{Refusal}
 use Rattle.answer.specs.declared.Refusal.the-variants.{PastEnd, TooShort}
 use Rattle.bitwise.specs.Columns.{NUM-ROWS, NUM-PRECOMPUTED-COLS, Z-END}
@@ -34,6 +34,10 @@ rowRefusal i row =
     refuseIf (leb NUM-ROWS i) (PastEnd NUM-ROWS)
     (refuseIf (ltb (length row) NUM-PRECOMPUTED-COLS) (TooShort NUM-PRECOMPUTED-COLS)
     accepted)
+
+-- What it leaves in the slice that it is lent: the row, or the old words where it is refused.
+abbrev pub bitwiseRowAfter : ℕ → List ℕ → List ℕ
+bitwiseRowAfter i row = afterwards (rowRefusal i row) (overwrite (bitwiseRow i) row) row
 
 -- What `row_index` refuses: 1 a Z of 16 or more.
 unfoldable pub indexRefusal : ℕ → Option Refusal

@@ -6,13 +6,13 @@ use bitwise::NUM_LOOKUP_TYPES;
 use bitwise::row_of;
 use field::Fe;
 ghost use mathlib.Core.Path.{_≡_};
-ghost use Rattle.answer.specs.Refusal.{answerOf, afterwards};
-ghost use Rattle.bitwise.specs.Counters.{counterAt, charge, bumpRefusal};
+ghost use Rattle.answer.specs.Refusal.{answerOf};
+ghost use Rattle.bitwise.specs.Counters.{bumpRefusal, bumpAfter};
 
 // One more, mod P, on the counter of a kind in the row of x, y and z.
 pub fn bump(counters: &mut [u64], kind: usize, x: u8, y: u8, z: u8) -> Answer
     ensures answer { λ r. ⌜ r ≡ answerOf (bumpRefusal (now (counters .entry)) kind x y z) ⌝ }
-    ensures words { λ r. ⌜ now (counters .exit) ≡ afterwards (bumpRefusal (now (counters .entry)) kind x y z) (charge (now (counters .entry)) (counterAt kind x y z)) (now (counters .entry)) ⌝ }
+    ensures words { λ r. ⌜ now (counters .exit) ≡ bumpAfter (now (counters .entry)) kind x y z ⌝ }
 {
     if kind >= NUM_LOOKUP_TYPES {
         return Answer::Refused(Refusal::PastEnd(NUM_LOOKUP_TYPES as u64));

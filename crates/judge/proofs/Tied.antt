@@ -1,7 +1,7 @@
 -- Demand 3 of what the two calls answer and write: `verdict` answers `verdictOf`, and `generate_keccak_rnd_trace` writes
 -- the round table of its operations, so what demand3 claims of these definitions holds of the calls. Assumes nothing.
---     Answered    what the contract of `verdict` says of its answer
---     Wrote       what the contract of `generate_keccak_rnd_trace` says of the words of the table
+--     Answered    what the contract of `verdict` says of its answer, in its words
+--     Wrote       what the contract of `generate_keccak_rnd_trace` says of the words of the table, in its words
 use mathlib.Core.Path.{_≡_, sym, ap, subst, _∙_}
 use mathlib.Core.Logic.{_↔_}
 use mathlib.Core.List.{List, _++_, append-nil}
@@ -12,11 +12,11 @@ use lib.ListN.{length, drop-of-length-le}
 use Rattle.lists.proofs.Laws.{length-table}
 use Rattle.answer.specs.Refusal.{overwrite, afterwards}
 use Rattle.answer.specs.declared.Refusal.{Refusal}
-use Rattle.keccak.specs.Height.{MIN-ROWS}
 use Rattle.keccak.specs.Row.{opAt}
 use Rattle.keccak.specs.Refusals.{opCount}
 use Rattle.keccak_rnd.specs.Row.{roundTable, roundHeight, roundRowAt}
 use Rattle.keccak_rnd.specs.Refusals.{traceRefusal}
+use Rattle.keccak_rnd.specs.Calls.{roundTraceAfter}
 use Rattle.verdict.specs.Kind.{actives}
 use Rattle.verdict.specs.CoreAndRound.{coreLayout, verdictOf}
 use Rattle.verdict.specs.Claims.{Supposed, Claims, Answers, EachActive, Computed, operations, ourRounds}
@@ -28,8 +28,7 @@ abbrev pub Answered : List ℕ → List ℕ → Verdict → Type 0
 Answered core round v = v ≡ verdictOf core round
 
 abbrev pub Wrote : List ℕ → List ℕ → List ℕ → Type 0
-Wrote ops before after =
-    after ≡ afterwards (traceRefusal (length before) ops) (overwrite (roundTable 24 MIN-ROWS (opCount ops) (opAt ops)) before) before
+Wrote ops before after = after ≡ roundTraceAfter ops before
 
 -- new words over a slice that is as long as they are
 whole : (new old : List ℕ) → length old ≡ length new → overwrite new old ≡ new

@@ -14,9 +14,10 @@ ghost use lib.Seq.{sets};
 ghost use Rattle.lists.specs.Tab.{tab};
 ghost use Rattle.lists.specs.First.{firstAt};
 ghost use Rattle.is_wh.specs.Key.{of-dword};
-ghost use Rattle.answer.specs.Refusal.{answerOf, overwrite, afterwards};
+ghost use Rattle.answer.specs.Refusal.{answerOf};
 ghost use Rattle.keccak.specs.Row.{OP-WORDS, KEY-WORDS, keyWord, pointerKey, keyWords, opAt};
-ghost use Rattle.keccak.specs.Refusals.{opCount, highAt, keysRefusal};
+ghost use Rattle.keccak.specs.Refusals.{highAt, keysRefusal};
+ghost use Rattle.keccak.specs.Calls.{keysAfter};
 
 // The key of a pointer.
 fn put_key(out: &mut [u64], at: usize, pointer: u64)
@@ -55,7 +56,7 @@ fn put_op_keys(ops: &[u64], n: usize, out: &mut [u64])
 // The IS_WH keys of a list of operations: per lane the pointer's upper 32 bits, then its bits 16 to 31.
 pub fn is_wh_keys(ops: &[u64], out: &mut [u64]) -> Answer
     ensures answer { λ r. ⌜ r ≡ answerOf (keysRefusal (length (now (out .entry))) (now (ops .entry))) ⌝ }
-    ensures words { λ r. ⌜ now (out .exit) ≡ afterwards (keysRefusal (length (now (out .entry))) (now (ops .entry))) (overwrite (keyWords (opCount (now (ops .entry))) (opAt (now (ops .entry)))) (now (out .entry))) (now (out .entry)) ⌝ }
+    ensures words { λ r. ⌜ now (out .exit) ≡ keysAfter (now (ops .entry)) (now (out .entry)) ⌝ }
 {
     let n = ops.len() / OP_WORDS;
     if n as u64 > MAX_OPS {

@@ -7,7 +7,7 @@ use lib.ListN.{length}
 use Rattle.lists.specs.Tab.{tab}
 use Rattle.bits.specs.Bits.{byteAt}
 use Rattle.fips202.specs.Tables.{roundConstant}
-use Rattle.answer.specs.Refusal.{refuseIf, accepted}
+use Rattle.answer.specs.Refusal.{refuseIf, accepted, overwrite, afterwards}
 use Rattle.answer.specs.declared.Refusal.{Refusal}
 use Rattle.answer.specs.declared.Refusal.the-variants.{PastEnd, TooShort}
 use Rattle.keccak_rc.specs.Columns.{NUM-ROWS, NUM-PRECOMPUTED-COLS}
@@ -22,3 +22,7 @@ rowRefusal r out =
     refuseIf (leb NUM-ROWS r) (PastEnd NUM-ROWS)
     (refuseIf (ltb (length out) NUM-PRECOMPUTED-COLS) (TooShort NUM-PRECOMPUTED-COLS)
     accepted)
+
+-- What it leaves in the slice that it is lent: the row, or the old words where it is refused.
+abbrev pub rcRowAfter : ℕ → List ℕ → List ℕ
+rcRowAfter r out = afterwards (rowRefusal r out) (overwrite (rcRow r) out) out

@@ -5,7 +5,7 @@ use mathlib.Core.Option.{Option}
 use lib.Dec.{ltb}
 use lib.ListN.{length, set}
 use Rattle.lists.specs.Tab.{tableOf, pick}
-use Rattle.answer.specs.Refusal.{refuseIf, accepted}
+use Rattle.answer.specs.Refusal.{refuseIf, accepted, overwrite, afterwards}
 use Rattle.answer.specs.Limits.{MAX-OPS}
 use Rattle.answer.specs.declared.Refusal.{Refusal}
 use Rattle.answer.specs.declared.Refusal.the-variants.{PastEnd, TooShort}
@@ -19,6 +19,10 @@ rcTable = tableOf NUM-ROWS NUM-COLUMNS (λ r. rcRow r ++ (0 ∷ []))
 -- What it refuses: 3 a table shorter than 32 rows.
 unfoldable pub traceRefusal : List ℕ → Option Refusal
 traceRefusal table = refuseIf (ltb (length table) TABLE-WORDS) (TooShort TABLE-WORDS) accepted
+
+-- What it leaves: the table, or the old words where it is refused.
+abbrev pub rcTraceAfter : List ℕ → List ℕ
+rcTraceAfter table = afterwards (traceRefusal table) (overwrite rcTable table) table
 
 -- A table with MU of the rows 0 to m - 1 set, that of row r to f r, and every other word as it was.
 unfoldable pub withMu : (ℕ → ℕ) → ℕ → List ℕ → List ℕ
@@ -39,3 +43,7 @@ updateRefusal table n =
     refuseIf (ltb MAX-OPS n) (PastEnd (MAX-OPS + 1))
     (refuseIf (ltb (length table) TABLE-WORDS) (TooShort TABLE-WORDS)
     accepted)
+
+-- What it leaves: the table with its MU, or the old words where it is refused.
+abbrev pub updateAfter : List ℕ → ℕ → List ℕ
+updateAfter table n = afterwards (updateRefusal table n) (updated 24 n table) table

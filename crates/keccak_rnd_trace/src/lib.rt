@@ -20,13 +20,14 @@ ghost use Prim.Native.Nat.{ℕ, _+_, _*_, _/_, _%_, _≤_};
 ghost use lib.ListN.{length};
 ghost use lib.Seq.{sets};
 ghost use Rattle.lists.specs.Tab.{tableOf};
-ghost use Rattle.answer.specs.Refusal.{answerOf, numberOf, overwrite, afterwards};
+ghost use Rattle.answer.specs.Refusal.{answerOf, numberOf};
 ghost use Rattle.keccak.specs.Height.{MIN-ROWS};
 ghost use Rattle.keccak.specs.Row.{OP-WORDS, opAt};
-ghost use Rattle.keccak.specs.Refusals.{opCount, countRefusal};
+ghost use Rattle.keccak.specs.Refusals.{countRefusal};
 ghost use Rattle.keccak_rnd.specs.Columns.{NUM-COLUMNS};
-ghost use Rattle.keccak_rnd.specs.Row.{opRow, roundRowAt, roundHeight, roundTable, padding-are-bytes};
+ghost use Rattle.keccak_rnd.specs.Row.{opRow, roundRowAt, roundHeight, padding-are-bytes};
 ghost use Rattle.keccak_rnd.specs.Refusals.{traceRefusal};
+ghost use Rattle.keccak_rnd.specs.Calls.{roundTraceAfter};
 ghost use Rattle.keccak_rnd.specs.Parts.{rowAfter};
 
 // The 24 rows of an operation, from `at`: each starts from the state that the rounds before it left.
@@ -71,7 +72,7 @@ fn put_round_rows(ops: &[u64], n: usize, h: usize, table: &mut [u64])
 // The round table of a list of operations.
 pub fn generate_keccak_rnd_trace(ops: &[u64], table: &mut [u64]) -> Answer
     ensures answer { λ r. ⌜ r ≡ answerOf (traceRefusal (length (now (table .entry))) (now (ops .entry))) ⌝ }
-    ensures words { λ r. ⌜ now (table .exit) ≡ afterwards (traceRefusal (length (now (table .entry))) (now (ops .entry))) (overwrite (roundTable 24 MIN-ROWS (opCount (now (ops .entry))) (opAt (now (ops .entry)))) (now (table .entry))) (now (table .entry)) ⌝ }
+    ensures words { λ r. ⌜ now (table .exit) ≡ roundTraceAfter (now (ops .entry)) (now (table .entry)) ⌝ }
 {
     let n = ops.len() / OP_WORDS;
     if n as u64 > MAX_OPS {

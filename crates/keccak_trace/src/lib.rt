@@ -22,11 +22,12 @@ ghost use lib.ListN.{length};
 ghost use lib.Seq.{sets};
 ghost use Rattle.lists.specs.Tab.{tab, tableOf};
 ghost use Rattle.lists.specs.First.{firstAt};
-ghost use Rattle.answer.specs.Refusal.{answerOf, numberOf, overwrite, afterwards};
+ghost use Rattle.answer.specs.Refusal.{answerOf, numberOf};
 ghost use Rattle.keccak.specs.Columns.{NUM-COLUMNS};
 ghost use Rattle.keccak.specs.Height.{height, MIN-ROWS};
-ghost use Rattle.keccak.specs.Row.{OP-WORDS, pointerLimb, coreRow, corePad, coreRowAt, coreTable, opAt};
-ghost use Rattle.keccak.specs.Refusals.{opCount, highAt, rowRefusal, traceRefusal, countRefusal};
+ghost use Rattle.keccak.specs.Row.{OP-WORDS, pointerLimb, coreRow, corePad, coreRowAt, opAt};
+ghost use Rattle.keccak.specs.Refusals.{highAt, rowRefusal, traceRefusal, countRefusal};
+ghost use Rattle.keccak.specs.Calls.{coreRowAfter, coreTraceAfter};
 
 // The pointers of the 25 lanes from an address.
 fn put_pointers(row: &mut [u64], at: usize, addr: u64)
@@ -103,7 +104,7 @@ fn put_core_rows(ops: &[u64], n: usize, h: usize, table: &mut [u64])
 // The row of operation `index` of a list.
 pub fn keccak_row(ops: &[u64], index: usize, row: &mut [u64]) -> Answer
     ensures answer { λ r. ⌜ r ≡ answerOf (rowRefusal (length (now (row .entry))) (now (ops .entry)) index) ⌝ }
-    ensures words { λ r. ⌜ now (row .exit) ≡ afterwards (rowRefusal (length (now (row .entry))) (now (ops .entry)) index) (overwrite (coreRow (opAt (now (ops .entry)) index)) (now (row .entry))) (now (row .entry)) ⌝ }
+    ensures words { λ r. ⌜ now (row .exit) ≡ coreRowAfter (now (ops .entry)) index (now (row .entry)) ⌝ }
 {
     let n = ops.len() / OP_WORDS;
     if n as u64 > MAX_OPS {
@@ -124,7 +125,7 @@ pub fn keccak_row(ops: &[u64], index: usize, row: &mut [u64]) -> Answer
 // The core table of a list of operations.
 pub fn generate_keccak_trace(ops: &[u64], table: &mut [u64]) -> Answer
     ensures answer { λ r. ⌜ r ≡ answerOf (traceRefusal (length (now (table .entry))) (now (ops .entry))) ⌝ }
-    ensures words { λ r. ⌜ now (table .exit) ≡ afterwards (traceRefusal (length (now (table .entry))) (now (ops .entry))) (overwrite (coreTable MIN-ROWS (opCount (now (ops .entry))) (opAt (now (ops .entry)))) (now (table .entry))) (now (table .entry)) ⌝ }
+    ensures words { λ r. ⌜ now (table .exit) ≡ coreTraceAfter (now (ops .entry)) (now (table .entry)) ⌝ }
 {
     let n = ops.len() / OP_WORDS;
     if n as u64 > MAX_OPS {

@@ -5,17 +5,21 @@ use mathlib.Core.Option.{Option}
 use lib.ListN.{length}
 use Rattle.lists.specs.Tab.{tableOf}
 use Rattle.lists.specs.First.{orElse}
-use Rattle.answer.specs.Refusal.{accepted}
+use Rattle.answer.specs.Refusal.{accepted, overwrite, afterwards}
 use Rattle.answer.specs.declared.Refusal.{Refusal}
 use Rattle.keccak.specs.Row.{OP-WORDS}
 use Rattle.keccak.specs.Refusals.{opCount, tooShort, operationsRefusal}
-use Rattle.op_file.specs.File.{RECORD-BYTES, recordsOf, firstFault}
+use Rattle.op_file.specs.File.{RECORD-BYTES, recordsOf, firstFault, fileWords}
 use Rattle.op_record.specs.Record.{recordBytes, wordsFrom}
 
 -- `read_operations`: the file as `tally` refuses it; then 3, a list too short for the words
 unfoldable pub readRefusal : List ℕ → ℕ → Option Refusal
 readRefusal file room =
     orElse (firstFault 0 0 (recordsOf file)) (tooShort room (length (recordsOf file) * OP-WORDS) accepted)
+
+-- what it leaves in the list that it is lent
+abbrev pub readAfter : List ℕ → List ℕ → List ℕ
+readAfter file ops = afterwards (readRefusal file (length ops)) (overwrite (fileWords file) ops) ops
 
 -- the records of a list of operations
 unfoldable pub fileBytes : List ℕ → List ℕ
@@ -24,3 +28,7 @@ fileBytes ops = tableOf (opCount ops) RECORD-BYTES (λ i. recordBytes (wordsFrom
 -- `write_operations`: 1, 2, 3 and 4 as in every call that takes a list of operations
 unfoldable pub writeRefusal : ℕ → List ℕ → Option Refusal
 writeRefusal room ops = operationsRefusal room (opCount ops * RECORD-BYTES) ops
+
+-- what it leaves in the bytes that it is lent
+abbrev pub writeAfter : List ℕ → List ℕ → List ℕ
+writeAfter ops file = afterwards (writeRefusal (length file) ops) (overwrite (fileBytes ops) file) file

@@ -16,10 +16,10 @@ ghost use Prim.Native.Nat.{_*_, _≤_};
 ghost use lib.ListN.{length, drop};
 ghost use lib.Seq.{sets};
 ghost use Rattle.lists.specs.Tab.{tableOf};
-ghost use Rattle.answer.specs.Refusal.{answerOf, overwrite, afterwards};
-ghost use Rattle.op_file.specs.File.{operationWords, fileWords};
+ghost use Rattle.answer.specs.Refusal.{answerOf};
+ghost use Rattle.op_file.specs.File.{operationWords};
 ghost use Rattle.op_record.specs.Record.{recordBytes, wordsFrom};
-ghost use Rattle.op_list.specs.Files.{readRefusal, fileBytes, writeRefusal};
+ghost use Rattle.op_list.specs.Files.{readRefusal, writeRefusal, readAfter, writeAfter};
 
 // The words of the first n records.
 fn put_operations(file: &[u8], n: usize, ops: &mut [u64])
@@ -36,7 +36,7 @@ fn put_operations(file: &[u8], n: usize, ops: &mut [u64])
 // The operations of a file, from the front of `ops` on.
 pub fn read_operations(file: &[u8], ops: &mut [u64]) -> Answer
     ensures answer { λ r. ⌜ r ≡ answerOf (readRefusal (now (file .entry)) (length (now (ops .entry)))) ⌝ }
-    ensures words { λ r. ⌜ now (ops .exit) ≡ afterwards (readRefusal (now (file .entry)) (length (now (ops .entry)))) (overwrite (fileWords (now (file .entry))) (now (ops .entry))) (now (ops .entry)) ⌝ }
+    ensures words { λ r. ⌜ now (ops .exit) ≡ readAfter (now (file .entry)) (now (ops .entry)) ⌝ }
 {
     let read = feed(start(), file);
     match finish(read) {
@@ -67,7 +67,7 @@ fn put_records(ops: &[u64], n: usize, file: &mut [u8])
 // The file of a list of operations, from the front of `file` on.
 pub fn write_operations(ops: &[u64], file: &mut [u8]) -> Answer
     ensures answer { λ r. ⌜ r ≡ answerOf (writeRefusal (length (now (file .entry))) (now (ops .entry))) ⌝ }
-    ensures words { λ r. ⌜ now (file .exit) ≡ afterwards (writeRefusal (length (now (file .entry))) (now (ops .entry))) (overwrite (fileBytes (now (ops .entry))) (now (file .entry))) (now (file .entry)) ⌝ }
+    ensures words { λ r. ⌜ now (file .exit) ≡ writeAfter (now (ops .entry)) (now (file .entry)) ⌝ }
 {
     let n = ops.len() / OP_WORDS;
     if n as u64 > MAX_OPS {
