@@ -9,8 +9,9 @@ use keccak;
 use keccak_rnd;
 use lists::Place;
 ghost use mathlib.Core.Path.{_≡_};
-ghost use mathlib.Core.Bool.{true};
+ghost use mathlib.Core.Bool.{true, not};
 ghost use Prim.Native.Nat.{_+_, _^_, _≤_, _<_};
+ghost use lib.Dec.{eqb};
 ghost use lib.ListN.{length};
 ghost use Rattle.lists.specs.Tab.{pick};
 ghost use Rattle.bus.specs.Words.{wordsTest};
@@ -151,7 +152,13 @@ struct Counts {
     received: usize,
 }
 
-// A count, with one more where there is one.
+// The counts of two tuples of one row.
+struct Both {
+    first: Counts,
+    second: Counts,
+}
+
+// A count, with one more if there is one.
 fn plus(n: usize, one: bool) -> usize
     requires { ⌜ n < 2 ^ 63 ⌝ }
     ensures { λ r. ⌜ r ≡ pick one (n + 1) n ⌝ }
@@ -189,13 +196,18 @@ fn add_core(core: &[u64], row: usize, x: &[u64], s: Port, t: Counts) -> Counts
     }
 }
 
-// How often the core rows from `from` on send the tuple s of the row x, and receive it.
-fn count_core(core: &[u64], from: usize, x: &[u64], s: Port) -> Counts
-    requires { ⌜ (from ≤ rows coreLayout (now core)) × (widthOf s ≤ length (now x)) ⌝ }
-    ensures { λ r. ⌜ CoreCounted (now (core .entry)) (tupleOf s (now (x .entry))) from (rows coreLayout (now (core .entry))) r ⌝ }
+// How often the core rows from `from` on send the tuples s and q of the row x, and receive them. Both tuples have the
+// row's timestamp, so one test of it passes over a row for both.
+fn count_core(core: &[u64], from: usize, x: &[u64], s: Port, q: Port) -> Both
+    requires { ⌜ (from ≤ rows coreLayout (now core)) × (widthOf s ≤ length (now x)) × (widthOf q ≤ length (now x)) ⌝ }
+    ensures { λ r. ⌜ CoreCounted (now (core .entry)) (tupleOf s (now (x .entry))) from (rows coreLayout (now (core .entry))) (r .first) × CoreCounted (now (core .entry)) (tupleOf q (now (x .entry))) from (rows coreLayout (now (core .entry))) (r .second) ⌝ }
 {
     let rows = core.len() / keccak::NUM_COLUMNS;
-    let mut t = Counts {
+    let mut first = Counts {
+        sent: 0,
+        received: 0,
+    };
+    let mut second = Counts {
         sent: 0,
         received: 0,
     };
@@ -204,11 +216,12 @@ fn count_core(core: &[u64], from: usize, x: &[u64], s: Port) -> Counts
         let start = row * keccak::NUM_COLUMNS;
         let end = start + keccak::NUM_COLUMNS;
         if same_stamp(x, &core[start..end]) {
-            t = add_core(core, row, x, s, t);
+            first = add_core(core, row, x, s, first);
+            second = add_core(core, row, x, q, second);
         }
         row += 1;
     }
-    t
+    Both { first, second }
 }
 
 // Whether round row `row` is active and has as its tuple `port` the tuple s of the row x. MU comes last: it stands on
@@ -238,13 +251,18 @@ fn add_round(round: &[u64], row: usize, x: &[u64], s: Port, t: Counts) -> Counts
     }
 }
 
-// How often the round rows from `from` on send the tuple s of the row x, and receive it.
-fn count_round(round: &[u64], from: usize, x: &[u64], s: Port) -> Counts
-    requires { ⌜ (from ≤ rows roundLayout (now round)) × (widthOf s ≤ length (now x)) ⌝ }
-    ensures { λ r. ⌜ RoundCounted (now (round .entry)) (tupleOf s (now (x .entry))) from (rows roundLayout (now (round .entry))) r ⌝ }
+// How often the round rows from `from` on send the tuples s and q of the row x, and receive them. Both tuples have the
+// row's timestamp, so one test of it passes over a row for both.
+fn count_round(round: &[u64], from: usize, x: &[u64], s: Port, q: Port) -> Both
+    requires { ⌜ (from ≤ rows roundLayout (now round)) × (widthOf s ≤ length (now x)) × (widthOf q ≤ length (now x)) ⌝ }
+    ensures { λ r. ⌜ RoundCounted (now (round .entry)) (tupleOf s (now (x .entry))) from (rows roundLayout (now (round .entry))) (r .first) × RoundCounted (now (round .entry)) (tupleOf q (now (x .entry))) from (rows roundLayout (now (round .entry))) (r .second) ⌝ }
 {
     let rows = round.len() / keccak_rnd::NUM_COLUMNS;
-    let mut t = Counts {
+    let mut first = Counts {
+        sent: 0,
+        received: 0,
+    };
+    let mut second = Counts {
         sent: 0,
         received: 0,
     };
@@ -253,22 +271,47 @@ fn count_round(round: &[u64], from: usize, x: &[u64], s: Port) -> Counts
         let start = row * keccak_rnd::NUM_COLUMNS;
         let end = start + keccak_rnd::NUM_COLUMNS;
         if same_stamp(x, &round[start..end]) {
-            t = add_round(round, row, x, s, t);
+            first = add_round(round, row, x, s, first);
+            second = add_round(round, row, x, q, second);
         }
         row += 1;
     }
-    t
+    Both { first, second }
 }
 
-// Whether the tuple s of the row x is sent and received in different numbers. What the walk passed is even, so only the
-// rows that it left are counted.
-fn is_uneven(core: &[u64], round: &[u64], a: usize, b: usize, x: &[u64], s: Port) -> bool
-    requires { ⌜ (a ≤ rows coreLayout (now core)) × (b ≤ rows roundLayout (now round)) × Even (now core) (now round) a b × (widthOf s ≤ length (now x)) ⌝ }
-    ensures { λ r. ⌜ r ≡ uneven (coreKind 24) roundKind (now (core .entry)) (now (round .entry)) (tupleOf s (now (x .entry))) ⌝ }
+// Whether the counts of both tables are different numbers of sends and receives.
+fn differ(t: Counts, u: Counts) -> bool
+    requires { ⌜ (t .sent < 2 ^ 63) × (t .received < 2 ^ 63) × (u .sent < 2 ^ 63) × (u .received < 2 ^ 63) ⌝ }
+    ensures { λ r. ⌜ r ≡ not (eqb (t .sent + u .sent) (t .received + u .received)) ⌝ }
 {
-    let t = count_core(core, a, x, s);
-    let u = count_round(round, b, x, s);
     t.sent + u.sent != t.received + u.received
+}
+
+// Which of two tuples are sent and received in different numbers.
+struct Unbalanced {
+    first: bool,
+    second: bool,
+}
+
+// Which of the tuples s and q of the row x are. What the walk passed is even, so only the rows that it left are counted.
+fn unbalanced_tuples(
+    core: &[u64],
+    round: &[u64],
+    a: usize,
+    b: usize,
+    x: &[u64],
+    s: Port,
+    q: Port,
+) -> Unbalanced
+    requires { ⌜ (a ≤ rows coreLayout (now core)) × (b ≤ rows roundLayout (now round)) × Even (now core) (now round) a b × (widthOf s ≤ length (now x)) × (widthOf q ≤ length (now x)) ⌝ }
+    ensures { λ r. ⌜ (r .first ≡ uneven (coreKind 24) roundKind (now (core .entry)) (now (round .entry)) (tupleOf s (now (x .entry)))) × (r .second ≡ uneven (coreKind 24) roundKind (now (core .entry)) (now (round .entry)) (tupleOf q (now (x .entry)))) ⌝ }
+{
+    let t = count_core(core, a, x, s, q);
+    let u = count_round(round, b, x, s, q);
+    Unbalanced {
+        first: differ(t.first, u.first),
+        second: differ(t.second, u.second),
+    }
 }
 
 // The first active core row with an unbalanced tuple: tuple 2, its send, or else tuple 3, its receive.
@@ -283,11 +326,14 @@ pub fn first_core_unbalanced(core: &[u64], round: &[u64], a: usize, b: usize) ->
         if core_active(core, row) {
             let start = row * keccak::NUM_COLUMNS;
             let end = start + keccak::NUM_COLUMNS;
-            if is_uneven(core, round, a, b, &core[start..end], Port::CoreSend) {
+            let send = Port::CoreSend;
+            let receive = Port::CoreReceive;
+            let u = unbalanced_tuples(core, round, a, b, &core[start..end], send, receive);
+            if u.first {
                 found = Spot::At { row, index: 2 };
                 break 'rows;
             }
-            if is_uneven(core, round, a, b, &core[start..end], Port::CoreReceive) {
+            if u.second {
                 found = Spot::At { row, index: 3 };
                 break 'rows;
             }
@@ -309,11 +355,14 @@ pub fn first_round_unbalanced(core: &[u64], round: &[u64], a: usize, b: usize) -
         if round_active(round, row) {
             let start = row * keccak_rnd::NUM_COLUMNS;
             let end = start + keccak_rnd::NUM_COLUMNS;
-            if is_uneven(core, round, a, b, &round[start..end], Port::RoundReceive) {
+            let receive = Port::RoundReceive;
+            let send = Port::RoundSend;
+            let u = unbalanced_tuples(core, round, a, b, &round[start..end], receive, send);
+            if u.first {
                 found = Spot::At { row, index: 0 };
                 break 'rows;
             }
-            if is_uneven(core, round, a, b, &round[start..end], Port::RoundSend) {
+            if u.second {
                 found = Spot::At { row, index: 1 };
                 break 'rows;
             }
