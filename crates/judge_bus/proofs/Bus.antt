@@ -9,17 +9,17 @@ use native.Mathlib.Omega.{arith}
 use borrow.Author.Tests.{eqb-true, eq-eqb}
 use lib.Dec.{eqb}
 use lib.ListN.{length, take, drop}
-use Rattle.lists.specs.Tab.{then}
+use Rattle.lists.specs.Tab.{then, pick}
 use Rattle.lists.specs.First.{first, inRow, firstIn, count}
 use Rattle.lists.proofs.First.{first-more, first-hit, count-more, count-skip, count-le, count-end}
-use Rattle.lists.proofs.Tests.{T-of}
+use Rattle.lists.proofs.Tests.{T-of, false-and}
 use Rattle.lists.specs.declared.Place.{Place}
 use Rattle.lists.specs.declared.Place.the-variants.{At, Nowhere}
 use Rattle.keccak.specs.Tuples.{coreTuple}
 use Rattle.keccak_rnd.specs.Tuples.{roundTuple}
 use Rattle.bus.specs.Words.{wordsTest}
 use Rattle.bus.proofs.Words.{words-sound}
-use Rattle.verdict.specs.Kind.{rows, row, active, sent, received}
+use Rattle.verdict.specs.Kind.{Layout, rows, row, active, sent, received, sameStamp}
 use Rattle.verdict.specs.Verdict.{uneven, badTuple}
 use Rattle.verdict.specs.CoreAndRound.{coreLayout, roundLayout, coreKind, roundKind}
 use Rattle.verdict.proofs.Tuples.{carriesAt, sent-count, received-count, core-bus, round-bus}
@@ -29,7 +29,9 @@ use Rattle.judge_scan.proofs.Scan.{part-is, part-long}
 use Rattle.judge_tuples.specs.Port.{tupleOf, widthOf}
 use Rattle.judge_tuples.specs.declared.Port.{Port}
 use Rattle.judge_tuples.specs.declared.Port.the-variants.{CoreSend, CoreReceive, RoundReceive, RoundSend}
-use Rattle.judge_bus.specs.Even.{coreCarries, roundCarries, Even, OfCore, OfRound, owedBy, Started, Reaches}
+use Rattle.judge_tuples.proofs.Ports.{stamp-apart}
+use Rattle.judge_bus.specs.Even.{coreCarries, roundCarries, Even, OfCore, OfRound, owedBy, Started, Reaches, withRow, Counted, CoreCounted, RoundCounted}
+use Rattle.judge_bus.specs.declared.Counts.{Counts}
 
 -- ---- rows as parts of a slice
 pub core-part : (core : List ℕ) (r : ℕ) → r < rows coreLayout core → take (r * 486 + 486 - r * 486) (drop (r * 486) core) ≡ row coreLayout core r
@@ -195,23 +197,76 @@ module _ (t : ℕ → Bool) (from : ℕ) where
   pub from-end : (n i k : ℕ) → i ≤ k → k ≤ i → n + count t from ≡ count t i → n + count t from ≡ count t k
   from-end n i k l g h = h ∙ count-end t i k l g
 
-pub core-off : (core : List ℕ) (port : Port) (v : List ℕ) (r : ℕ) → active coreLayout core r ≡ false → coreCarries core port v r ≡ false
-unfolding coreCarries
-core-off core port v r e = rw e
+-- the counts of the rows that send and of those that receive
+module _ (f g : ℕ → Bool) (from : ℕ) where
+  pub counts-start : Counted f g from from (record { sent = 0; received = 0 })
+  counts-start = record { sends = omega arith; receives = omega arith }
 
-pub core-on : (core : List ℕ) (port : Port) (v : List ℕ) (r : ℕ) (b : Bool) → r < rows coreLayout core → active coreLayout core r ≡ true →
-    b ≡ wordsTest v (tupleOf port (take (r * 486 + 486 - r * 486) (drop (r * 486) core))) → coreCarries core port v r ≡ b
-unfolding coreCarries
-core-on core port v r b l e h = rw e (sym (h ∙ ap (λ (x : List ℕ). wordsTest v (tupleOf port x)) (core-part core r l)))
+  from-row : (t : ℕ → Bool) (n i : ℕ) → n + count t from ≡ count t i → pick (t i) (n + 1) n + count t from ≡ count t (i + 1)
+  from-row t n i h = go (t i) refl
+    where
+      go : (b : Bool) → t i ≡ b → pick b (n + 1) n + count t from ≡ count t (i + 1)
+      go true e = from-more t from n (n + 1) i refl h e
+      go false e = from-skip t from n n i refl h e
 
-pub round-off : (round : List ℕ) (port : Port) (v : List ℕ) (r : ℕ) → active roundLayout round r ≡ false → roundCarries round port v r ≡ false
-unfolding roundCarries
-round-off round port v r e = rw e
+  module _ (i : ℕ) (t : Counts) (h : Counted f g from i t) where
+    pub counts-row : (u : Counts) → u ≡ withRow t (f i) (g i) → Counted f g from (i + 1) u
+    unfolding withRow
+    counts-row u e =
+        subst (Counted f g from (i + 1)) (sym e)
+        (record { sends = from-row f (t .sent) i (h .sends); receives = from-row g (t .received) i (h .receives) })
 
-pub round-on : (round : List ℕ) (port : Port) (v : List ℕ) (r : ℕ) (b : Bool) → r < rows roundLayout round → active roundLayout round r ≡ true →
-    b ≡ wordsTest v (tupleOf port (take (r * 1480 + 1480 - r * 1480) (drop (r * 1480) round))) → roundCarries round port v r ≡ b
-unfolding roundCarries
-round-on round port v r b l e h = rw e (sym (h ∙ ap (λ (x : List ℕ). wordsTest v (tupleOf port x)) (round-part round r l)))
+    pub counts-past : (u : Counts) → u ≡ t → f i ≡ false → g i ≡ false → Counted f g from (i + 1) u
+    counts-past u e a b =
+        subst (Counted f g from (i + 1)) (sym e)
+        (record { sends = from-skip f from _ _ i refl (h .sends) a; receives = from-skip g from _ _ i refl (h .receives) b })
+
+    pub counts-le : (t .sent ≤ i) × (t .received ≤ i)
+    counts-le = (from-le f from _ i (h .sends), from-le g from _ i (h .receives))
+
+    pub counts-end : (k : ℕ) → i ≤ k → k ≤ i → Counted f g from k t
+    counts-end k l m = record { sends = from-end f from _ i k l m (h .sends); receives = from-end g from _ i k l m (h .receives) }
+
+pub with-row : (t : Counts) (s r a b : Bool) (n m : ℕ) → s ≡ a → r ≡ b → n ≡ pick s (t .sent + 1) (t .sent) → m ≡ pick r (t .received + 1) (t .received) →
+    _≡_ {A = Counts} (record { sent = n; received = m }) (withRow t a b)
+unfolding withRow
+with-row t s r a b n m e f en em =
+    let es = en ∙ ap (λ (z : Bool). pick z (t .sent + 1) (t .sent)) e in
+    let er = em ∙ ap (λ (z : Bool). pick z (t .received + 1) (t .received)) f in λ j. record { sent = es j; received = er j }
+
+pub one-more : (b : Bool) (n : ℕ) → b ≡ true → n + 1 ≡ pick b (n + 1) n
+one-more b n e = sym (rw e)
+
+pub no-more : (b : Bool) (n : ℕ) → b ≡ false → n ≡ pick b (n + 1) n
+no-more b n e = sym (rw e)
+
+-- one row, as a part of the slice: what the code finds of it, one test after the other
+and-on : (a b : Bool) → b ≡ true → (a && b) ≡ a
+and-on true b e = e
+and-on false b e = refl
+
+module _ (A : Layout) (ws : List ℕ) (r : ℕ) (l : r < rows A ws) where
+  abbrev part : List ℕ
+  part = take (r * A .width + A .width - r * A .width) (drop (r * A .width) ws)
+
+  pub row-stamped : 2 ≤ A .width → 2 ≤ length part
+  row-stamped h = omega (arith, part-long (A .width) ws r l)
+
+  pub stamp-other : (x : List ℕ) (s port : Port) (b : Bool) → b ≡ sameStamp x part → b ≡ false →
+      (active A ws r && wordsTest (tupleOf s x) (tupleOf port (row A ws r))) ≡ false
+  stamp-other x s port b e f =
+      false-and (active A ws r) (wordsTest (tupleOf s x) (tupleOf port (row A ws r)))
+      (λ z. stamp-apart s x port (row A ws r) (ap (sameStamp x) (sym (part-is (A .width) ws r l)) ∙ sym e ∙ f))
+
+  module _ (port : Port) (v : List ℕ) (b : Bool) (e : b ≡ wordsTest v (tupleOf port part)) where
+    here : b ≡ wordsTest v (tupleOf port (row A ws r))
+    here = e ∙ ap (λ (y : List ℕ). wordsTest v (tupleOf port y)) (part-is (A .width) ws r l)
+
+    pub tuple-other : b ≡ false → false ≡ (active A ws r && wordsTest v (tupleOf port (row A ws r)))
+    tuple-other f = sym (false-and (active A ws r) (wordsTest v (tupleOf port (row A ws r))) (λ z. sym here ∙ f))
+
+    pub tuple-same : b ≡ true → (c : Bool) → c ≡ active A ws r → c ≡ (active A ws r && wordsTest v (tupleOf port (row A ws r)))
+    tuple-same f c g = g ∙ sym (and-on (active A ws r) (wordsTest v (tupleOf port (row A ws r))) (sym here ∙ f))
 
 eqb-same : (a b c d : ℕ) → (a ≡ b → c ≡ d) → (c ≡ d → a ≡ b) → eqb a b ≡ eqb c d
 eqb-same a b c d f g = go (eqb a b) (eqb c d) refl refl
@@ -223,20 +278,18 @@ eqb-same a b c d f g = go (eqb a b) (eqb c d) refl refl
     go false true p q = sym p ∙ eq-eqb a b (g (eqb-true c d q))
 
 module _ (core round v : List ℕ) where
-  pub uneven-left : (a b cs rs cr rr : ℕ) → Even core round a b →
-      cs + count (coreCarries core CoreSend v) a ≡ count (coreCarries core CoreSend v) (rows coreLayout core) →
-      rs + count (roundCarries round RoundSend v) b ≡ count (roundCarries round RoundSend v) (rows roundLayout round) →
-      cr + count (coreCarries core CoreReceive v) a ≡ count (coreCarries core CoreReceive v) (rows coreLayout core) →
-      rr + count (roundCarries round RoundReceive v) b ≡ count (roundCarries round RoundReceive v) (rows roundLayout round) →
-      not (eqb (cs + rs) (cr + rr)) ≡ uneven (coreKind 24) roundKind core round v
+  pub uneven-left : (a b : ℕ) (t u : Counts) → Even core round a b →
+      CoreCounted core v a (rows coreLayout core) t → RoundCounted round v b (rows roundLayout round) u →
+      not (eqb (t .sent + u .sent) (t .received + u .received)) ≡ uneven (coreKind 24) roundKind core round v
   unfolding Even uneven
-  uneven-left a b cs rs cr rr h e f g i =
+  uneven-left a b t u h c d =
       let es = sent-count (core-bus 24) core v ∙ sym (counts (core-sends core v) (rows coreLayout core)) in
       let fs = sent-count round-bus round v ∙ sym (counts (round-sends round v) (rows roundLayout round)) in
       let er = received-count (core-bus 24) core v ∙ sym (counts (core-receives core v) (rows coreLayout core)) in
       let fr = received-count round-bus round v ∙ sym (counts (round-receives round v) (rows roundLayout round)) in
-      ap not (eqb-same (cs + rs) (cr + rr) (sent (coreKind 24) core v + sent roundKind round v) (received (coreKind 24) core v + received roundKind round v)
-      (λ z. omega (arith, h v, es, fs, er, fr)) (λ z. omega (arith, h v, es, fs, er, fr)))
+      ap not (eqb-same (t .sent + u .sent) (t .received + u .received) (sent (coreKind 24) core v + sent roundKind round v) (received (coreKind 24) core v + received roundKind round v)
+      (λ z. omega (arith, h v, es, fs, er, fr, c .sends, c .receives, d .sends, d .receives))
+      (λ z. omega (arith, h v, es, fs, er, fr, c .sends, c .receives, d .sends, d .receives)))
 
 -- ---- the scan of two indices of a row
 module _ (bad : ℕ → ℕ → Bool) (act : ℕ → Bool) (u : ℕ → ℕ → Bool) (m lo hi : ℕ) (l : lo < hi) (h : hi < m)

@@ -1,10 +1,12 @@
 -- What the walk and the counts keep of the Keccak bus. Assumes nothing.
 --     Even       the first rows of both tables send and receive the same tuples, each equally often
+--     Counted    how many rows from one on and before another send and receive a tuple
 --     Reaches    where a core row's chain of round rows ends, it and its chain are even
 use mathlib.Core.Path.{_≡_}
 use mathlib.Core.Bool.{Bool, _&&_}
 use mathlib.Core.List.{List}
 use Prim.Native.Nat.{ℕ, _+_, _≤_, _<_}
+use Rattle.lists.specs.Tab.{pick}
 use Rattle.lists.specs.First.{count}
 use Rattle.lists.specs.declared.Place.{Place}
 use Rattle.lists.specs.declared.Place.the-variants.{At, Nowhere}
@@ -14,6 +16,7 @@ use Rattle.verdict.specs.CoreAndRound.{coreLayout, roundLayout}
 use Rattle.judge_tuples.specs.Port.{tupleOf}
 use Rattle.judge_tuples.specs.declared.Port.{Port}
 use Rattle.judge_tuples.specs.declared.Port.the-variants.{CoreSend, CoreReceive, RoundReceive, RoundSend}
+use Rattle.judge_bus.specs.declared.Counts.{Counts}
 
 -- whether row r is active and has, as its tuple `port`, the tuple v
 unfoldable pub coreCarries : List ℕ → Port → List ℕ → ℕ → Bool
@@ -40,6 +43,22 @@ OfRound CoreSend = ⊥
 OfRound CoreReceive = ⊥
 OfRound RoundReceive = Unit {0}
 OfRound RoundSend = Unit {0}
+
+-- counts of rows that send and of rows that receive, with one row more
+unfoldable pub withRow : Counts → Bool → Bool → Counts
+withRow t sends receives = record { sent = pick sends (t .sent + 1) (t .sent); received = pick receives (t .received + 1) (t .received) }
+
+-- the counts of the rows from `from` on and before n, where f says which rows send and g which receive
+pub record Counted (f g : ℕ → Bool) (from n : ℕ) (t : Counts) : Type 0 where
+  pub sends : t .sent + count f from ≡ count f n
+  pub receives : t .received + count g from ≡ count g n
+
+-- those of the tuple v over core rows, and over round rows
+abbrev pub CoreCounted : List ℕ → List ℕ → ℕ → ℕ → Counts → Type 0
+CoreCounted core v from n t = Counted (coreCarries core CoreSend v) (coreCarries core CoreReceive v) from n t
+
+abbrev pub RoundCounted : List ℕ → List ℕ → ℕ → ℕ → Counts → Type 0
+RoundCounted round v from n t = Counted (roundCarries round RoundSend v) (roundCarries round RoundReceive v) from n t
 
 -- the tuple that is owed in the chain of core row a: what the last round row of the chain sent, or what row a sent
 unfoldable pub owedBy : List ℕ → ℕ → List ℕ → Place → List ℕ

@@ -3,23 +3,25 @@ use judge_scan::Spot;
 use judge_scan::core_active;
 use judge_scan::round_active;
 use judge_tuples::Port;
+use judge_tuples::same_stamp;
 use judge_tuples::same_tuple;
 use keccak;
 use keccak_rnd;
 use lists::Place;
 ghost use mathlib.Core.Path.{_≡_};
-ghost use mathlib.Core.Bool.{true};
-ghost use Prim.Native.Nat.{_+_, _≤_, _<_};
+ghost use mathlib.Core.Bool.{true, not};
+ghost use Prim.Native.Nat.{_+_, _^_, _≤_, _<_};
+ghost use lib.Dec.{eqb};
 ghost use lib.ListN.{length};
-ghost use Rattle.lists.specs.First.{count};
+ghost use Rattle.lists.specs.Tab.{pick};
 ghost use Rattle.bus.specs.Words.{wordsTest};
 ghost use Rattle.verdict.specs.Kind.{rows, row, active};
 ghost use Rattle.verdict.specs.Verdict.{uneven, firstUnbalanced};
 ghost use Rattle.verdict.specs.CoreAndRound.{coreLayout, roundLayout, coreKind, roundKind};
 ghost use Rattle.judge_scan.specs.Spot.{spotOf};
 ghost use Rattle.judge_tuples.specs.Port.{widthOf, tupleOf};
-ghost use Rattle.judge_tuples.specs.declared.Port.the-variants.{CoreReceive, RoundReceive, RoundSend};
-ghost use Rattle.judge_bus.specs.Even.{Even, Reaches, Started, owedBy, coreCarries, roundCarries, OfCore, OfRound};
+ghost use Rattle.judge_tuples.specs.declared.Port.the-variants.{CoreSend, CoreReceive, RoundReceive, RoundSend};
+ghost use Rattle.judge_bus.specs.Even.{Even, Reaches, Started, owedBy, coreCarries, roundCarries, OfCore, OfRound, withRow, CoreCounted, RoundCounted};
 
 // ---- the walk
 // Whether round row q receives what is owed: what core row a sent, or what the last row of its chain sent.
@@ -144,59 +146,172 @@ pub fn walk(core: &[u64], round: &[u64]) -> Walked
 }
 
 // ---- the counts
-// How many active core rows from `from` on have as their tuple `port` the tuple s of the row x.
-fn count_core(core: &[u64], from: usize, port: Port, x: &[u64], s: Port) -> usize
-    requires { ⌜ (from ≤ rows coreLayout (now core)) × OfCore port × (widthOf s ≤ length (now x)) ⌝ }
-    ensures { λ r. ⌜ r + count (coreCarries (now (core .entry)) port (tupleOf s (now (x .entry)))) from ≡ count (coreCarries (now (core .entry)) port (tupleOf s (now (x .entry)))) (rows coreLayout (now (core .entry))) ⌝ }
+// How often rows send a tuple, and how often they receive it.
+struct Counts {
+    sent: usize,
+    received: usize,
+}
+
+// The counts of two tuples of one row.
+struct Both {
+    first: Counts,
+    second: Counts,
+}
+
+// A count, with one more if there is one.
+fn plus(n: usize, one: bool) -> usize
+    requires { ⌜ n < 2 ^ 63 ⌝ }
+    ensures { λ r. ⌜ r ≡ pick one (n + 1) n ⌝ }
+{
+    if one {
+        return n + 1;
+    }
+    n
+}
+
+// Whether core row `row` is active and has as its tuple `port` the tuple s of the row x. MU comes last: it stands on
+// another page than the timestamp.
+fn core_carries(core: &[u64], row: usize, port: Port, x: &[u64], s: Port) -> bool
+    requires { ⌜ (row < rows coreLayout (now core)) × OfCore port × (widthOf s ≤ length (now x)) ⌝ }
+    ensures { λ r. ⌜ r ≡ coreCarries (now (core .entry)) port (tupleOf s (now (x .entry))) row ⌝ }
+{
+    let start = row * keccak::NUM_COLUMNS;
+    let end = start + keccak::NUM_COLUMNS;
+    if !same_tuple(x, s, &core[start..end], port) {
+        return false;
+    }
+    core_active(core, row)
+}
+
+// The counts of the tuple s of the row x, with core row `row` added.
+fn add_core(core: &[u64], row: usize, x: &[u64], s: Port, t: Counts) -> Counts
+    requires { ⌜ (row < rows coreLayout (now core)) × (widthOf s ≤ length (now x)) × (t .sent ≤ row) × (t .received ≤ row) ⌝ }
+    ensures { λ r. ⌜ r ≡ withRow t (coreCarries (now (core .entry)) CoreSend (tupleOf s (now (x .entry))) row) (coreCarries (now (core .entry)) CoreReceive (tupleOf s (now (x .entry))) row) ⌝ }
+{
+    let sends = core_carries(core, row, Port::CoreSend, x, s);
+    let receives = core_carries(core, row, Port::CoreReceive, x, s);
+    Counts {
+        sent: plus(t.sent, sends),
+        received: plus(t.received, receives),
+    }
+}
+
+// How often the core rows from `from` on send the tuples s and q of the row x, and receive them. Both tuples have the
+// row's timestamp, so one test of it passes over a row for both.
+fn count_core(core: &[u64], from: usize, x: &[u64], s: Port, q: Port) -> Both
+    requires { ⌜ (from ≤ rows coreLayout (now core)) × (widthOf s ≤ length (now x)) × (widthOf q ≤ length (now x)) ⌝ }
+    ensures { λ r. ⌜ CoreCounted (now (core .entry)) (tupleOf s (now (x .entry))) from (rows coreLayout (now (core .entry))) (r .first) × CoreCounted (now (core .entry)) (tupleOf q (now (x .entry))) from (rows coreLayout (now (core .entry))) (r .second) ⌝ }
 {
     let rows = core.len() / keccak::NUM_COLUMNS;
-    let mut n = 0;
+    let mut first = Counts {
+        sent: 0,
+        received: 0,
+    };
+    let mut second = Counts {
+        sent: 0,
+        received: 0,
+    };
     let mut row = from;
     while row < rows {
-        if core_active(core, row) {
-            let start = row * keccak::NUM_COLUMNS;
-            let end = start + keccak::NUM_COLUMNS;
-            if same_tuple(x, s, &core[start..end], port) {
-                n += 1;
-            }
+        let start = row * keccak::NUM_COLUMNS;
+        let end = start + keccak::NUM_COLUMNS;
+        if same_stamp(x, &core[start..end]) {
+            first = add_core(core, row, x, s, first);
+            second = add_core(core, row, x, q, second);
         }
         row += 1;
     }
-    n
+    Both { first, second }
 }
 
-// The same of round rows.
-fn count_round(round: &[u64], from: usize, port: Port, x: &[u64], s: Port) -> usize
-    requires { ⌜ (from ≤ rows roundLayout (now round)) × OfRound port × (widthOf s ≤ length (now x)) ⌝ }
-    ensures { λ r. ⌜ r + count (roundCarries (now (round .entry)) port (tupleOf s (now (x .entry)))) from ≡ count (roundCarries (now (round .entry)) port (tupleOf s (now (x .entry)))) (rows roundLayout (now (round .entry))) ⌝ }
+// Whether round row `row` is active and has as its tuple `port` the tuple s of the row x. MU comes last: it stands on
+// another page than the timestamp.
+fn round_carries(round: &[u64], row: usize, port: Port, x: &[u64], s: Port) -> bool
+    requires { ⌜ (row < rows roundLayout (now round)) × OfRound port × (widthOf s ≤ length (now x)) ⌝ }
+    ensures { λ r. ⌜ r ≡ roundCarries (now (round .entry)) port (tupleOf s (now (x .entry))) row ⌝ }
+{
+    let start = row * keccak_rnd::NUM_COLUMNS;
+    let end = start + keccak_rnd::NUM_COLUMNS;
+    if !same_tuple(x, s, &round[start..end], port) {
+        return false;
+    }
+    round_active(round, row)
+}
+
+// The counts of the tuple s of the row x, with round row `row` added.
+fn add_round(round: &[u64], row: usize, x: &[u64], s: Port, t: Counts) -> Counts
+    requires { ⌜ (row < rows roundLayout (now round)) × (widthOf s ≤ length (now x)) × (t .sent ≤ row) × (t .received ≤ row) ⌝ }
+    ensures { λ r. ⌜ r ≡ withRow t (roundCarries (now (round .entry)) RoundSend (tupleOf s (now (x .entry))) row) (roundCarries (now (round .entry)) RoundReceive (tupleOf s (now (x .entry))) row) ⌝ }
+{
+    let sends = round_carries(round, row, Port::RoundSend, x, s);
+    let receives = round_carries(round, row, Port::RoundReceive, x, s);
+    Counts {
+        sent: plus(t.sent, sends),
+        received: plus(t.received, receives),
+    }
+}
+
+// How often the round rows from `from` on send the tuples s and q of the row x, and receive them. Both tuples have the
+// row's timestamp, so one test of it passes over a row for both.
+fn count_round(round: &[u64], from: usize, x: &[u64], s: Port, q: Port) -> Both
+    requires { ⌜ (from ≤ rows roundLayout (now round)) × (widthOf s ≤ length (now x)) × (widthOf q ≤ length (now x)) ⌝ }
+    ensures { λ r. ⌜ RoundCounted (now (round .entry)) (tupleOf s (now (x .entry))) from (rows roundLayout (now (round .entry))) (r .first) × RoundCounted (now (round .entry)) (tupleOf q (now (x .entry))) from (rows roundLayout (now (round .entry))) (r .second) ⌝ }
 {
     let rows = round.len() / keccak_rnd::NUM_COLUMNS;
-    let mut n = 0;
+    let mut first = Counts {
+        sent: 0,
+        received: 0,
+    };
+    let mut second = Counts {
+        sent: 0,
+        received: 0,
+    };
     let mut row = from;
     while row < rows {
-        if round_active(round, row) {
-            let start = row * keccak_rnd::NUM_COLUMNS;
-            let end = start + keccak_rnd::NUM_COLUMNS;
-            if same_tuple(x, s, &round[start..end], port) {
-                n += 1;
-            }
+        let start = row * keccak_rnd::NUM_COLUMNS;
+        let end = start + keccak_rnd::NUM_COLUMNS;
+        if same_stamp(x, &round[start..end]) {
+            first = add_round(round, row, x, s, first);
+            second = add_round(round, row, x, q, second);
         }
         row += 1;
     }
-    n
+    Both { first, second }
 }
 
-// Whether the tuple s of the row x is sent and received in different numbers. What the walk passed is even, so only the
-// rows that it left are counted.
-fn is_uneven(core: &[u64], round: &[u64], a: usize, b: usize, x: &[u64], s: Port) -> bool
-    requires { ⌜ (a ≤ rows coreLayout (now core)) × (b ≤ rows roundLayout (now round)) × Even (now core) (now round) a b × (widthOf s ≤ length (now x)) ⌝ }
-    ensures { λ r. ⌜ r ≡ uneven (coreKind 24) roundKind (now (core .entry)) (now (round .entry)) (tupleOf s (now (x .entry))) ⌝ }
+// Whether the counts of both tables are different numbers of sends and receives.
+fn differ(t: Counts, u: Counts) -> bool
+    requires { ⌜ (t .sent < 2 ^ 63) × (t .received < 2 ^ 63) × (u .sent < 2 ^ 63) × (u .received < 2 ^ 63) ⌝ }
+    ensures { λ r. ⌜ r ≡ not (eqb (t .sent + u .sent) (t .received + u .received)) ⌝ }
 {
-    let core_sent = count_core(core, a, Port::CoreSend, x, s);
-    let round_sent = count_round(round, b, Port::RoundSend, x, s);
-    let core_received = count_core(core, a, Port::CoreReceive, x, s);
-    let round_received = count_round(round, b, Port::RoundReceive, x, s);
-    core_sent + round_sent != core_received + round_received
+    t.sent + u.sent != t.received + u.received
+}
+
+// Which of two tuples are sent and received in different numbers.
+struct Unbalanced {
+    first: bool,
+    second: bool,
+}
+
+// Which of the tuples s and q of the row x are. What the walk passed is even, so only the rows that it left are counted.
+fn unbalanced_tuples(
+    core: &[u64],
+    round: &[u64],
+    a: usize,
+    b: usize,
+    x: &[u64],
+    s: Port,
+    q: Port,
+) -> Unbalanced
+    requires { ⌜ (a ≤ rows coreLayout (now core)) × (b ≤ rows roundLayout (now round)) × Even (now core) (now round) a b × (widthOf s ≤ length (now x)) × (widthOf q ≤ length (now x)) ⌝ }
+    ensures { λ r. ⌜ (r .first ≡ uneven (coreKind 24) roundKind (now (core .entry)) (now (round .entry)) (tupleOf s (now (x .entry)))) × (r .second ≡ uneven (coreKind 24) roundKind (now (core .entry)) (now (round .entry)) (tupleOf q (now (x .entry)))) ⌝ }
+{
+    let t = count_core(core, a, x, s, q);
+    let u = count_round(round, b, x, s, q);
+    Unbalanced {
+        first: differ(t.first, u.first),
+        second: differ(t.second, u.second),
+    }
 }
 
 // The first active core row with an unbalanced tuple: tuple 2, its send, or else tuple 3, its receive.
@@ -211,11 +326,14 @@ pub fn first_core_unbalanced(core: &[u64], round: &[u64], a: usize, b: usize) ->
         if core_active(core, row) {
             let start = row * keccak::NUM_COLUMNS;
             let end = start + keccak::NUM_COLUMNS;
-            if is_uneven(core, round, a, b, &core[start..end], Port::CoreSend) {
+            let send = Port::CoreSend;
+            let receive = Port::CoreReceive;
+            let u = unbalanced_tuples(core, round, a, b, &core[start..end], send, receive);
+            if u.first {
                 found = Spot::At { row, index: 2 };
                 break 'rows;
             }
-            if is_uneven(core, round, a, b, &core[start..end], Port::CoreReceive) {
+            if u.second {
                 found = Spot::At { row, index: 3 };
                 break 'rows;
             }
@@ -237,11 +355,14 @@ pub fn first_round_unbalanced(core: &[u64], round: &[u64], a: usize, b: usize) -
         if round_active(round, row) {
             let start = row * keccak_rnd::NUM_COLUMNS;
             let end = start + keccak_rnd::NUM_COLUMNS;
-            if is_uneven(core, round, a, b, &round[start..end], Port::RoundReceive) {
+            let receive = Port::RoundReceive;
+            let send = Port::RoundSend;
+            let u = unbalanced_tuples(core, round, a, b, &round[start..end], receive, send);
+            if u.first {
                 found = Spot::At { row, index: 0 };
                 break 'rows;
             }
-            if is_uneven(core, round, a, b, &round[start..end], Port::RoundSend) {
+            if u.second {
                 found = Spot::At { row, index: 1 };
                 break 'rows;
             }

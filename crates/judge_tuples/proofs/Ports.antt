@@ -22,6 +22,7 @@ use Rattle.keccak_rnd.proofs.Active.{of-200}
 use Rattle.keccak_rnd.proofs.Step.{keccak-same}
 use Rattle.bus.specs.Words.{wordsTest}
 use Rattle.bus.proofs.Words.{words-sound, words-same}
+use Rattle.verdict.specs.Kind.{sameStamp}
 use Rattle.verdict.proofs.Rows.{lt-or-ge}
 use Rattle.judge_tuples.specs.Port.{tupleOf, widthOf, roundOf, laneAt, restAt, apart, sameState}
 use Rattle.judge_tuples.specs.declared.Port.{Port}
@@ -113,6 +114,19 @@ either true b f g = sym (f refl)
 either false true f g = g refl
 either false false f g = refl
 
+and-and : (a b c : Bool) → (a && (b && c)) ≡ ((a && b) && c)
+and-and true b c = refl
+and-and false b c = refl
+
+-- two timestamps: the low words decide, then the high ones
+pub low-apart : (x y : List ℕ) → (word x 0 ≡ word y 0 → ⊥) → false ≡ sameStamp x y
+unfolding sameStamp
+low-apart x y n = sym (rw (ne-eqb (word x 0) (word y 0) n))
+
+pub by-high : (x y : List ℕ) → word x 0 ≡ word y 0 → eqb (word x 1) (word y 1) ≡ sameStamp x y
+unfolding sameStamp
+by-high x y e = sym (rw (eq-eqb (word x 0) (word y 0) e))
+
 -- the states of two tuples in the order of the bus
 abbrev spread : Port → List ℕ → List ℕ
 spread s x = tab 200 (byXYB (cell s x))
@@ -164,27 +178,23 @@ module _ (s : Port) (x : List ℕ) (q : Port) (y : List ℕ) where
       (λ e. words-columns (spread-words (words-sound _ _ (T-of _ e))))
       (λ e. T-true _ (subst (λ (v : List ℕ). T (wordsTest (spread s x) v)) (words-spread (columns-words e)) (words-same (spread s x))))
 
-  pub tuple-test : wordsTest (tupleOf s x) (tupleOf q y) ≡
-      (eqb (word x 0) (word y 0) && (eqb (word x 1) (word y 1) && (eqb (roundOf s x) (roundOf q y) && sameState s x q y)))
-  unfolding keccakValues wordsTest
+  pub tuple-test : wordsTest (tupleOf s x) (tupleOf q y) ≡ (sameStamp x y && (eqb (roundOf s x) (roundOf q y) && sameState s x q y))
+  unfolding keccakValues wordsTest sameStamp
   tuple-test =
       ap₂ wordsTest (tuple-is s x) (tuple-is q y)
       ∙ ap (λ (b : Bool). eqb (word x 0) (word y 0) && (eqb (word x 1) (word y 1) && (eqb (roundOf s x) (roundOf q y) && b))) state-test
+      ∙ and-and (eqb (word x 0) (word y 0)) (eqb (word x 1) (word y 1)) (eqb (roundOf s x) (roundOf q y) && sameState s x q y)
 
   -- what the code finds, one test after the other
-  pub low-apart : (word x 0 ≡ word y 0 → ⊥) → false ≡ wordsTest (tupleOf s x) (tupleOf q y)
-  low-apart n = sym (tuple-test ∙ rw (ne-eqb _ _ n))
+  pub stamp-apart : sameStamp x y ≡ false → wordsTest (tupleOf s x) (tupleOf q y) ≡ false
+  stamp-apart e = tuple-test ∙ rw e
 
-  module _ (e : word x 0 ≡ word y 0) where
-    pub high-apart : (word x 1 ≡ word y 1 → ⊥) → false ≡ wordsTest (tupleOf s x) (tupleOf q y)
-    high-apart n = sym (tuple-test ∙ rw (eq-eqb _ _ e, ne-eqb _ _ n))
+  module _ (e : sameStamp x y ≡ true) (a b : ℕ) (ea : a ≡ roundOf s x) (eb : b ≡ roundOf q y) where
+    pub round-apart : (a ≡ b → ⊥) → false ≡ wordsTest (tupleOf s x) (tupleOf q y)
+    round-apart n = sym (tuple-test ∙ rw (e, ne-eqb (roundOf s x) (roundOf q y) (λ z. n (ea ∙ z ∙ sym eb))))
 
-    module _ (f : word x 1 ≡ word y 1) (a b : ℕ) (ea : a ≡ roundOf s x) (eb : b ≡ roundOf q y) where
-      pub round-apart : (a ≡ b → ⊥) → false ≡ wordsTest (tupleOf s x) (tupleOf q y)
-      round-apart n = sym (tuple-test ∙ rw (eq-eqb _ _ e, eq-eqb _ _ f, ne-eqb (roundOf s x) (roundOf q y) (λ z. n (ea ∙ z ∙ sym eb))))
-
-      pub by-state : a ≡ b → sameState s x q y ≡ wordsTest (tupleOf s x) (tupleOf q y)
-      by-state z = sym (tuple-test ∙ rw (eq-eqb _ _ e, eq-eqb _ _ f, eq-eqb (roundOf s x) (roundOf q y) (sym ea ∙ z ∙ eb)))
+    pub by-state : a ≡ b → sameState s x q y ≡ wordsTest (tupleOf s x) (tupleOf q y)
+    by-state z = sym (tuple-test ∙ rw (e, eq-eqb (roundOf s x) (roundOf q y) (sym ea ∙ z ∙ eb)))
 
   -- the states, likewise: the first lane, then the others
   module _ (i j : ℕ) (ei : i ≡ laneAt s) (ej : j ≡ laneAt q) (b : Bool) (eb : b ≡ not (any (apart x i y j) 8)) where

@@ -7,6 +7,7 @@ ghost use lib.ListN.{length};
 ghost use Rattle.lists.specs.First.{any};
 ghost use Rattle.field.specs.Field.{fadd};
 ghost use Rattle.bus.specs.Words.{wordsTest};
+ghost use Rattle.verdict.specs.Kind.{sameStamp};
 ghost use Rattle.judge_tuples.specs.Port.{widthOf, laneAt, restAt, roundOf, tupleOf, apart, sameState};
 
 // Which of the four: a core row sends INPUT and receives OUTPUT, a round row receives START and sends the state after it.
@@ -94,15 +95,23 @@ fn same_state(x: &[u64], s: Port, y: &[u64], q: Port) -> bool
     same_words(x, from, y, to, 192)
 }
 
+// Whether two rows have one timestamp: both words.
+pub fn same_stamp(x: &[u64], y: &[u64]) -> bool
+    requires { ⌜ (2 ≤ length (now x)) × (2 ≤ length (now y)) ⌝ }
+    ensures { λ r. ⌜ r ≡ sameStamp (now (x .entry)) (now (y .entry)) ⌝ }
+{
+    if x[0] != y[0] {
+        return false;
+    }
+    x[1] == y[1]
+}
+
 // Whether tuple s of the row x is tuple q of the row y. Timestamps come first: most rows differ there.
 pub fn same_tuple(x: &[u64], s: Port, y: &[u64], q: Port) -> bool
     requires { ⌜ (widthOf s ≤ length (now x)) × (widthOf q ≤ length (now y)) ⌝ }
     ensures { λ r. ⌜ r ≡ wordsTest (tupleOf s (now (x .entry))) (tupleOf q (now (y .entry))) ⌝ }
 {
-    if x[0] != y[0] {
-        return false;
-    }
-    if x[1] != y[1] {
+    if !same_stamp(x, y) {
         return false;
     }
     if round_of(x, s) != round_of(y, q) {
