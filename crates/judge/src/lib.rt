@@ -5,6 +5,7 @@ use judge_bus::Walked;
 use judge_bus::first_core_unbalanced;
 use judge_bus::first_round_unbalanced;
 use judge_bus::walk;
+use judge_chains::every_chain;
 use judge_rows::first_core_lookup;
 use judge_rows::first_core_value;
 use judge_rows::first_round_lookup;
@@ -19,7 +20,7 @@ use verdict::Table;
 use verdict::Verdict;
 ghost use mathlib.Core.Path.{_≡_};
 ghost use Prim.Native.Nat.{_≤_};
-ghost use Rattle.verdict.specs.Kind.{rows};
+ghost use Rattle.verdict.specs.Kind.{rows, DistinctTimestamps};
 ghost use Rattle.verdict.specs.CoreAndRound.{coreKind, roundKind, coreLayout, roundLayout, verdictOf};
 ghost use Rattle.verdict.specs.Failures.{Elements};
 ghost use Rattle.verdict.specs.Verdict.{fromCoreValue, fromRoundValue, fromCoreBalance, fromRoundBalance};
@@ -47,10 +48,15 @@ fn from_round_balance(core: &[u64], round: &[u64], walked: Walked) -> Verdict
     }
 }
 
-// From the unbalanced tuples of core rows on.
+// From the unbalanced tuples of core rows on. Where each core row has its chain nothing is counted: the tables hold.
 fn from_core_balance(core: &[u64], round: &[u64]) -> Verdict
+    requires { ⌜ DistinctTimestamps coreLayout (now core) ⌝ }
     ensures { λ v. ⌜ v ≡ fromCoreBalance (coreKind 24) roundKind (now (core .entry)) (now (round .entry)) ⌝ }
 {
+    if every_chain(core, round) {
+        let active = active_core_rows(core);
+        return Verdict::Holds { active };
+    }
     let walked = walk(core, round);
     if let Spot::At { row, index } = first_core_unbalanced(core, round, walked.core, walked.round) {
         return Verdict::Unbalanced {
@@ -64,7 +70,7 @@ fn from_core_balance(core: &[u64], round: &[u64]) -> Verdict
 
 // From the values of round rows on.
 fn from_round_value(core: &[u64], round: &[u64]) -> Verdict
-    requires { ⌜ Elements (now round) ⌝ }
+    requires { ⌜ Elements (now round) × DistinctTimestamps coreLayout (now core) ⌝ }
     ensures { λ v. ⌜ v ≡ fromRoundValue (coreKind 24) roundKind (now (core .entry)) (now (round .entry)) ⌝ }
 {
     if let Spot::At { row, index } = first_round_value(round) {

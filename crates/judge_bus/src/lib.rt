@@ -25,7 +25,7 @@ ghost use Rattle.judge_bus.specs.Even.{Even, Reaches, Started, owedBy, c
 
 // ---- the walk
 // Whether round row q receives what is owed: what core row a sent, or what the last row of its chain sent.
-fn takes(core: &[u64], a: usize, round: &[u64], last: Place, q: usize) -> bool
+pub fn takes(core: &[u64], a: usize, round: &[u64], last: Place, q: usize) -> bool
     requires { ⌜ (a < rows coreLayout (now core)) × (q < rows roundLayout (now round)) × Started (now round) last ⌝ }
     ensures { λ r. ⌜ r ≡ wordsTest (owedBy (now (core .entry)) a (now (round .entry)) last) (tupleOf RoundReceive (row roundLayout (now (round .entry)) q)) ⌝ }
 {
@@ -56,7 +56,7 @@ fn takes(core: &[u64], a: usize, round: &[u64], last: Place, q: usize) -> bool
 }
 
 // Whether core row a receives what round row q sends.
-fn ends(core: &[u64], a: usize, round: &[u64], q: usize) -> bool
+pub fn ends(core: &[u64], a: usize, round: &[u64], q: usize) -> bool
     requires { ⌜ (a < rows coreLayout (now core)) × (q < rows roundLayout (now round)) ⌝ }
     ensures { λ r. ⌜ r ≡ wordsTest (tupleOf RoundSend (row roundLayout (now (round .entry)) q)) (tupleOf CoreReceive (row coreLayout (now (core .entry)) a)) ⌝ }
 {

@@ -1,11 +1,26 @@
--- `judge::from_core_balance` meets its contract: a tuple is found, or none. Assumes nothing.
-use mathlib.Core.Path.{sym, _∙_}
+-- `judge::from_core_balance` meets its contract: chains balance, or else a tuple is found, or none. Assumes nothing.
+use mathlib.Core.Path.{sym, ap, _∙_}
 use borrow.Author.Needs.{needs}
-use Rattle.verdict.specs.Verdict.{fromCoreBalance}
+use Rattle.verdict.specs.Verdict.{fromCoreBalance, fromRoundBalance}
+use Rattle.verdict.specs.declared.Verdict.the-variants.{Holds}
+use Rattle.verdict.proofs.Judge.{balanced-scan}
 use Rattle.verdict.proofs.Stages.{passes, answers}
 use Rattle.judge_scan.proofs.Scan.{spot-at, spot-nowhere}
+use Rattle.judge_chains.proofs.Balance.{chained-balanced}
 use Rattle.judge.proofs.from_core_balance.Statement.{statement}
 use Rattle.judge.proofs.from_core_balance.Tie as tie
+
+every-chain-requires : tie.Need-every-chain-requires
+every-chain-requires c κs = search needs
+
+active-core-rows-requires : tie.Need-active-core-rows-requires
+active-core-rows-requires c κs = search needs
+
+returns : tie.Need-returns
+unfolding fromCoreBalance fromRoundBalance
+returns c =
+    let b = chained-balanced _ _ (c .before .before .before .before .before .pre) (c .before .before .every-chain .ensures (c .before .if1 .taken)) in
+    ap Holds (c .active-core-rows .ensures) ∙ sym (passes _ _ _ (balanced-scan _ _ _ _ b _ _) ∙ passes _ _ _ (balanced-scan _ _ _ _ b _ _))
 
 walk-requires : tie.Need-walk-requires
 walk-requires c κs = search needs
@@ -16,9 +31,9 @@ first-core-unbalanced-requires c κs = search needs
 enum-known-row : tie.Need-enum-known-row
 enum-known-row c = search needs
 
-returns : tie.Need-returns
+returns-2 : tie.Need-returns-2
 unfolding fromCoreBalance
-returns c = sym (answers _ _ _ _ (spot-at _ (sym (c .before .row .given .1) ∙ c .before .before .before .first-core-unbalanced .ensures)))
+returns-2 c = sym (answers _ _ _ _ (spot-at _ (sym (c .before .row .given .1) ∙ c .before .before .before .first-core-unbalanced .ensures)))
 
 enum-told : tie.Need-enum-told
 enum-told c = search needs
@@ -26,18 +41,21 @@ enum-told c = search needs
 from-round-balance-requires : tie.Need-from-round-balance-requires
 from-round-balance-requires c κs = search needs
 
-returns-2 : tie.Need-returns-2
+returns-3 : tie.Need-returns-3
 unfolding fromCoreBalance
-returns-2 c = c .from-round-balance .ensures ∙ sym (passes _ _ _ (spot-nowhere _ (sym (c .before .enum-told .given .1) ∙ c .before .before .before .first-core-unbalanced .ensures)))
+returns-3 c = c .from-round-balance .ensures ∙ sym (passes _ _ _ (spot-nowhere _ (sym (c .before .enum-told .given .1) ∙ c .before .before .before .first-core-unbalanced .ensures)))
 
 pub from-core-balance-spec : {M : Type 1} → statement M
 from-core-balance-spec =
     tie.close
     (tie.spec
+    every-chain-requires
+    active-core-rows-requires
+    returns
     walk-requires
     first-core-unbalanced-requires
     enum-known-row
-    returns
+    returns-2
     enum-told
     from-round-balance-requires
-    returns-2)
+    returns-3)

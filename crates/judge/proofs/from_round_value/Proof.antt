@@ -34,7 +34,7 @@ enum-told-2 : tie.Need-enum-told-2
 enum-told-2 c = search needs
 
 from-core-balance-requires : tie.Need-from-core-balance-requires
-from-core-balance-requires c κs = search needs
+from-core-balance-requires c κs = c .before .before .before .before .before .before .before .before .pre .1
 
 returns-3 : tie.Need-returns-3
 unfolding fromRoundValue fromRoundLookup
