@@ -1,5 +1,5 @@
 -- Laws of the tuples of a row as words: how many words, and the invariant of a loop that writes them. Assumes nothing.
-use mathlib.Core.Path.{_≡_, refl, sym, ap, _∙_, subst}
+use mathlib.Core.Path.{_≡_, refl, sym, ap, ap₂, _∙_, subst}
 use mathlib.Core.Logic.{⊎-elim}
 use mathlib.Core.List.{List, [], _∷_, _++_}
 use Prim.Native.Nat.{ℕ, zero, suc, _+_, _-_, _*_, _≤_, _<_}
@@ -9,7 +9,9 @@ use native.Mathlib.Omega.{arith}
 use lib.ListN.{length, set, length-append}
 use lib.Seq.{sets, length-sets, set-comm}
 use borrow.Rule.Slice.PartMut.{midOf, putMid, mid-len}
+use Rattle.lists.specs.Tab.{then}
 use Rattle.lists.specs.Sum.{sum}
+use Rattle.lists.proofs.Sum.{sum-same, sum-const, sum-then}
 use Rattle.lists.proofs.Laws.{sets-append, sets-mid}
 use Rattle.answer.specs.Refusal.{overwrite}
 use Rattle.answer.proofs.Laws.{sets-overwrite}
@@ -26,6 +28,15 @@ pub tuples-length : (t : ℕ → Tuple) (n : ℕ) → length (tuplesWords t n) �
 unfolding tuplesWords sum
 tuples-length t zero = refl
 tuples-length t (suc n) = length-append (tuplesWords t n) (tupleWords (t n)) ∙ ap (λ (k : ℕ). k + length (tupleWords (t n))) (tuples-length t n)
+
+-- n tuples of c values each
+pub words-same : (n c : ℕ) (f : ℕ → Tuple) → ((i : ℕ) → length (f i .values) ≡ c) → sum n (λ i. length (tupleWords (f i))) ≡ n * (4 + c)
+words-same n c f e = sum-same n (λ i. length (tupleWords (f i))) (λ i. 4 + c) (λ i h. tuple-length (f i) ∙ ap (λ (k : ℕ). 4 + k) (e i)) ∙ sum-const n (4 + c)
+
+-- the same, and then m tuples of k words together
+pub words-part : (n m c k : ℕ) (f g : ℕ → Tuple) → ((i : ℕ) → length (f i .values) ≡ c) → sum m (λ i. length (tupleWords (g i))) ≡ k
+    → sum (n + m) (λ i. length (tupleWords (then n f g i))) ≡ n * (4 + c) + k
+words-part n m c k f g e q = sum-then (λ t. length (tupleWords t)) n m f g ∙ ap₂ _+_ (words-same n c f e) q
 
 -- ---- a tuple is stored where its values are stored first and then the words before them
 set-before : (l : List ℕ) (i x j : ℕ) (vs : List ℕ) → i < j → set (sets l j vs) i x ≡ sets (set l i x) j vs
