@@ -22,7 +22,7 @@ pub const NUM_WORDS: usize = 8211;
 
 // Tuple `index`, from `at`; where the next one goes.
 fn put_tuple(row: &[u64], index: usize, out: &mut [u64], at: usize) -> usize
-    requires { ⌜ (1480 ≤ length (now row)) × Elements (now row) × (index < 1031) × (at + length (tupleWords (roundTuple (now row) index)) ≤ length (now out)) ⌝ }
+    requires { ⌜ (NUM-COLUMNS ≤ length (now row)) × Elements (now row) × (index < NUM-TUPLES) × (at + length (tupleWords (roundTuple (now row) index)) ≤ length (now out)) ⌝ }
     ensures next { λ r. ⌜ r ≡ at + length (tupleWords (roundTuple (now (row .entry)) index)) ⌝ }
     ensures words { λ _. ⌜ now (out .exit) ≡ sets (now (out .entry)) at (tupleWords (roundTuple (now (row .entry)) index)) ⌝ }
 {
@@ -34,7 +34,7 @@ fn put_tuple(row: &[u64], index: usize, out: &mut [u64], at: usize) -> usize
 
 // The tuples of a row that the checks passed, from the front of `out`.
 fn put_tuples(row: &[u64], out: &mut [u64])
-    requires { ⌜ (1480 ≤ length (now row)) × Elements (now row) × (NUM-WORDS ≤ length (now out)) ⌝ }
+    requires { ⌜ (NUM-COLUMNS ≤ length (now row)) × Elements (now row) × (NUM-WORDS ≤ length (now out)) ⌝ }
     ensures { λ _. ⌜ now (out .exit) ≡ sets (now (out .entry)) 0 (tuplesWords (roundTuple (now (row .entry))) NUM-TUPLES) ⌝ }
 {
     let mut at: usize = 0;

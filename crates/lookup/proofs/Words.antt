@@ -17,6 +17,7 @@ use Rattle.answer.specs.Refusal.{overwrite}
 use Rattle.answer.proofs.Laws.{sets-overwrite}
 use Rattle.lookup.specs.Tuple.{Tuple}
 use Rattle.lookup.specs.Call.{interactionOf}
+use Rattle.lookup.specs.declared.BusInteraction.{BusInteraction}
 use Rattle.lookup.specs.Words.{headerWords, tupleWords, tuplesWords}
 
 -- ---- how many words
@@ -33,10 +34,10 @@ tuples-length t (suc n) = length-append (tuplesWords t n) (tupleWords (t n)) ∙
 pub words-same : (n c : ℕ) (f : ℕ → Tuple) → ((i : ℕ) → length (f i .values) ≡ c) → sum n (λ i. length (tupleWords (f i))) ≡ n * (4 + c)
 words-same n c f e = sum-same n (λ i. length (tupleWords (f i))) (λ i. 4 + c) (λ i h. tuple-length (f i) ∙ ap (λ (k : ℕ). 4 + k) (e i)) ∙ sum-const n (4 + c)
 
--- the same, and then m tuples of k words together
-pub words-part : (n m c k : ℕ) (f g : ℕ → Tuple) → ((i : ℕ) → length (f i .values) ≡ c) → sum m (λ i. length (tupleWords (g i))) ≡ k
-    → sum (n + m) (λ i. length (tupleWords (then n f g i))) ≡ n * (4 + c) + k
-words-part n m c k f g e q = sum-then (λ t. length (tupleWords t)) n m f g ∙ ap₂ _+_ (words-same n c f e) q
+-- n tuples, and then m others
+pub words-then : (n m : ℕ) {a b : ℕ} (f g : ℕ → Tuple) → sum n (λ i. length (tupleWords (f i))) ≡ a → sum m (λ i. length (tupleWords (g i))) ≡ b
+    → sum (n + m) (λ i. length (tupleWords (then n f g i))) ≡ a + b
+words-then n m f g e q = sum-then (λ t. length (tupleWords t)) n m f g ∙ ap₂ _+_ e q
 
 -- ---- a tuple is stored where its values are stored first and then the words before them
 set-before : (l : List ℕ) (i x j : ℕ) (vs : List ℕ) → i < j → set (sets l j vs) i x ≡ sets (set l i x) j vs
@@ -52,22 +53,14 @@ sets-before l i [] j vs h = refl
 sets-before l i (w ∷ ws) j vs h =
     ap (λ (r : List ℕ). sets r (suc i) ws) (set-before l i w j vs (omega arith)) ∙ sets-before (set l i w) (suc i) ws j vs (omega arith)
 
-pub tuple-stored : (l : List ℕ) (at : ℕ) (t : Tuple) → sets (sets l (at + 4) (t .values)) at (headerWords (interactionOf t)) ≡ sets l at (tupleWords t)
+tuple-stored : (l : List ℕ) (at : ℕ) (t : Tuple) → sets (sets l (at + 4) (t .values)) at (headerWords (interactionOf t)) ≡ sets l at (tupleWords t)
 unfolding tupleWords
 tuple-stored l at t =
     sets-before l at (headerWords (interactionOf t)) (at + 4) (t .values) (omega arith)
     ∙ sets-append l at (headerWords (interactionOf t)) (t .values)
 
-pub stores-four : (l : List ℕ) (at a b c d : ℕ) → set (set (set (set l at a) (at + 1) b) (at + 2) c) (at + 3) d ≡ sets l at (a ∷ b ∷ c ∷ d ∷ [])
-stores-four l at a b c d =
-    let two : at + 2 ≡ suc (suc at) = omega arith in
-    let three : at + 3 ≡ suc (suc (suc at)) = omega arith in
-    ap (λ (k : ℕ). set (set (set (set l at a) k b) (at + 2) c) (at + 3) d) (add-one at)
-    ∙ ap (λ (k : ℕ). set (set (set (set l at a) (suc at) b) k c) (at + 3) d) two
-    ∙ ap (λ (k : ℕ). set (set (set (set l at a) (suc at) b) (suc (suc at)) c) k d) three
-
 -- what a call leaves that is lent the words from `from` on and overwrites the first of them
-pub part-stored : (l new : List ℕ) (from : ℕ) → from + length new ≤ length l
+part-stored : (l new : List ℕ) (from : ℕ) → from + length new ≤ length l
     → putMid from (length l - from) l (overwrite new (midOf from (length l - from) l)) ≡ sets l from new
 part-stored l new from h =
     let k = length l - from in
@@ -75,6 +68,31 @@ part-stored l new from h =
     sym (ap (putMid from k l) (sets-overwrite (midOf from k l) new (omega arith)))
     ∙ sets-mid from k 0 l new (omega arith) (omega arith)
     ∙ ap (λ (j : ℕ). sets l j new) (add-zero from)
+
+-- the part of l that takes the values of the tuple at `at`; l with that part back; and then the four words before it
+module _ (l : List ℕ) (at : ℕ) (t : Tuple) (h : at + length (tupleWords t) ≤ length l) where
+  pub part-room : length (t .values) ≤ length (midOf (at + 4) (length l - (at + 4)) l)
+  part-room =
+      let e : length (midOf (at + 4) (length l - (at + 4)) l) ≡ length l - (at + 4) = mid-len (at + 4) (length l) l (le-refl (length l)) in
+      omega (arith, tuple-length t, h, e)
+
+  pub part-back : (part : List ℕ) → part ≡ overwrite (t .values) (midOf (at + 4) (length l - (at + 4)) l)
+      → putMid (at + 4) (length l - (at + 4)) l part ≡ sets l (at + 4) (t .values)
+  part-back part e = ap (putMid (at + 4) (length l - (at + 4)) l) e ∙ part-stored l (t .values) (at + 4) (omega (arith, tuple-length t, h))
+
+  pub header-after : (out : List ℕ) (given : BusInteraction) → given ≡ interactionOf t → out ≡ sets l (at + 4) (t .values)
+      → sets out at (headerWords given) ≡ sets l at (tupleWords t)
+  header-after out given e q =
+      ap (λ (b : BusInteraction). sets out at (headerWords b)) e ∙ ap (λ (r : List ℕ). sets r at (headerWords (interactionOf t))) q ∙ tuple-stored l at t
+
+-- four stores in a row
+pub stores-four : (l : List ℕ) (at a b c d : ℕ) → set (set (set (set l at a) (at + 1) b) (at + 2) c) (at + 3) d ≡ sets l at (a ∷ b ∷ c ∷ d ∷ [])
+stores-four l at a b c d =
+    let two : at + 2 ≡ suc (suc at) = omega arith in
+    let three : at + 3 ≡ suc (suc (suc at)) = omega arith in
+    ap (λ (k : ℕ). set (set (set (set l at a) k b) (at + 2) c) (at + 3) d) (add-one at)
+    ∙ ap (λ (k : ℕ). set (set (set (set l at a) (suc at) b) k c) (at + 3) d) two
+    ∙ ap (λ (k : ℕ). set (set (set (set l at a) (suc at) b) (suc (suc at)) c) k d) three
 
 -- ---- the invariant of a loop that stores tuples t 0 .. t (n - 1) in l, one after the other: i of them are stored, and the next goes to `at`
 pub record Listed (l : List ℕ) (t : ℕ → Tuple) (n : ℕ) (out : List ℕ) (i at : ℕ) : Type 0 where

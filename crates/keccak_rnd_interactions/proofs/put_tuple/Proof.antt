@@ -1,38 +1,15 @@
 -- `keccak_rnd_interactions::put_tuple` meets its contract: the values, then the four words before them. Assumes nothing.
-use mathlib.Core.Path.{_≡_, refl, sym, ap, _∙_}
-use mathlib.Core.List.{List}
-use Prim.Native.Nat.{ℕ, _+_, _-_, _≤_, _<_}
-use native.Mathlib.Nat.{le-refl}
+use mathlib.Core.Path.{ap, _∙_}
+use Prim.Native.Nat.{_+_}
 use native.Mathlib.Omega.{arith}
 use lib.ListN.{length}
-use lib.Seq.{sets, length-sets}
+use lib.Seq.{length-sets}
 use borrow.Author.Needs.{needs}
-use borrow.Rule.Slice.PartMut.{midOf, putMid, mid-len}
-use Rattle.answer.specs.Refusal.{overwrite}
-use Rattle.lookup.specs.Tuple.{Tuple}
-use Rattle.lookup.specs.Call.{interactionOf}
-use Rattle.lookup.specs.Words.{headerWords, tupleWords}
 use Rattle.lookup.specs.declared.BusInteraction.{BusInteraction}
-use Rattle.lookup.proofs.Words.{tuple-length, tuple-stored, part-stored}
+use Rattle.lookup.proofs.Words.{tuple-length, part-room, part-back, header-after}
 use Rattle.keccak_rnd.specs.Tuples.{roundTuple}
 use Rattle.keccak_rnd_interactions.proofs.put_tuple.Statement.{statement}
 use Rattle.keccak_rnd_interactions.proofs.put_tuple.Tie as tie
-
--- the part of l that takes the values of a tuple, and l with the part back
-part-room : (l : List ℕ) (at : ℕ) (t : Tuple) → at + length (tupleWords t) ≤ length l → length (t .values) ≤ length (midOf (at + 4) (length l - (at + 4)) l)
-part-room l at t h =
-    let e : length (midOf (at + 4) (length l - (at + 4)) l) ≡ length l - (at + 4) = mid-len (at + 4) (length l) l (le-refl (length l)) in
-    omega (arith, tuple-length t, h, e)
-
-part-back : (l part : List ℕ) (at : ℕ) (t : Tuple) → at + length (tupleWords t) ≤ length l → part ≡ overwrite (t .values) (midOf (at + 4) (length l - (at + 4)) l)
-    → putMid (at + 4) (length l - (at + 4)) l part ≡ sets l (at + 4) (t .values)
-part-back l part at t h e = ap (putMid (at + 4) (length l - (at + 4)) l) e ∙ part-stored l (t .values) (at + 4) (omega (arith, tuple-length t, h))
-
--- and the words before them
-header-after : (l out : List ℕ) (at : ℕ) (t : Tuple) (given : BusInteraction) → given ≡ interactionOf t → out ≡ sets l (at + 4) (t .values)
-    → sets out at (headerWords given) ≡ sets l at (tupleWords t)
-header-after l out at t given e q =
-    ap (λ (b : BusInteraction). sets out at (headerWords b)) e ∙ ap (λ (r : List ℕ). sets r at (headerWords (interactionOf t))) q ∙ tuple-stored l at t
 
 add-from : tie.Need-add-from
 add-from c =
@@ -67,7 +44,7 @@ put-header-requires c κs =
     let start = c .before .before .before .before .before .before .before in
     let a = start .args in
     let t = roundTuple (a .row .now) (a .index) in
-    let back = part-back (a .out .now) _ (a .at) t (start .pre .3) (c .before .before .before .row-tuple .ensures .1) in
+    let back = part-back (a .out .now) (a .at) t (start .pre .3) _ (c .before .before .before .row-tuple .ensures .1) in
     omega (arith, tuple-length t, ap length back, length-sets (a .out .now) (a .at + 4) (t .values))
 
 add-result : tie.Need-add-result
@@ -89,7 +66,7 @@ returns c =
     let r = given .row-tuple in (
       omega (arith, tuple-length t, ap (λ (b : BusInteraction). b .length) (r .ensures .0)),
       c .before .before .before .put-header .ensures
-          ∙ header-after (a .out .now) _ (a .at) t (r .result) (r .ensures .0) (part-back (a .out .now) _ (a .at) t (start .pre .3) (r .ensures .1)),
+          ∙ header-after (a .out .now) (a .at) t (start .pre .3) _ (r .result) (r .ensures .0) (part-back (a .out .now) (a .at) t (start .pre .3) _ (r .ensures .1)),
     )
 
 pub put-tuple-spec : {M : Type 1} → statement M
