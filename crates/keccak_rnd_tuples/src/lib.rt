@@ -186,7 +186,7 @@ fn tuple_length(index: usize) -> usize
 }
 
 // Tuple `index` of a row that the checks passed.
-fn row_tuple(row: &[u64], index: usize, out: &mut [u64]) -> BusInteraction
+pub fn row_tuple(row: &[u64], index: usize, out: &mut [u64]) -> BusInteraction
     requires { ⌜ (1480 ≤ length (now row)) × Elements (now row) × (index < 1031) × (length (roundTuple (now row) index .values) ≤ length (now out)) ⌝ }
     ensures answer { λ r. ⌜ r ≡ interactionOf (roundTuple (now (row .entry)) index) ⌝ }
     ensures words { λ _. ⌜ now (out .exit) ≡ overwrite (roundTuple (now (row .entry)) index .values) (now (out .entry)) ⌝ }

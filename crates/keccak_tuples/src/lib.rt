@@ -138,7 +138,7 @@ fn tail_tuple(row: &[u64], index: usize, syscall: u64, out: &mut [u64]) -> BusIn
 }
 
 // Tuple `index` of a row that the checks passed.
-fn row_tuple(row: &[u64], index: usize, syscall: u64, out: &mut [u64]) -> BusInteraction
+pub fn row_tuple(row: &[u64], index: usize, syscall: u64, out: &mut [u64]) -> BusInteraction
     requires { ⌜ (NUM-COLUMNS ≤ length (now row)) × ((k : ℕ) → k < NUM-COLUMNS → word (now row) k < p) × (index < NUM-TUPLES) × (length (coreTuple 24 syscall (now row) index .values) ≤ length (now out)) ⌝ }
     ensures answer { λ r. ⌜ r ≡ interactionOf (coreTuple 24 syscall (now (row .entry)) index) ⌝ }
     ensures words { λ _. ⌜ now (out .exit) ≡ overwrite (coreTuple 24 syscall (now (row .entry)) index .values) (now (out .entry)) ⌝ }

@@ -1,0 +1,30 @@
+-- The words of a core row's tuples are 1,457: 4 × 84 and 1,121 values. Assumes nothing.
+use mathlib.Core.Path.{_≡_, sym, _∙_}
+use mathlib.Core.List.{List}
+use Prim.Native.Nat.{ℕ, _/_, _%_}
+use native.Mathlib.Omega.{arith}
+use lib.ListN.{length}
+use Rattle.lists.specs.Sum.{sum}
+use Rattle.lookup.specs.Words.{tupleWords, tuplesWords}
+use Rattle.lookup.proofs.Words.{tuples-length, words-same, words-then}
+use Rattle.keccak.specs.Tuples.{NUM-TUPLES, pointerTuple, coreTuple}
+use Rattle.keccak_tuples.proofs.Tuples.{sent-length, received-length, ecall-length, addr-length, align-length, bytes-length, lane-length}
+use Rattle.keccak_interactions.specs.Words.{NUM-WORDS}
+
+-- the 50 tuples of the pointers, two values and one by turns
+pointers : (row : List ℕ) → sum 50 (λ i. length (tupleWords (pointerTuple row (i / 2) (i % 2)))) ≡ 275
+unfolding sum pointerTuple tupleWords
+pointers row = omega arith
+
+pub words-length : (syscall : ℕ) (row : List ℕ) → length (tuplesWords (coreTuple 24 syscall row) NUM-TUPLES) ≡ NUM-WORDS
+unfolding coreTuple
+words-length syscall row =
+    tuples-length (coreTuple 24 syscall row) 84
+    ∙ words-then 1 83 _ _ (words-same 1 4 _ (λ i. sym (ecall-length row syscall)))
+    (words-then 1 82 _ _ (words-same 1 24 _ (λ i. sym (addr-length row)))
+    (words-then 1 81 _ _ (words-same 1 203 _ (λ i. sym (sent-length row 24)))
+    (words-then 1 80 _ _ (words-same 1 203 _ (λ i. sym (received-length row)))
+    (words-then 50 30 _ _ (pointers row)
+    (words-then 1 29 _ _ (words-same 1 4 _ (λ i. sym (align-length row)))
+    (words-then 4 25 _ _ (words-same 4 2 _ (λ i. sym (bytes-length row i)))
+    (words-same 25 24 _ (λ i. sym (lane-length row i)))))))))

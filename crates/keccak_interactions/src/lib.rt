@@ -1,0 +1,60 @@
+// tables/keccak.rs, bus_interactions: the 84 tuples of a core row, all at once.
+use answer::Answer;
+use evaluation::check_values;
+use keccak::NUM_COLUMNS;
+use keccak_tuples::NUM_TUPLES;
+use keccak_tuples::row_tuple;
+use lookup::header::put_header;
+ghost use mathlib.Core.Path.{_≡_};
+ghost use Prim.Native.Nat.{ℕ, _+_, _<_, _≤_};
+ghost use lib.ListN.{length};
+ghost use lib.Seq.{sets};
+ghost use Rattle.lists.specs.Tab.{word};
+ghost use Rattle.field.specs.Field.{p};
+ghost use Rattle.answer.specs.Refusal.{overwrite, afterwards};
+ghost use Rattle.lookup.specs.Words.{tupleWords, tuplesWords};
+ghost use Rattle.evaluation.specs.Call.{valuesRefusal, valuesAnswer};
+ghost use Rattle.keccak.specs.Columns.{NUM-COLUMNS};
+ghost use Rattle.keccak.specs.Tuples.{NUM-TUPLES, coreTuple};
+ghost use Rattle.keccak_interactions.specs.Words.{NUM-WORDS};
+
+// Four words for each tuple, and its values.
+pub const NUM_WORDS: usize = 1457;
+
+// Tuple `index`, from `at`; where the next one goes.
+fn put_tuple(row: &[u64], index: usize, syscall: u64, out: &mut [u64], at: usize) -> usize
+    requires { ⌜ (NUM-COLUMNS ≤ length (now row)) × ((k : ℕ) → k < NUM-COLUMNS → word (now row) k < p) × (index < NUM-TUPLES) × (at + length (tupleWords (coreTuple 24 syscall (now row) index)) ≤ length (now out)) ⌝ }
+    ensures next { λ r. ⌜ r ≡ at + length (tupleWords (coreTuple 24 syscall (now (row .entry)) index)) ⌝ }
+    ensures words { λ _. ⌜ now (out .exit) ≡ sets (now (out .entry)) at (tupleWords (coreTuple 24 syscall (now (row .entry)) index)) ⌝ }
+{
+    let from = at + 4;
+    let tuple = row_tuple(row, index, syscall, &mut out[from..]);
+    put_header(out, at, tuple);
+    from + tuple.length
+}
+
+// The tuples of a row that the checks passed, from the front of `out`.
+fn put_tuples(row: &[u64], syscall: u64, out: &mut [u64])
+    requires { ⌜ (NUM-COLUMNS ≤ length (now row)) × ((k : ℕ) → k < NUM-COLUMNS → word (now row) k < p) × (NUM-WORDS ≤ length (now out)) ⌝ }
+    ensures { λ _. ⌜ now (out .exit) ≡ sets (now (out .entry)) 0 (tuplesWords (coreTuple 24 syscall (now (row .entry))) NUM-TUPLES) ⌝ }
+{
+    let mut at: usize = 0;
+    let mut i: usize = 0;
+    while i < NUM_TUPLES {
+        at = put_tuple(row, i, syscall, out, at);
+        i += 1;
+    }
+}
+
+// The tuples of a core row, whoever filled it: its columns are checked once. The syscall number is handed over.
+pub fn bus_interactions(row: &[u64], syscall: u64, out: &mut [u64]) -> Answer
+    ensures answer { λ r. ⌜ r ≡ valuesAnswer NUM-COLUMNS NUM-WORDS (now (row .entry)) (now (out .entry)) ⌝ }
+    ensures words { λ _. ⌜ now (out .exit) ≡ afterwards (valuesRefusal NUM-COLUMNS NUM-WORDS (now (row .entry)) (length (now (out .entry)))) (overwrite (tuplesWords (coreTuple 24 syscall (now (row .entry))) NUM-TUPLES) (now (out .entry))) (now (out .entry)) ⌝ }
+{
+    let room = out.len();
+    if let Answer::Refused(refusal) = check_values(NUM_COLUMNS, NUM_WORDS, row, room) {
+        return Answer::Refused(refusal);
+    }
+    put_tuples(row, syscall, out);
+    Answer::Done
+}

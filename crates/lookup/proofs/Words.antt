@@ -1,0 +1,146 @@
+-- Laws of the tuples of a row as words: how many words, and the invariant of a loop that writes them. Assumes nothing.
+use mathlib.Core.Path.{_≡_, refl, sym, ap, ap₂, _∙_, subst}
+use mathlib.Core.Logic.{⊎-elim}
+use mathlib.Core.List.{List, [], _∷_, _++_}
+use Prim.Native.Nat.{ℕ, zero, suc, _+_, _-_, _*_, _≤_, _<_}
+use native.Mathlib.Nat.{le-antisymm, le-refl, le-trans, le-add-right, le-of-suc-le-suc, not-suc-le-zero, eq-or-lt-of-le, add-zero, zero-add}
+use native.Mathlib.Numerals.{add-one}
+use native.Mathlib.Omega.{arith}
+use lib.ListN.{length, set, length-append}
+use lib.Seq.{sets, length-sets, set-comm}
+use borrow.Rule.Slice.PartMut.{midOf, putMid, mid-len}
+use Rattle.lists.specs.Tab.{then}
+use Rattle.lists.specs.Sum.{sum}
+use Rattle.lists.proofs.Sum.{sum-same, sum-const, sum-then}
+use Rattle.lists.proofs.Laws.{sets-append, sets-mid}
+use Rattle.answer.specs.Refusal.{overwrite}
+use Rattle.answer.proofs.Laws.{sets-overwrite}
+use Rattle.lookup.specs.Tuple.{Tuple}
+use Rattle.lookup.specs.Call.{interactionOf}
+use Rattle.lookup.specs.declared.BusInteraction.{BusInteraction}
+use Rattle.lookup.specs.Words.{headerWords, tupleWords, tuplesWords}
+
+-- ---- how many words
+pub tuple-length : (t : Tuple) → length (tupleWords t) ≡ 4 + length (t .values)
+unfolding tupleWords
+tuple-length t = omega arith
+
+pub tuples-length : (t : ℕ → Tuple) (n : ℕ) → length (tuplesWords t n) ≡ sum n (λ i. length (tupleWords (t i)))
+unfolding tuplesWords sum
+tuples-length t zero = refl
+tuples-length t (suc n) = length-append (tuplesWords t n) (tupleWords (t n)) ∙ ap (λ (k : ℕ). k + length (tupleWords (t n))) (tuples-length t n)
+
+-- n tuples of c values each
+pub words-same : (n c : ℕ) (f : ℕ → Tuple) → ((i : ℕ) → length (f i .values) ≡ c) → sum n (λ i. length (tupleWords (f i))) ≡ n * (4 + c)
+words-same n c f e = sum-same n (λ i. length (tupleWords (f i))) (λ i. 4 + c) (λ i h. tuple-length (f i) ∙ ap (λ (k : ℕ). 4 + k) (e i)) ∙ sum-const n (4 + c)
+
+-- n tuples, and then m others
+pub words-then : (n m : ℕ) {a b : ℕ} (f g : ℕ → Tuple) → sum n (λ i. length (tupleWords (f i))) ≡ a → sum m (λ i. length (tupleWords (g i))) ≡ b
+    → sum (n + m) (λ i. length (tupleWords (then n f g i))) ≡ a + b
+words-then n m f g e q = sum-then (λ t. length (tupleWords t)) n m f g ∙ ap₂ _+_ e q
+
+-- ---- a tuple is stored where its values are stored first and then the words before them
+set-before : (l : List ℕ) (i x j : ℕ) (vs : List ℕ) → i < j → set (sets l j vs) i x ≡ sets (set l i x) j vs
+set-before l i x j [] h = refl
+set-before l i x j (v ∷ vs) h =
+    set-before (set l j v) i x (suc j) vs (omega arith) ∙ ap (λ (r : List ℕ). sets r (suc j) vs) (set-comm l j i v x (λ e. ne e))
+  where
+    ne : j ≡ i → ⊥
+    ne e = omega arith
+
+sets-before : (l : List ℕ) (i : ℕ) (ws : List ℕ) (j : ℕ) (vs : List ℕ) → i + length ws ≤ j → sets (sets l j vs) i ws ≡ sets (sets l i ws) j vs
+sets-before l i [] j vs h = refl
+sets-before l i (w ∷ ws) j vs h =
+    ap (λ (r : List ℕ). sets r (suc i) ws) (set-before l i w j vs (omega arith)) ∙ sets-before (set l i w) (suc i) ws j vs (omega arith)
+
+tuple-stored : (l : List ℕ) (at : ℕ) (t : Tuple) → sets (sets l (at + 4) (t .values)) at (headerWords (interactionOf t)) ≡ sets l at (tupleWords t)
+unfolding tupleWords
+tuple-stored l at t =
+    sets-before l at (headerWords (interactionOf t)) (at + 4) (t .values) (omega arith)
+    ∙ sets-append l at (headerWords (interactionOf t)) (t .values)
+
+-- what a call leaves that is lent the words from `from` on and overwrites the first of them
+part-stored : (l new : List ℕ) (from : ℕ) → from + length new ≤ length l
+    → putMid from (length l - from) l (overwrite new (midOf from (length l - from) l)) ≡ sets l from new
+part-stored l new from h =
+    let k = length l - from in
+    let e : length (midOf from k l) ≡ length l - from = mid-len from (length l) l (le-refl (length l)) in
+    sym (ap (putMid from k l) (sets-overwrite (midOf from k l) new (omega arith)))
+    ∙ sets-mid from k 0 l new (omega arith) (omega arith)
+    ∙ ap (λ (j : ℕ). sets l j new) (add-zero from)
+
+-- the part of l that takes the values of the tuple at `at`; l with that part back; and then the four words before it
+module _ (l : List ℕ) (at : ℕ) (t : Tuple) (h : at + length (tupleWords t) ≤ length l) where
+  pub part-room : length (t .values) ≤ length (midOf (at + 4) (length l - (at + 4)) l)
+  part-room =
+      let e : length (midOf (at + 4) (length l - (at + 4)) l) ≡ length l - (at + 4) = mid-len (at + 4) (length l) l (le-refl (length l)) in
+      omega (arith, tuple-length t, h, e)
+
+  pub part-back : (part : List ℕ) → part ≡ overwrite (t .values) (midOf (at + 4) (length l - (at + 4)) l)
+      → putMid (at + 4) (length l - (at + 4)) l part ≡ sets l (at + 4) (t .values)
+  part-back part e = ap (putMid (at + 4) (length l - (at + 4)) l) e ∙ part-stored l (t .values) (at + 4) (omega (arith, tuple-length t, h))
+
+  pub header-after : (out : List ℕ) (given : BusInteraction) → given ≡ interactionOf t → out ≡ sets l (at + 4) (t .values)
+      → sets out at (headerWords given) ≡ sets l at (tupleWords t)
+  header-after out given e q =
+      ap (λ (b : BusInteraction). sets out at (headerWords b)) e ∙ ap (λ (r : List ℕ). sets r at (headerWords (interactionOf t))) q ∙ tuple-stored l at t
+
+-- four stores in a row
+pub stores-four : (l : List ℕ) (at a b c d : ℕ) → set (set (set (set l at a) (at + 1) b) (at + 2) c) (at + 3) d ≡ sets l at (a ∷ b ∷ c ∷ d ∷ [])
+stores-four l at a b c d =
+    let two : at + 2 ≡ suc (suc at) = omega arith in
+    let three : at + 3 ≡ suc (suc (suc at)) = omega arith in
+    ap (λ (k : ℕ). set (set (set (set l at a) k b) (at + 2) c) (at + 3) d) (add-one at)
+    ∙ ap (λ (k : ℕ). set (set (set (set l at a) (suc at) b) k c) (at + 3) d) two
+    ∙ ap (λ (k : ℕ). set (set (set (set l at a) (suc at) b) (suc (suc at)) c) k d) three
+
+-- ---- the invariant of a loop that stores tuples t 0 .. t (n - 1) in l, one after the other: i of them are stored, and the next goes to `at`
+pub record Listed (l : List ℕ) (t : ℕ → Tuple) (n : ℕ) (out : List ℕ) (i at : ℕ) : Type 0 where
+  pub bound : i ≤ n
+  pub place : at ≡ length (tuplesWords t i)
+  pub long : length out ≡ length l
+  pub is : out ≡ sets l 0 (tuplesWords t i)
+
+pub listed-none : (l : List ℕ) (t : ℕ → Tuple) (n : ℕ) → Listed l t n l 0 0
+unfolding tuplesWords
+listed-none l t n = record { bound = omega arith; place = refl; long = refl; is = refl }
+
+words-more : (t : ℕ → Tuple) (i : ℕ) → length (tuplesWords t (suc i)) ≡ length (tuplesWords t i) + length (tupleWords (t i))
+unfolding tuplesWords
+words-more t i = length-append (tuplesWords t i) (tupleWords (t i))
+
+-- the words of the first tuples are no more than those of all
+words-le : (t : ℕ → Tuple) (i n : ℕ) → i ≤ n → length (tuplesWords t i) ≤ length (tuplesWords t n)
+words-le t zero zero h = le-refl (length (tuplesWords t 0))
+words-le t (suc i) zero h = absurd (not-suc-le-zero h)
+words-le t i (suc n) h =
+    ⊎-elim
+    (λ e. subst (λ (k : ℕ). length (tuplesWords t i) ≤ length (tuplesWords t k)) e (le-refl (length (tuplesWords t i))))
+    (λ l. le-trans (words-le t i n (le-of-suc-le-suc l)) (subst (λ (k : ℕ). length (tuplesWords t n) ≤ k) (sym (words-more t n)) (le-add-right (length (tuplesWords t n)) (length (tupleWords (t n))))))
+    (eq-or-lt-of-le h)
+
+-- there is room for the next tuple
+pub listed-room : {l : List ℕ} {t : ℕ → Tuple} {n : ℕ} {out : List ℕ} {i at : ℕ} → Listed l t n out i at → length (tuplesWords t n) ≤ length l → i < n
+    → at + length (tupleWords (t i)) ≤ length out
+listed-room {l} {t} {n} {out} {i} {at} h r b =
+    let more = words-more t i in
+    let le = words-le t (suc i) n b in
+    omega (arith, h .place, h .long, more, le, r)
+
+-- a turn
+pub listed-more : {l : List ℕ} {t : ℕ → Tuple} {n : ℕ} {out out′ : List ℕ} {i at at′ : ℕ} → Listed l t n out i at → i < n
+    → at′ ≡ at + length (tupleWords (t i)) → out′ ≡ sets out at (tupleWords (t i)) → Listed l t n out′ (i + 1) at′
+unfolding tuplesWords
+listed-more {l} {t} {n} {out} {out′} {i} {at} {at′} h b q e =
+    record {
+      bound = omega arith;
+      place = q ∙ ap (λ (k : ℕ). k + length (tupleWords (t i))) (h .place) ∙ sym (words-more t i) ∙ ap (λ (k : ℕ). length (tuplesWords t k)) (sym (add-one i));
+      long = ap length e ∙ length-sets out at (tupleWords (t i)) ∙ h .long;
+      is = e ∙ ap (λ (r : List ℕ). sets r at (tupleWords (t i))) (h .is)
+          ∙ ap (λ (k : ℕ). sets (sets l 0 (tuplesWords t i)) k (tupleWords (t i))) (h .place ∙ sym (zero-add (length (tuplesWords t i))))
+          ∙ sets-append l 0 (tuplesWords t i) (tupleWords (t i))
+          ∙ ap (λ (k : ℕ). sets l 0 (tuplesWords t k)) (sym (add-one i));
+    }
+
+pub listed-all : {l : List ℕ} {t : ℕ → Tuple} {n : ℕ} {out : List ℕ} {i at : ℕ} → Listed l t n out i at → n ≤ i → out ≡ sets l 0 (tuplesWords t n)
+listed-all {l} {t} h b = h .is ∙ ap (λ (k : ℕ). sets l 0 (tuplesWords t k)) (le-antisymm (h .bound) b)
