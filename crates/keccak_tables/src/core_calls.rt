@@ -1,15 +1,15 @@
 // The core table: a row, the table of a list of operations, the keys of its pointers, its height.
-use super::FlatAnswer;
-use super::FlatNumber;
-use super::flat_answer;
-use super::flat_number;
+use flat::FlatAnswer;
+use flat::FlatNumber;
+use flat::flat_answer;
+use flat::flat_number;
 ghost use mathlib.Core.Path.{_≡_};
 ghost use lib.ListN.{length};
 ghost use Rattle.answer.specs.Refusal.{answerOf, numberOf, overwrite, afterwards};
 ghost use Rattle.keccak.specs.Height.{height, MIN-ROWS};
 ghost use Rattle.keccak.specs.Row.{coreRow, coreTable, opAt, keyWords};
 ghost use Rattle.keccak.specs.Refusals.{opCount, rowRefusal, traceRefusal, keysRefusal, countRefusal};
-ghost use Rattle.keccak_tables.specs.Flat.{flatAnswer, flatNumber};
+ghost use Rattle.flat.specs.Flat.{flatAnswer, flatNumber};
 
 #[no_mangle]
 pub extern "C" fn keccak_tables_keccak_row(ops: &[u64], index: usize, row: &mut [u64]) -> FlatAnswer

@@ -1,8 +1,8 @@
 // The values and the tuples of a core row and of a round row.
-use super::FlatAnswer;
-use super::FlatTuple;
-use super::flat_answer;
-use super::flat_tuple;
+use flat::FlatAnswer;
+use flat::FlatTuple;
+use flat::flat_answer;
+use flat::flat_tuple;
 ghost use mathlib.Core.Path.{_≡_};
 ghost use Rattle.lookup.specs.Call.{tupleAnswerOf, tupleAfter};
 ghost use Rattle.evaluation.specs.Call.{valuesAnswer, valuesAfter};
@@ -16,7 +16,7 @@ ghost use Rattle.keccak_rnd.specs.Values.{roundValue};
 ghost use Rattle.keccak_rnd.specs.Values as round-values;
 ghost use Rattle.keccak_rnd.specs.Tuples.{roundTuple};
 ghost use Rattle.keccak_rnd.specs.Tuples as round-tuples;
-ghost use Rattle.keccak_tables.specs.Flat.{flatAnswer, flatTuple};
+ghost use Rattle.flat.specs.Flat.{flatAnswer, flatTuple};
 
 #[no_mangle]
 pub extern "C" fn keccak_tables_keccak_values(row: &[u64], out: &mut [u64]) -> FlatAnswer

@@ -1,12 +1,12 @@
 // The tables that are looked up: bitwise rows and their counters, round constants, IS_WH keys.
-use super::FlatAnswer;
-use super::FlatKey;
-use super::FlatNumber;
-use super::FlatTuple;
-use super::flat_answer;
-use super::flat_key;
-use super::flat_number;
-use super::flat_tuple;
+use flat::FlatAnswer;
+use flat::FlatKey;
+use flat::FlatNumber;
+use flat::FlatTuple;
+use flat::flat_answer;
+use flat::flat_key;
+use flat::flat_number;
+use flat::flat_tuple;
 use is_wh::IsWhKey;
 ghost use mathlib.Core.Path.{_≡_};
 ghost use Rattle.answer.specs.Refusal.{answerOf, numberOf, overwrite, afterwards};
@@ -25,7 +25,7 @@ ghost use Rattle.is_wh.specs.Columns as is-wh;
 ghost use Rattle.is_wh.specs.Key.{of-dword};
 ghost use Rattle.is_wh.specs.Tuples.{isWhTuple};
 ghost use Rattle.is_wh.specs.Tuples as is-wh-tuples;
-ghost use Rattle.keccak_tables.specs.Flat.{flatAnswer, flatNumber, flatTuple, flatKey};
+ghost use Rattle.flat.specs.Flat.{flatAnswer, flatNumber, flatTuple, flatKey};
 
 #[no_mangle]
 pub extern "C" fn keccak_tables_generate_bitwise_row(index: usize, row: &mut [u64]) -> FlatAnswer

@@ -1,8 +1,8 @@
 // The round table: a row, the table of a list of operations, its height, its padding's lookups.
-use super::FlatAnswer;
-use super::FlatNumber;
-use super::flat_answer;
-use super::flat_number;
+use flat::FlatAnswer;
+use flat::FlatNumber;
+use flat::flat_answer;
+use flat::flat_number;
 ghost use mathlib.Core.Path.{_≡_};
 ghost use lib.ListN.{length};
 ghost use Rattle.lists.specs.Tab.{tab, word};
@@ -13,7 +13,7 @@ ghost use Rattle.keccak.specs.Row.{opAt};
 ghost use Rattle.keccak.specs.Refusals.{opCount, countRefusal};
 ghost use Rattle.keccak_rnd.specs.Row.{roundRow, roundHeight, roundTable, padding-are-bytes};
 ghost use Rattle.keccak_rnd.specs.Refusals.{rowRefusal, traceRefusal};
-ghost use Rattle.keccak_tables.specs.Flat.{flatAnswer, flatNumber};
+ghost use Rattle.flat.specs.Flat.{flatAnswer, flatNumber};
 
 #[no_mangle]
 pub extern "C" fn keccak_tables_keccak_rnd_row(

@@ -4,7 +4,7 @@
 --     reads-file   `finish` after the whole file is `tallyOf`
 -- Assumes nothing.
 use Prim.Native.Nat.{ℕ, zero, suc, _+_, _*_, _/_, _-_, _^_, _<_, _≤_}
-use mathlib.Core.Path.{_≡_, refl, sym, ap, _∙_}
+use mathlib.Core.Path.{_≡_, refl, sym, ap, ap₂, _∙_}
 use mathlib.Core.Bool.{Bool, true, false}
 use mathlib.Core.List.{List, [], _∷_, _++_}
 use mathlib.Core.Option.{Option, none, some}
@@ -13,16 +13,17 @@ use native.Mathlib.Nat.{add-zero, div-div-eq-div-mul, pow-suc, mul-comm, div-one
 use native.Mathlib.Omega.{arith}
 use lib.Dec.{ltb, leb, eqb}
 use lib.ListN.{length, take, drop, getD, take-append-drop, length-take, length-drop, drop-of-length-le}
-use lib.Seq.{take-all, take-take, drop-drop}
+use lib.Seq.{take-all, take-take, drop-drop, getD-take, getD-drop}
 use borrow.Author.Tests.{lt-ltb, le-ltb, le-leb, lt-leb, eq-eqb, ne-eqb, leb-true, leb-false}
-use Rattle.lists.specs.Tab.{pick}
+use Rattle.lists.specs.Tab.{pick, word}
 use Rattle.lists.specs.First.{orElse}
+use Rattle.bits.specs.Bits.{pack}
 use Rattle.answer.specs.Limits.{MAX-OPS}
 use Rattle.answer.specs.Refusal.{refuseIf}
 use Rattle.answer.specs.declared.Refusal.{Refusal}
 use Rattle.answer.specs.declared.Refusal.the-variants.{PastEnd, HighAddress, BadRecord}
 use Rattle.keccak.specs.Row.{LAST-ADDRESS, opAt}
-use Rattle.op_file.specs.File.{fromBytes, split, recordsOf, fileWords, isWhole, recordWord, faultOf, firstFault, unless, tallyOf}
+use Rattle.op_file.specs.File.{split, recordsOf, fileWords, isWhole, recordWord, faultOf, firstFault, unless, tallyOf}
 use Rattle.op_file.specs.Reader.{wrong, inAddress, shifted, stepOf, feedOf, start, countsOf, finishOf, after, Advanced}
 use Rattle.op_file.specs.declared.Cursor.{Cursor}
 use Rattle.op_file.specs.declared.Cursor.the-variants.{Reading, Refused}
@@ -51,20 +52,56 @@ shifted-once : (a b : ℕ) → shifted a b ≡ (a + b * 18446744073709551616) / 
 unfolding shifted
 shifted-once a b = omega arith
 
-shifts-all : (a : ℕ) (s : List ℕ) → shifts a s ≡ (a + 18446744073709551616 * fromBytes s) / 256 ^ length s
-unfolding shifts fromBytes
-shifts-all a [] = omega (arith, div-one (a + 0))
+-- equal digits make equal numbers, wherever they stand
+pub pack-by : (n i j : ℕ) (f g : ℕ → ℕ) → ((b : ℕ) → b < n → f (i + b) ≡ g (j + b)) → pack n i f ≡ pack n j g
+unfolding pack
+pack-by zero i j f g h = refl
+pack-by (suc n) i j f g h =
+    ap₂ (λ (a b : ℕ). a * 256 + b)
+    (pack-by n (suc i) (suc j) f g (λ b l. ap f (next i b) ∙ h (suc b) (omega arith) ∙ ap g (sym (next j b))))
+    (ap f (sym (add-zero i)) ∙ h 0 (omega arith) ∙ ap g (add-zero j))
+  where
+    next : (k b : ℕ) → suc k + b ≡ k + suc b
+    next k b = omega arith
+
+-- eight bytes of a list from a place on
+pub pack-part : (k : ℕ) (s : List ℕ) → pack 8 0 (word (take 8 (drop k s))) ≡ pack 8 k (word s)
+pack-part k s =
+    pack-by 8 0 k (word (take 8 (drop k s))) (word s)
+    (λ b l. ap (word (take 8 (drop k s))) (same b) ∙ getD-take 8 (drop k s) b 0 l ∙ getD-drop k s b 0)
+  where
+    same : (b : ℕ) → 0 + b ≡ b
+    same b = omega arith
+
+pack-cons : (b : ℕ) (s : List ℕ) → b + 256 * pack (length s) 0 (word s) ≡ pack (suc (length s)) 0 (word (b ∷ s))
+unfolding pack
+pack-cons b s =
+    let q : pack (length s) 1 (word (b ∷ s)) ≡ pack (length s) 0 (word s) = pack-by (length s) 1 0 (word (b ∷ s)) (word s) (λ d l. ap (word (b ∷ s)) (next d)) in
+    omega (arith, q)
+  where
+    next : (d : ℕ) → 1 + d ≡ suc (0 + d)
+    next d = omega arith
+
+shifts-none : (a : ℕ) → a ≡ (a + 18446744073709551616 * pack 0 0 (word [])) / 256 ^ 0
+unfolding pack
+shifts-none a = omega (arith, div-one (a + 0))
+
+shifts-all : (a : ℕ) (s : List ℕ) → shifts a s ≡ (a + 18446744073709551616 * pack (length s) 0 (word s)) / 256 ^ length s
+unfolding shifts
+shifts-all a [] = shifts-none a
 shifts-all a (b ∷ s) =
     let k : ℕ = 18446744073709551616 in
+    let d : ℕ = pack (length s) 0 (word s) in
     shifts-all (shifted a b) s
-    ∙ ap (λ (x : ℕ). (x + k * fromBytes s) / 256 ^ length s) (shifted-once a b)
+    ∙ ap (λ (x : ℕ). (x + k * d) / 256 ^ length s) (shifted-once a b)
     ∙ ap (λ (x : ℕ). x / 256 ^ length s) (omega arith)
-    ∙ div-div-eq-div-mul (a + k * (b + 256 * fromBytes s)) 256 (256 ^ length s)
-    ∙ ap (λ (x : ℕ). (a + k * (b + 256 * fromBytes s)) / x) (mul-comm 256 (256 ^ length s) ∙ sym (pow-suc 256 (length s)))
+    ∙ div-div-eq-div-mul (a + k * (b + 256 * d)) 256 (256 ^ length s)
+    ∙ ap (λ (x : ℕ). (a + k * (b + 256 * d)) / x) (mul-comm 256 (256 ^ length s) ∙ sym (pow-suc 256 (length s)))
+    ∙ ap (λ (x : ℕ). (a + k * x) / 256 ^ suc (length s)) (pack-cons b s)
 
-pub shifts-eight : (a : ℕ) (s : List ℕ) → a < 18446744073709551616 → length s ≡ 8 → shifts a s ≡ fromBytes s
+pub shifts-eight : (a : ℕ) (s : List ℕ) → a < 18446744073709551616 → length s ≡ 8 → shifts a s ≡ pack 8 0 (word s)
 shifts-eight a s l e =
-    shifts-all a s ∙ ap (λ (n : ℕ). (a + 18446744073709551616 * fromBytes s) / 256 ^ n) e ∙ omega arith
+    shifts-all a s ∙ ap (λ (n : ℕ). (a + 18446744073709551616 * pack n 0 (word s)) / 256 ^ n) e ∙ omega arith
 
 pub shifts-more : (a : ℕ) (s : List ℕ) (k : ℕ) → k < length s → shifts a (take (k + 1) s) ≡ shifted (shifts a (take k s)) (getD s k 0)
 unfolding shifts
@@ -143,11 +180,11 @@ module _ (n : ℕ) (few : n < MAX-OPS) where
   last A (z ∷ y ∷ s) e = absurd (omega arith)
 
   -- what follows the mark, where it is right
-  body : (a : ℕ) (t : List ℕ) → a < 18446744073709551616 → length t ≡ 416 → feedOf (Reading n 2 a) t ≡ pick (ltb LAST-ADDRESS (fromBytes (take 8 (drop 8 t)))) (Refused (HighAddress (fromBytes (take 8 (drop 8 t))))) (Reading (n + 1) 0 0)
+  body : (a : ℕ) (t : List ℕ) → a < 18446744073709551616 → length t ≡ 416 → feedOf (Reading n 2 a) t ≡ pick (ltb LAST-ADDRESS (pack 8 8 (word t))) (Refused (HighAddress (pack 8 8 (word t)))) (Reading (n + 1) 0 0)
   body a t l e =
       let u = drop 8 t in
       let v = drop 8 u in
-      let A = fromBytes (take 8 u) in
+      let A = pack 8 8 (word t) in
       let e1 : length (take 8 t) ≡ 8 = simp length-take (omega arith) in
       let e2 : length (take 8 u) ≡ 8 = simp (length-take, length-drop) (omega arith) in
       let e3 : length (take 399 v) ≡ 399 = simp (length-take, length-drop) (omega arith) in
@@ -158,7 +195,7 @@ module _ (n : ℕ) (few : n < MAX-OPS) where
       let s2 : feedOf (Reading n 10 a) (take 8 u) ≡ Reading n 18 A =
       address 10 a (take 8 u) (omega arith) (omega arith)
       ∙ ap (λ (k : ℕ). Reading n k (shifts a (take 8 u))) (omega arith)
-      ∙ ap (λ (b : ℕ). Reading n 18 b) (shifts-eight a (take 8 u) l e2)
+      ∙ ap (λ (b : ℕ). Reading n 18 b) (shifts-eight a (take 8 u) l e2 ∙ pack-part 8 t)
       in
       let s3 : feedOf (Reading n 18 A) (take 399 v) ≡ Reading n 417 A =
       skip 18 A (take 399 v) (omega arith) (λ k g h. plain-high k g) (omega arith) ∙ ap (λ (k : ℕ). Reading n k A) (omega arith)
@@ -170,6 +207,13 @@ module _ (n : ℕ) (few : n < MAX-OPS) where
       ∙ feed-split (Reading n 18 A) 399 v
       ∙ ap (λ (c : Cursor). feedOf c (drop 399 v)) s3
       ∙ last A (drop 399 v) e4
+
+-- the address, from the mark's end on
+past-mark : (b0 b1 : ℕ) (t : List ℕ) → pack 8 10 (word (b0 ∷ b1 ∷ t)) ≡ pack 8 8 (word t)
+past-mark b0 b1 t = pack-by 8 10 8 (word (b0 ∷ b1 ∷ t)) (word t) (λ d l. ap (word (b0 ∷ b1 ∷ t)) (next d))
+  where
+    next : (d : ℕ) → 10 + d ≡ suc (suc (8 + d))
+    next d = omega arith
 
 after-pick : (t : Bool) (x : Refusal) (n : ℕ) → pick t (Refused x) (Reading n 0 0) ≡ after (pick t (some x) none) n
 after-pick true x n = refl
@@ -183,7 +227,9 @@ module _ (n : ℕ) (few : n < MAX-OPS) (a : ℕ) (small : a < 184467440737095516
   whole-by b0 b1 t true false ep eq e = simp (lt-leb MAX-OPS n few, ep, eq, eq-eqb (length (b0 ∷ b1 ∷ t)) 418 (omega arith)) (feed-refused (BadRecord (418 * n)) t)
   whole-by b0 b1 t true true ep eq e =
       simp (lt-leb MAX-OPS n few, ep, eq, eq-eqb (length (b0 ∷ b1 ∷ t)) 418 (omega arith))
-      (body n few a t small e ∙ after-pick (ltb LAST-ADDRESS (fromBytes (take 8 (drop 8 t)))) (HighAddress (fromBytes (take 8 (drop 8 t)))) (n + 1))
+      (body n few a t small e
+      ∙ after-pick (ltb LAST-ADDRESS (pack 8 8 (word t))) (HighAddress (pack 8 8 (word t))) (n + 1)
+      ∙ ap (λ (A : ℕ). after (pick (ltb LAST-ADDRESS A) (some (HighAddress A)) none) (n + 1)) (sym (past-mark b0 b1 t)))
 
   pub whole : (r : List ℕ) → length r ≡ 418 → feedOf (Reading n 0 a) r ≡ after (faultOf n (418 * n) r) (n + 1)
   whole [] e = absurd (omega arith)

@@ -6,8 +6,9 @@ use mathlib.Core.List.{List, [], _∷_}
 use mathlib.Core.Option.{Option, none, some}
 use lib.ListN.{length, take, drop, getD}
 use lib.Dec.{ltb, leb, eqb}
-use Rattle.lists.specs.Tab.{pick, tab, tableOf}
+use Rattle.lists.specs.Tab.{pick, tab, tableOf, word}
 use Rattle.lists.specs.First.{orElse}
+use Rattle.bits.specs.Bits.{pack}
 use Rattle.answer.specs.Limits.{MAX-OPS}
 use Rattle.answer.specs.Refusal.{refuseIf, accepted}
 use Rattle.answer.specs.declared.Refusal.{Refusal}
@@ -23,11 +24,6 @@ use Rattle.keccak_rnd.specs.Tuples.{roundTableSum}
 use Rattle.op_file.specs.declared.Sums.{Sums}
 use Rattle.op_file.specs.declared.Tally.{Tally}
 use Rattle.op_file.specs.declared.Tally.the-variants.{Counted, Refused}
-
--- the number that bytes make, lowest first
-unfoldable pub fromBytes : List ℕ → ℕ
-fromBytes [] = 0
-fromBytes (b ∷ bs) = b + 256 * fromBytes bs
 
 -- the mark, then 52 words of 8 bytes: timestamp, address, 25 lanes of input, 25 of output
 abbrev pub RECORD-BYTES : ℕ
@@ -46,9 +42,9 @@ recordsOf file = split (length file) file
 unfoldable pub isWhole : List ℕ → Bool
 isWhole r = pick (eqb (length r) RECORD-BYTES) (pick (eqb (getD r 0 0) 0x4B) (eqb (getD r 1 0) 0x4F) false) false
 
--- word j of a record, j below 52; the address is word 1
+-- word j of a record, j below 52: eight bytes, lowest first. The address is word 1
 unfoldable pub recordWord : List ℕ → ℕ → ℕ
-recordWord r j = fromBytes (take 8 (drop (2 + 8 * j) r))
+recordWord r j = pack 8 (2 + 8 * j) (word r)
 
 abbrev pub addressOf : List ℕ → ℕ
 addressOf r = recordWord r 1

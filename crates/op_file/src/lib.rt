@@ -5,10 +5,11 @@ use keccak::MIN_ROWS;
 use operations::table_height;
 ghost use mathlib.Core.Path.{_≡_};
 ghost use Prim.Native.Nat.{_+_, _*_, _^_, _<_, _≤_};
-ghost use lib.ListN.{length, take, drop};
-ghost use Rattle.lists.specs.Tab.{pick};
+ghost use lib.ListN.{length};
+ghost use Rattle.lists.specs.Tab.{pick, word};
+ghost use Rattle.bits.specs.Bits.{pack};
 ghost use Rattle.keccak_rnd.specs.Row.{roundHeight, padding-are-bytes};
-ghost use Rattle.op_file.specs.File.{fromBytes, faultOf};
+ghost use Rattle.op_file.specs.File.{faultOf};
 ghost use Rattle.op_file.specs.Reader.{after, Advanced, wrong, inAddress, shifted, stepOf, feedOf, isRefused, countsOf};
 ghost use Rattle.op_file.specs.Reader.{finishOf, start as startOf};
 
@@ -69,7 +70,7 @@ fn shift_in(a: u64, b: u8) -> u64
 // The number that the 8 bytes from k make, lowest first.
 pub fn word_at(s: &[u8], k: usize) -> u64
     requires { ⌜ k + 8 ≤ length (now s) ⌝ }
-    ensures { λ r. ⌜ r ≡ fromBytes (take 8 (drop k (now (s .entry)))) ⌝ }
+    ensures { λ r. ⌜ r ≡ pack 8 k (word (now (s .entry))) ⌝ }
 {
     let mut a: u64 = 0;
     let mut j: usize = 0;

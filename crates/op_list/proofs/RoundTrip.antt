@@ -44,9 +44,7 @@ module _ (ops : List ℕ) (whole : length ops % 52 ≡ 0) (small : (k : ℕ) →
   word-at : (i j : ℕ) → i < length ops / 52 → j < 52 → recordWord (drop (i * 418) (fileBytes ops)) j ≡ word ops (i * 52 + j)
   word-at i j hi hj =
       let r : List ℕ = drop (i * 418) (fileBytes ops) in
-      let d = length-drop (i * 418) (fileBytes ops) in
-      let l = file-length ops in
-      word-of r j (omega (arith, d, l, hi, hj))
+      word-of r j
       ∙ lane-of-bytes (word ops (i * 52 + j)) (λ b. word r (2 + 8 * j + b)) (small (i * 52 + j))
       (λ b hb.
       getD-drop (i * 418) (fileBytes ops) (2 + 8 * j + b) 0
@@ -97,10 +95,9 @@ module _ (file : List ℕ) (right : firstFault 0 0 (recordsOf file) ≡ none) (s
   list-word : (i j : ℕ) → i < count → j < 52 → word (fileWords file) (i * 52 + j) ≡ recordWord (take 418 (drop (i * 418) file)) j
   unfolding fileWords operationWords
   list-word i j hi hj =
-      let d = length-drop (i * 418) file in
       table-at count 52 (λ i. tab 52 (recordWord (drop (i * 418) file))) i j hi hj
       ∙ getD-tab 52 (recordWord (drop (i * 418) file)) j 0 hj
-      ∙ word-first (drop (i * 418) file) j hj (omega (arith, d, file-whole file right, hi))
+      ∙ word-first (drop (i * 418) file) j hj
 
   -- record i of what is written for the list
   file-record : (i : ℕ) → i < count → recordBytes (wordsFrom (fileWords file) (i * 52)) ≡ take 418 (drop (i * 418) file)

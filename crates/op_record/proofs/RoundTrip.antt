@@ -7,29 +7,24 @@ use native.Mathlib.Numerals.{add-one}
 use native.Mathlib.Omega.{arith}
 use borrow.Author.Tests.{eqb-true}
 use lib.Dec.{eqb}
-use lib.ListN.{length, take, drop, getD, set, length-take, length-drop}
-use lib.Seq.{sets, getD-take, getD-drop, drop-drop}
-use Rattle.lists.specs.Tab.{pick, tabFrom, tab, word}
+use lib.ListN.{length, take, drop, getD, set}
+use lib.Seq.{sets, getD-take, getD-drop}
+use Rattle.lists.specs.Tab.{pick, tab, word}
 use Rattle.lists.proofs.Laws.{length-tab, sets-append, getD-tab, tab-same, list-tab}
 use Rattle.lists.proofs.Tests.{true-not-false}
 use Rattle.bits.specs.Bits.{byteAt, pack, laneOf}
 use Rattle.bits.proofs.Bytes.{lane-byteAt, lane-of-bytes}
-use Rattle.op_file.specs.File.{fromBytes, isWhole, recordWord}
+use Rattle.op_file.specs.File.{isWhole, recordWord}
+use Rattle.op_file.proofs.Laws.{pack-by}
 use Rattle.op_record.specs.Record.{wordByte, recordBytes, Record}
 
--- eight bytes, as a list and by index
-from-eight : (f : ℕ → ℕ) → fromBytes (tab 8 f) ≡ laneOf f
-unfolding fromBytes tab tabFrom pack
-from-eight f = omega arith
-
--- word j of a list of bytes that is long enough
-pub word-of : (r : List ℕ) (j : ℕ) → 2 + 8 * j + 8 ≤ length r → recordWord r j ≡ laneOf (λ b. word r (2 + 8 * j + b))
+-- word j by its eight bytes
+pub word-of : (r : List ℕ) (j : ℕ) → recordWord r j ≡ laneOf (λ b. word r (2 + 8 * j + b))
 unfolding recordWord
-word-of r j h =
-    let s : List ℕ = take 8 (drop (2 + 8 * j) r) in
-    let e : length s ≡ 8 = simp (length-take, length-drop) (omega arith) in
-    ap fromBytes (list-tab s 8 e ∙ tab-same 8 (λ k. getD s k 0) (λ b. word r (2 + 8 * j + b)) (λ k l. getD-take 8 (drop (2 + 8 * j) r) k 0 l ∙ getD-drop (2 + 8 * j) r k 0))
-    ∙ from-eight (λ b. word r (2 + 8 * j + b))
+word-of r j = pack-by 8 (2 + 8 * j) 0 (word r) (λ b. word r (2 + 8 * j + b)) (λ b l. ap (λ (k : ℕ). word r (2 + 8 * j + k)) (same b))
+  where
+    same : (b : ℕ) → b ≡ 0 + b
+    same b = omega arith
 
 pub record-length : (f : ℕ → ℕ) → length (recordBytes f) ≡ 418
 unfolding recordBytes
@@ -51,7 +46,7 @@ written-byte f j b h hb =
 -- what is written is read back
 pub words-again : (f : ℕ → ℕ) (j : ℕ) → j < 52 → f j < 2 ^ 64 → recordWord (recordBytes f) j ≡ f j
 words-again f j h l =
-    word-of (recordBytes f) j (omega (arith, record-length f))
+    word-of (recordBytes f) j
     ∙ lane-of-bytes (f j) (λ b. word (recordBytes f) (2 + 8 * j + b)) l (λ b hb. written-byte f j b h hb)
 
 -- what makes a record whole
@@ -86,7 +81,7 @@ bytes-again r h =
     rest k l =
         let e : 2 + 8 * (k / 8) + k % 8 ≡ 2 + k = omega arith in
         record-byte (recordWord r) k l
-        ∙ ap (λ (w : ℕ). byteAt w (k % 8)) (word-of r (k / 8) (omega (arith, m .long)))
+        ∙ ap (λ (w : ℕ). byteAt w (k % 8)) (word-of r (k / 8))
         ∙ lane-byteAt (λ b. word r (2 + 8 * (k / 8) + b)) (λ b hb. h .bytes (2 + 8 * (k / 8) + b) (omega arith)) (k % 8) (omega arith)
         ∙ ap (word r) e
 
@@ -103,11 +98,12 @@ record-stores l to f =
     ∙ sets-append l to (0x4B ∷ 0x4F ∷ []) (tab 416 (wordByte f))
 
 -- a word that was read at its place in a file is that of the record there
-pub word-in : {v : ℕ} (s : List ℕ) (from j : ℕ) → v ≡ fromBytes (take 8 (drop (from + 2 + 8 * j) s)) → v ≡ recordWord (drop from s) j
+pub word-in : {v : ℕ} (s : List ℕ) (from j : ℕ) → v ≡ pack 8 (from + 2 + 8 * j) (word s) → v ≡ recordWord (drop from s) j
 unfolding recordWord
 word-in s from j q =
-    let e : from + 2 + 8 * j ≡ from + (2 + 8 * j) = omega arith in
-    q ∙ ap (λ (k : ℕ). fromBytes (take 8 (drop k s))) e ∙ ap (λ (t : List ℕ). fromBytes (take 8 t)) (sym (drop-drop (2 + 8 * j) from s))
+    q
+    ∙ pack-by 8 (from + 2 + 8 * j) (2 + 8 * j) (word s) (word (drop from s))
+    (λ b l. let e : from + 2 + 8 * j + b ≡ from + (2 + 8 * j + b) = omega arith in ap (word s) e ∙ sym (getD-drop from s (2 + 8 * j + b) 0))
 
 -- a record depends on its 52 words alone, and its words on its 418 bytes
 pub record-same : (f g : ℕ → ℕ) → ((j : ℕ) → j < 52 → f j ≡ g j) → recordBytes f ≡ recordBytes g
@@ -116,18 +112,7 @@ record-same f g h =
     ap (λ (t : List ℕ). 0x4B ∷ 0x4F ∷ t)
     (tab-same 416 (λ k. byteAt (f (k / 8)) (k % 8)) (λ k. byteAt (g (k / 8)) (k % 8)) (λ k l. ap (λ (w : ℕ). byteAt w (k % 8)) (h (k / 8) (omega arith))))
 
-pub word-first : (s : List ℕ) (j : ℕ) → j < 52 → 418 ≤ length s → recordWord s j ≡ recordWord (take 418 s) j
+pub word-first : (s : List ℕ) (j : ℕ) → j < 52 → recordWord s j ≡ recordWord (take 418 s) j
 unfolding recordWord
-word-first s j h l =
-    let a : List ℕ = take 8 (drop (2 + 8 * j) s) in
-    let b : List ℕ = take 8 (drop (2 + 8 * j) (take 418 s)) in
-    let ea : length a ≡ 8 = simp (length-take, length-drop) (omega arith) in
-    let eb : length b ≡ 8 = simp (length-take, length-drop) (omega arith) in
-    ap fromBytes
-    (list-tab a 8 ea
-    ∙ tab-same 8 (word a) (word b)
-    (λ k q.
-    getD-take 8 (drop (2 + 8 * j) s) k 0 q
-    ∙ getD-drop (2 + 8 * j) s k 0
-    ∙ sym (getD-take 8 (drop (2 + 8 * j) (take 418 s)) k 0 q ∙ getD-drop (2 + 8 * j) (take 418 s) k 0 ∙ getD-take 418 s (2 + 8 * j + k) 0 (omega arith)))
-    ∙ sym (list-tab b 8 eb))
+word-first s j h =
+    pack-by 8 (2 + 8 * j) (2 + 8 * j) (word s) (word (take 418 s)) (λ b l. sym (getD-take 418 s (2 + 8 * j + b) 0 (omega arith)))

@@ -2,8 +2,8 @@
 // it is what the oracle prints for `sample rows`, `sample lookups`, then `sample evaluations`. Each line starts with the kind
 // of its item.
 use field::Fe;
+use flat::FlatTuple;
 use is_wh::IsWhKey;
-use keccak_tables::FlatTuple;
 use keccak_tables::evaluators::keccak_tables_keccak_bus_interaction;
 use keccak_tables::evaluators::keccak_tables_keccak_rnd_bus_interaction;
 use keccak_tables::evaluators::keccak_tables_keccak_rnd_values;

@@ -67,11 +67,11 @@ pub fn host_source(name: &str) -> String {
     without_strokes(&text(&root().join("host/src").join(name)))
 }
 
-/// The sources of the exports.
+/// The sources of the exports and of the structs that they pass.
 fn export_sources() -> String {
-    let folder = root().join("crates/keccak_tables/src");
-    let mut files: Vec<PathBuf> = fs::read_dir(&folder)
-        .expect("the exports' folder")
+    let mut files: Vec<PathBuf> = ["keccak_tables", "flat", "flat_reader"]
+        .iter()
+        .flat_map(|name| fs::read_dir(root().join("crates").join(name).join("src")).expect("a crate's folder"))
         .flatten()
         .map(|f| f.path())
         .collect();

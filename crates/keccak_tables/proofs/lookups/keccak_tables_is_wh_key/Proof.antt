@@ -1,7 +1,7 @@
 -- `keccak_tables_is_wh_key` meets its contract: the answer of the call that it wraps, flat. Assumes nothing.
 use mathlib.Core.Path.{ap, _∙_}
 use borrow.Author.Needs.{needs}
-use Rattle.keccak_tables.specs.Flat.{flatKey}
+use Rattle.flat.specs.Flat.{flatKey}
 use Rattle.keccak_tables.proofs.lookups.keccak_tables_is_wh_key.Statement.{statement}
 use Rattle.keccak_tables.proofs.lookups.keccak_tables_is_wh_key.Tie as tie
 

@@ -1,6 +1,6 @@
 -- `keccak_tables_write_operations` meets its contract: the answer of the call that it wraps, flat. Assumes nothing.
 use mathlib.Core.Path.{ap, _∙_}
-use Rattle.keccak_tables.specs.Flat.{flatAnswer}
+use Rattle.flat.specs.Flat.{flatAnswer}
 use borrow.Author.Needs.{needs}
 use Rattle.keccak_tables.proofs.tally_calls.keccak_tables_write_operations.Statement.{statement}
 use Rattle.keccak_tables.proofs.tally_calls.keccak_tables_write_operations.Tie as tie

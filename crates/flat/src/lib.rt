@@ -1,0 +1,139 @@
+// The answers of calls as flat structs of words: an enum can't pass by C linkage.
+use answer::Answer;
+use answer::Number;
+use is_wh::IsWhKey;
+use lookup::Bus;
+use lookup::Side;
+use lookup::TupleAnswer;
+ghost use mathlib.Core.Path.{_≡_};
+ghost use Rattle.lookup.specs.Tuple.{busNumber, sideNumber};
+ghost use Rattle.flat.specs.Flat.{flatAnswer, flatNumber, flatTuple, flatKey};
+
+// Number and detail of the refusal, or 0 and 0 where the call did its work.
+#[repr(C)]
+pub struct FlatAnswer {
+    pub number: u64,
+    pub detail: u64,
+}
+
+// The same, and the number that was asked for.
+#[repr(C)]
+pub struct FlatNumber {
+    pub number: u64,
+    pub detail: u64,
+    pub value: u64,
+}
+
+// The same, and the tuple but for its values, which are in the lent slice.
+#[repr(C)]
+pub struct FlatTuple {
+    pub number: u64,
+    pub detail: u64,
+    pub bus: u64,
+    pub side: u64,
+    pub length: u64,
+    pub multiplicity: u64,
+}
+
+#[repr(C)]
+pub struct FlatKey {
+    pub word: u64,
+    pub half: u64,
+}
+
+pub fn flat_answer(answer: Answer) -> FlatAnswer
+    ensures { λ r. ⌜ r ≡ flatAnswer answer ⌝ }
+{
+    match answer {
+        Answer::Done => FlatAnswer {
+            number: 0,
+            detail: 0,
+        },
+        Answer::Refused(refusal) => FlatAnswer {
+            number: refusal.number(),
+            detail: refusal.detail(),
+        },
+    }
+}
+
+pub fn flat_number(answer: Number) -> FlatNumber
+    ensures { λ r. ⌜ r ≡ flatNumber answer ⌝ }
+{
+    match answer {
+        Number::Is(value) => FlatNumber {
+            number: 0,
+            detail: 0,
+            value,
+        },
+        Number::Refused(refusal) => FlatNumber {
+            number: refusal.number(),
+            detail: refusal.detail(),
+            value: 0,
+        },
+    }
+}
+
+fn bus_number(bus: Bus) -> u64
+    ensures { λ r. ⌜ r ≡ busNumber bus ⌝ }
+{
+    match bus {
+        Bus::ByteAlu => 0,
+        Bus::AreBytes => 1,
+        Bus::IsHalfword => 2,
+        Bus::IsWh => 3,
+        Bus::KeccakRc => 4,
+        Bus::Keccak => 5,
+        Bus::Memw => 6,
+        Bus::Ecall => 7,
+        Bus::Msb8 => 8,
+        Bus::Msb16 => 9,
+        Bus::Zero => 10,
+        Bus::IsB20 => 11,
+        Bus::Hwsl => 12,
+    }
+}
+
+fn side_number(side: Side) -> u64
+    ensures { λ r. ⌜ r ≡ sideNumber side ⌝ }
+{
+    match side {
+        Side::Sender => 0,
+        Side::Receiver => 1,
+    }
+}
+
+pub fn flat_tuple(answer: TupleAnswer) -> FlatTuple
+    ensures { λ r. ⌜ r ≡ flatTuple answer ⌝ }
+{
+    match answer {
+        TupleAnswer::Is(tuple) => {
+            let bus = tuple.bus;
+            let side = tuple.side;
+            FlatTuple {
+                number: 0,
+                detail: 0,
+                bus: bus_number(bus),
+                side: side_number(side),
+                length: tuple.length as u64,
+                multiplicity: tuple.multiplicity,
+            }
+        }
+        TupleAnswer::Refused(refusal) => FlatTuple {
+            number: refusal.number(),
+            detail: refusal.detail(),
+            bus: 0,
+            side: 0,
+            length: 0,
+            multiplicity: 0,
+        },
+    }
+}
+
+pub fn flat_key(key: IsWhKey) -> FlatKey
+    ensures { λ r. ⌜ r ≡ flatKey key ⌝ }
+{
+    FlatKey {
+        word: key.word,
+        half: key.half,
+    }
+}
