@@ -1,4 +1,4 @@
--- `State::parities` meets its contract: the parities are stored one after the other. Assumes nothing.
+-- `parities` meets its contract: the parities are stored one after the other. Assumes nothing.
 use mathlib.Core.Path.{_≡_, refl, sym, ap, ap₂, _∙_}
 use Prim.Native.Nat.{ℕ, _+_, _-_, _*_, _/_, _%_, _<_}
 use native.Mathlib.Omega.{arith}
@@ -7,8 +7,8 @@ use lib.ListN.{getD}
 use Rattle.lists.proofs.Laws.{Filled, filled-none, filled-next, filled-whole}
 use Rattle.fips202.specs.Lanes.{parityL}
 use Rattle.fips202.proofs.Steps.{parity-column}
-use Rattle.permutation.proofs.State.parities.Statement.{statement}
-use Rattle.permutation.proofs.State.parities.Tie as tie
+use Rattle.step_theta.proofs.parities.Statement.{statement}
+use Rattle.step_theta.proofs.parities.Tie as tie
 
 abbrev Inv-loop : tie.InvT-loop
 Inv-loop a c₀ x₀ c x = Filled c₀ 0 5 (parityL a) c x
@@ -76,7 +76,7 @@ loop-less c = omega arith
 loop-again : tie.Need-loop-again Inv-loop μ-loop
 loop-again c =
     let at = c .before in
-    filled-next _ (at .loop .inv) (c .loop-test .taken) (parity-column (at .before .before .args .self .lanes) (at .loop .x))
+    filled-next _ (at .loop .inv) (c .loop-test .taken) (parity-column (at .before .args .t1) (at .loop .x))
 
 returns : tie.Need-returns Inv-loop μ-loop
 returns c = filled-whole (c .before .loop .inv) refl (c .loop-test .left)

@@ -6,8 +6,8 @@ use lib.Bits.{bitXor}
 use lib.ListN.{getD}
 use Rattle.lists.proofs.Laws.{Filled, filled-none, filled-next, filled-whole}
 use Rattle.fips202.specs.Lanes.{thetaDL}
-use Rattle.permutation.proofs.theta_d.Statement.{statement}
-use Rattle.permutation.proofs.theta_d.Tie as tie
+use Rattle.step_theta.proofs.theta_d.Statement.{statement}
+use Rattle.step_theta.proofs.theta_d.Tie as tie
 
 abbrev Inv-loop : tie.InvT-loop
 Inv-loop c d₀ x₀ d x = Filled d₀ 0 5 (thetaDL c) d x

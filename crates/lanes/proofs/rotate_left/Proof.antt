@@ -9,8 +9,8 @@ use borrow.Author.Needs.{needs}
 use Rattle.lists.proofs.Then.{by-le}
 use Rattle.bits.specs.Bits.{rot}
 use Rattle.bits.proofs.BitLaws.{shifted}
-use Rattle.permutation.proofs.rotate_left.Statement.{statement}
-use Rattle.permutation.proofs.rotate_left.Tie as tie
+use Rattle.lanes.proofs.rotate_left.Statement.{statement}
+use Rattle.lanes.proofs.rotate_left.Tie as tie
 
 unrotated : (n : ℕ) → n < 2 ^ 64 → bitOr (n * 1 % 2 ^ 64) (n / 1) ≡ n * 1 % 2 ^ 64 + n / 2 ^ 64
 unrotated n h =

@@ -1,4 +1,4 @@
--- `State::rho_pi_plane` meets its contract: the lanes are stored one after the other. Assumes nothing.
+-- `rho_pi_plane` meets its contract: the lanes are stored one after the other. Assumes nothing.
 use mathlib.Core.Path.{_≡_, refl, ap, _∙_}
 use Prim.Native.Nat.{ℕ, _+_, _-_, _*_, _%_, _<_}
 use native.Mathlib.Omega.{arith}
@@ -6,8 +6,8 @@ use lib.ListN.{getD}
 use Rattle.lists.proofs.Laws.{Filled, filled-none, filled-next, filled-whole}
 use Rattle.bits.specs.Bits.{rot}
 use Rattle.fips202.specs.Lanes.{lane, plane, rhoAt, rhoPiAt}
-use Rattle.permutation.proofs.State.rho_pi_plane.Statement.{statement}
-use Rattle.permutation.proofs.State.rho_pi_plane.Tie as tie
+use Rattle.step_rho_pi.proofs.rho_pi_plane.Statement.{statement}
+use Rattle.step_rho_pi.proofs.rho_pi_plane.Tie as tie
 
 abbrev Inv-loop : tie.InvT-loop
 Inv-loop y a p₀ x₀ p x = (y < 5) × Filled p₀ 0 5 (λ x. rhoPiAt a x y) p x
@@ -16,7 +16,7 @@ abbrev μ-loop : tie.MeasureT-loop
 μ-loop y a p₀ x₀ p x = 5 - x
 
 loop-holds : tie.Need-loop-holds Inv-loop μ-loop
-loop-holds c = (c .before .pre, filled-none _ _ _ _)
+loop-holds c = (c .pre, filled-none _ _ _ _)
 
 mul-from : tie.Need-mul-from Inv-loop μ-loop
 mul-from c = omega arith
@@ -58,12 +58,12 @@ loop-again : tie.Need-loop-again Inv-loop μ-loop
 unfolding rhoPiAt rhoAt
 loop-again c =
     let at = c .before .before .before in
-    let start = at .before .before in
+    let start = at .before in
     let x = at .loop .x in
     let from = (x + 3 * start .args .y) % 5 in (
       at .loop .inv .0,
       filled-next _ (at .loop .inv .1) (c .before .before .loop-test .taken)
-          (c .rotate-left .ensures ∙ ap (rot (lane (start .args .self .lanes) from x)) (c .before .rho-offset .ensures)),
+          (c .rotate-left .ensures ∙ ap (rot (lane (start .args .t1) from x)) (c .before .rho-offset .ensures)),
     )
 
 returns : tie.Need-returns Inv-loop μ-loop
