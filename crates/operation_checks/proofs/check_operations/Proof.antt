@@ -1,4 +1,4 @@
--- `keccak::check_operations` meets its contract: one check after the other. Assumes nothing.
+-- `check_operations` meets its contract: one check after the other. Assumes nothing.
 use mathlib.Core.Path.{_≡_, refl, sym, ap, _∙_}
 use Prim.Native.Nat.{ℕ, _-_}
 use native.Mathlib.Omega.{arith}
@@ -12,9 +12,9 @@ use Rattle.lists.proofs.First.{place-at, place-nowhere, at-found}
 use Rattle.answer.proofs.Laws.{refuse-yes, refuse-no, at-yes, at-no, answers, accepts}
 use Rattle.keccak.specs.Row.{opAt}
 use Rattle.keccak.specs.Refusals.{opCount, highAt}
-use Rattle.operations.proofs.check_operations.Statement.{statement}
-use Rattle.operations.proofs.check_operations.Tie as tie
-use Rattle.operations.proofs.first_high.Reads as first-high-reads
+use Rattle.operation_checks.proofs.check_operations.Statement.{statement}
+use Rattle.operation_checks.proofs.check_operations.Tie as tie
+use Rattle.operation_checks.proofs.first_high.Reads as first-high-reads
 
 abbrev Ops : tie.After-i → List ℕ
 Ops k = k .before .before .before .before .before .before .args .ops .now

@@ -1,4 +1,4 @@
--- `keccak::first_high` meets its contract: no address before the i-th is too high. Assumes nothing.
+-- `first_high` meets its contract: no address before the i-th is too high. Assumes nothing.
 use mathlib.Core.Path.{_≡_, ap, sym}
 use mathlib.Core.Option.{none}
 use Prim.Native.Nat.{_≤_, _-_}
@@ -8,8 +8,8 @@ use Rattle.lists.specs.First.{first, atIndex, placeOf}
 use Rattle.lists.proofs.First.{first-start, at-more, at-hit, at-none}
 use Rattle.keccak.specs.Row.{opAt}
 use Rattle.keccak.specs.Refusals.{highAt}
-use Rattle.operations.proofs.first_high.Statement.{statement}
-use Rattle.operations.proofs.first_high.Tie as tie
+use Rattle.operation_checks.proofs.first_high.Statement.{statement}
+use Rattle.operation_checks.proofs.first_high.Tie as tie
 
 abbrev Inv-loop : tie.InvT-loop
 Inv-loop ops n i₀ i = (i ≤ n) × (first (atIndex (highAt ops)) i ≡ none)

@@ -1,10 +1,10 @@
--- `keccak::table_height` meets its contract: the larger of the floor and the power. Assumes nothing.
+-- `table_height` meets its contract: the larger of the floor and the power. Assumes nothing.
 use Prim.Native.Nat.{_-_}
 use borrow.Author.Needs.{needs}
 use Rattle.keccak.proofs.Height.{height-below, height-above}
-use Rattle.operations.proofs.table_height.Statement.{statement}
-use Rattle.operations.proofs.table_height.Tie as tie
-use Rattle.operations.proofs.next_power_of_two.Reads as next-power-of-two-reads
+use Rattle.heights.proofs.table_height.Statement.{statement}
+use Rattle.heights.proofs.table_height.Tie as tie
+use Rattle.heights.proofs.next_power_of_two.Reads as next-power-of-two-reads
 
 next-power-of-two-requires : tie.Need-next-power-of-two-requires
 next-power-of-two-requires c κs = search needs

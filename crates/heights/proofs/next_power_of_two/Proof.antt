@@ -1,9 +1,9 @@
--- `keccak::next_power_of_two` meets its contract: a power of two that is doubled while it is below n. Assumes nothing.
+-- `next_power_of_two` meets its contract: a power of two that is doubled while it is below n. Assumes nothing.
 use Prim.Native.Nat.{_-_}
 use native.Mathlib.Omega.{arith}
 use Rattle.keccak.proofs.Height.{Climbs, climbs-one, climbs-more, climbs-pos, climbs-next}
-use Rattle.operations.proofs.next_power_of_two.Statement.{statement}
-use Rattle.operations.proofs.next_power_of_two.Tie as tie
+use Rattle.heights.proofs.next_power_of_two.Statement.{statement}
+use Rattle.heights.proofs.next_power_of_two.Tie as tie
 
 abbrev Inv-loop : tie.InvT-loop
 Inv-loop n power₀ power = Climbs n power
