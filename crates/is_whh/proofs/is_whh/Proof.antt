@@ -1,8 +1,8 @@
--- `is_wh::is_whh` meets its contract: one of the template's two tuples. Assumes nothing.
+-- `is_whh` meets its contract: one of the template's two tuples. Assumes nothing.
 use Rattle.is_wh.proofs.Tuples.{pair-sent, low-sent, as-tuple}
 use borrow.Author.Needs.{needs}
-use Rattle.is_wh.proofs.is_whh.Statement.{statement}
-use Rattle.is_wh.proofs.is_whh.Tie as tie
+use Rattle.is_whh.proofs.is_whh.Statement.{statement}
+use Rattle.is_whh.proofs.is_whh.Tie as tie
 
 add-pair : tie.Need-add-pair
 add-pair c = search needs

@@ -1,10 +1,10 @@
--- `is_wh::send_one` meets its contract: one word is stored. Assumes nothing.
+-- `send_one` meets its contract: one word is stored. Assumes nothing.
 use mathlib.Core.Path.{refl}
 use mathlib.Core.List.{[], _∷_}
 use Rattle.answer.proofs.Laws.{sets-overwrite}
 use borrow.Author.Needs.{needs}
-use Rattle.is_wh.proofs.send_one.Statement.{statement}
-use Rattle.is_wh.proofs.send_one.Tie as tie
+use Rattle.is_wh_parts.proofs.send_one.Statement.{statement}
+use Rattle.is_wh_parts.proofs.send_one.Tie as tie
 
 slice-write-out : tie.Need-slice-write-out
 slice-write-out c = search needs

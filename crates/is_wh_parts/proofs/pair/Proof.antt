@@ -1,10 +1,10 @@
--- `is_wh::pair` meets its contract: two words are stored. Assumes nothing.
+-- `pair` meets its contract: two words are stored. Assumes nothing.
 use mathlib.Core.Path.{refl}
 use mathlib.Core.List.{[], _∷_}
 use Rattle.answer.proofs.Laws.{sets-overwrite}
 use borrow.Author.Needs.{needs}
-use Rattle.is_wh.proofs.pair.Statement.{statement}
-use Rattle.is_wh.proofs.pair.Tie as tie
+use Rattle.is_wh_parts.proofs.pair.Statement.{statement}
+use Rattle.is_wh_parts.proofs.pair.Tie as tie
 
 slice-write-out : tie.Need-slice-write-out
 slice-write-out c = search needs
