@@ -1,10 +1,10 @@
--- `add_template::bit_under` meets its contract: under a column, or always. Assumes nothing.
+-- `bit_under` meets its contract: under a column, or always. Assumes nothing.
 use mathlib.Core.Path.{_∙_}
 use native.Mathlib.Omega.{arith}
 use borrow.Author.Needs.{needs}
-use Rattle.add_template.proofs.Sums.{cond-in, under-always, under-when}
-use Rattle.add_template.proofs.bit_under.Statement.{statement}
-use Rattle.add_template.proofs.bit_under.Tie as tie
+use Rattle.bit_values.proofs.Conditions.{cond-in, under-always, under-when}
+use Rattle.bit_values.proofs.bit_under.Statement.{statement}
+use Rattle.bit_values.proofs.bit_under.Tie as tie
 
 enum-known-cond : tie.Need-enum-known-cond
 enum-known-cond c = search needs

@@ -1,9 +1,9 @@
--- `add_template::add_terms_expr` meets its contract: four terms. Assumes nothing.
+-- `add_terms_expr` meets its contract: four terms. Assumes nothing.
 use native.Mathlib.Omega.{arith}
-use Rattle.add_template.proofs.Sums.{four-terms}
-use Rattle.add_template.specs.Within.{TermsIn}
-use Rattle.add_template.proofs.add_terms_expr.Statement.{statement}
-use Rattle.add_template.proofs.add_terms_expr.Tie as tie
+use Rattle.operand_words.proofs.Sums.{four-terms}
+use Rattle.operand_words.specs.Within.{TermsIn}
+use Rattle.operand_words.proofs.add_terms_expr.Statement.{statement}
+use Rattle.operand_words.proofs.add_terms_expr.Tie as tie
 
 add-term-requires : tie.Need-add-term-requires
 unfolding TermsIn

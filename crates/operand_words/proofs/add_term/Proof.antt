@@ -1,11 +1,11 @@
--- `add_template::add_term` meets its contract: one term more. Assumes nothing.
+-- `add_term` meets its contract: one term more. Assumes nothing.
 use mathlib.Core.Path.{ap, _∙_}
 use native.Mathlib.Omega.{arith}
 use borrow.Author.Needs.{needs}
 use Rattle.field.specs.Field.{fadd, fmul}
-use Rattle.add_template.proofs.Sums.{column-in, term-of}
-use Rattle.add_template.proofs.add_term.Statement.{statement}
-use Rattle.add_template.proofs.add_term.Tie as tie
+use Rattle.operand_words.proofs.Sums.{column-in, term-of}
+use Rattle.operand_words.proofs.add_term.Statement.{statement}
+use Rattle.operand_words.proofs.add_term.Tie as tie
 
 enum-known-t : tie.Need-enum-known-t
 enum-known-t c = search needs

@@ -1,10 +1,10 @@
--- `add_template::add_operand_lo` meets its contract: a column, or a sum of terms. Assumes nothing.
+-- `add_operand_lo` meets its contract: a column, or a sum of terms. Assumes nothing.
 use mathlib.Core.Path.{sym, _∙_}
 use native.Mathlib.Omega.{arith}
 use borrow.Author.Needs.{needs}
-use Rattle.add_template.proofs.Sums.{pair-in, terms-in, lo-of}
-use Rattle.add_template.proofs.add_operand_lo.Statement.{statement}
-use Rattle.add_template.proofs.add_operand_lo.Tie as tie
+use Rattle.operand_words.proofs.Sums.{pair-in, terms-in, lo-of}
+use Rattle.operand_words.proofs.add_operand_lo.Statement.{statement}
+use Rattle.operand_words.proofs.add_operand_lo.Tie as tie
 
 enum-known-kind : tie.Need-enum-known-kind
 enum-known-kind c = search needs

@@ -1,7 +1,6 @@
--- What a template asks of a row: the columns that its operands name are there, and those that are read as they stand are
--- below p. Assumes nothing.
+-- What an operand asks of a row: the columns that it names are there, and those that are read as they stand are below p. Assumes nothing.
 use Prim.Native.Nat.{ℕ, _+_, _<_}
-use mathlib.Core.List.{List, [], _∷_}
+use mathlib.Core.List.{List}
 use lib.ListN.{length}
 use Rattle.lists.specs.Tab.{word}
 use Rattle.field.specs.Field.{p}
@@ -11,8 +10,6 @@ use Rattle.templates.specs.declared.AddTerms.{AddTerms}
 use Rattle.templates.specs.declared.AddKind.{AddKind}
 use Rattle.templates.specs.declared.AddKind.the-variants.{DWordWL, Linear}
 use Rattle.templates.specs.declared.AddOperand.{AddOperand}
-use Rattle.templates.specs.declared.Cond.{Cond}
-use Rattle.templates.specs.declared.Cond.the-variants.{Always, When}
 
 unfoldable pub TermIn : List ℕ → AddLinearTerm → Type 0
 TermIn row (Column c k) = k < length row
@@ -27,12 +24,3 @@ KindIn row Linear lo hi = TermsIn row lo × TermsIn row hi
 
 abbrev pub OperandIn : List ℕ → AddOperand → Type 0
 OperandIn row o = KindIn row (o .kind) (o .lo) (o .hi)
-
-unfoldable pub CondIn : List ℕ → Cond → Type 0
-CondIn row Always = Unit {0}
-CondIn row (When c) = (c < length row) × (word row c < p)
-
--- the columns whose sum the condition is: none, or one
-abbrev pub columnsOf : Cond → List ℕ
-columnsOf Always = []
-columnsOf (When c) = c ∷ []

@@ -1,8 +1,8 @@
--- `add_template::const_signed` meets its contract: the number itself, or p - 1 less -1 - v. Assumes nothing.
+-- `const_signed` meets its contract: the number itself, or p - 1 less -1 - v. Assumes nothing.
 use borrow.Author.Needs.{needs}
-use Rattle.add_template.proofs.Signed.{positive-held, negative-held, negative-again}
-use Rattle.add_template.proofs.const_signed.Statement.{statement}
-use Rattle.add_template.proofs.const_signed.Tie as tie
+use Rattle.operand_words.proofs.Signed.{positive-held, negative-held, negative-again}
+use Rattle.operand_words.proofs.const_signed.Statement.{statement}
+use Rattle.operand_words.proofs.const_signed.Tie as tie
 
 cast-t4 : tie.Need-cast-t4
 cast-t4 c = positive-held _ (c .before .fits .v) (c .if1 .taken) .cast

@@ -1,9 +1,9 @@
--- `add_template::is_bit` meets its contract: x times 1 - x. Assumes nothing.
+-- `is_bit` meets its contract: x times 1 - x. Assumes nothing.
 use mathlib.Core.Path.{ap, _∙_}
 use borrow.Author.Needs.{needs}
 use Rattle.field.specs.Field.{fmul}
-use Rattle.add_template.proofs.is_bit.Statement.{statement}
-use Rattle.add_template.proofs.is_bit.Tie as tie
+use Rattle.bit_values.proofs.is_bit.Statement.{statement}
+use Rattle.bit_values.proofs.is_bit.Tie as tie
 
 sub-requires : tie.Need-sub-requires
 sub-requires c κs = search needs

@@ -1,10 +1,10 @@
--- `add_template::emit_is_bit` meets its contract: under a column, or always. Assumes nothing.
+-- `emit_is_bit` meets its contract: under a column, or always. Assumes nothing.
 use mathlib.Core.Path.{_∙_}
 use native.Mathlib.Omega.{arith}
 use borrow.Author.Needs.{needs}
-use Rattle.add_template.proofs.Sums.{cond-in, bit-of}
-use Rattle.add_template.proofs.emit_is_bit.Statement.{statement}
-use Rattle.add_template.proofs.emit_is_bit.Tie as tie
+use Rattle.bit_values.proofs.Conditions.{cond-in, bit-of}
+use Rattle.bit_values.proofs.emit_is_bit.Statement.{statement}
+use Rattle.bit_values.proofs.emit_is_bit.Tie as tie
 
 mul-x : tie.Need-mul-x
 mul-x c = search needs

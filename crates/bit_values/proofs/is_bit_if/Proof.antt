@@ -1,9 +1,9 @@
--- `add_template::is_bit_if` meets its contract: the condition first, then x, then 1 - x. Assumes nothing.
+-- `is_bit_if` meets its contract: the condition first, then x, then 1 - x. Assumes nothing.
 use mathlib.Core.Path.{ap₂, _∙_}
 use borrow.Author.Needs.{needs}
 use Rattle.field.specs.Field.{fmul}
-use Rattle.add_template.proofs.is_bit_if.Statement.{statement}
-use Rattle.add_template.proofs.is_bit_if.Tie as tie
+use Rattle.bit_values.proofs.is_bit_if.Statement.{statement}
+use Rattle.bit_values.proofs.is_bit_if.Tie as tie
 
 mul-requires : tie.Need-mul-requires
 mul-requires c κs = search needs
