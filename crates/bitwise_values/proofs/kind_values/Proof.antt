@@ -1,4 +1,4 @@
--- `bitwise_tuples::kind_values` meets its contract, arm by arm. Assumes nothing.
+-- `kind_values` meets its contract, arm by arm. Assumes nothing.
 use mathlib.Core.Path.{_≡_, sym, ap, _∙_}
 use Prim.Native.Nat.{ℕ}
 use borrow.Author.Needs.{needs}
@@ -6,8 +6,8 @@ use mathlib.Core.List.{List, [], _∷_}
 use Rattle.lists.specs.Tab.{tab, tabFrom, word}
 use Rattle.bitwise.specs.declared.BitwiseOperationType.{BitwiseOperationType}
 use Rattle.bitwise.specs.Tuples.{kindValues}
-use Rattle.bitwise_tuples.proofs.kind_values.Statement.{statement}
-use Rattle.bitwise_tuples.proofs.kind_values.Tie as tie
+use Rattle.bitwise_values.proofs.kind_values.Statement.{statement}
+use Rattle.bitwise_values.proofs.kind_values.Tie as tie
 
 -- the values of the kind that the match found
 same : (row : List ℕ) {k j : BitwiseOperationType} → k ≡ j → tab 4 (word (kindValues row j)) ≡ tab 4 (word (kindValues row k))

@@ -1,11 +1,11 @@
--- `bitwise_tuples::kind_at` meets its contract, arm by arm. Assumes nothing.
+-- `kind_at` meets its contract, arm by arm. Assumes nothing.
 use mathlib.Core.Path.{_≡_, sym, ap}
 use Prim.Native.Nat.{ℕ, suc, _≤_}
 use native.Mathlib.Omega.{arith}
 use Rattle.bitwise.specs.Tuples.{kindAt}
 use Rattle.bitwise.proofs.Numbers.{kind-last}
-use Rattle.bitwise_tuples.proofs.kind_at.Statement.{statement}
-use Rattle.bitwise_tuples.proofs.kind_at.Tie as tie
+use Rattle.bitwise_kinds.proofs.kind_at.Statement.{statement}
+use Rattle.bitwise_kinds.proofs.kind_at.Tie as tie
 
 past : {n i : ℕ} → n ≤ i → (i ≡ n → ⊥) → suc n ≤ i
 past l h = omega arith
