@@ -1,7 +1,7 @@
 -- `add_template::emit_add_pair` meets its contract: the low carry, or the high one. Assumes nothing.
 use mathlib.Core.Path.{_∙_}
-use Rattle.add_template.specs.Within.{columnsOf}
-use Rattle.add_template.proofs.Sums.{first-value, second-value}
+use Rattle.bit_values.specs.Conditions.{columnsOf}
+use Rattle.add_template.proofs.Values.{first-value, second-value}
 use Rattle.add_template.proofs.emit_add_pair.Statement.{statement}
 use Rattle.add_template.proofs.emit_add_pair.Tie as tie
 

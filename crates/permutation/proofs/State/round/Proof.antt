@@ -27,11 +27,11 @@ iota-requires c κs = search needs
 returns : tie.Need-returns
 unfolding rndL
 returns c =
-    let start = c .before .before .before .before in
+    let start = c .before .before .before .before .before in
     let s = start .args .self .lanes in
     let r = start .args .r in
     let fits : (i : ℕ) → Fits w64 (getD s i 0) = λ i. search needs in
-    let e : c .iota .result .lanes ≡ rndL s r =
+    let e : c .iota .result ≡ rndL s r =
     c .iota .ensures
     ∙ ap (iotaL r) (c .before .chi .ensures ∙ ap chiL (c .before .before .rho-pi .ensures ∙ ap rhoPiL (c .before .before .before .theta .ensures))) in
     (e, subst (λ (t : List ℕ). Agree (bits t) (rnd (bits s) r)) (sym e) (rnd-agree r (start .pre) s (λ i h. fits i .fits)))

@@ -1,0 +1,45 @@
+// The checks of a flat list of operations.
+use answer::Answer;
+use answer::Refusal;
+use keccak::LAST_ADDRESS;
+use keccak::OP_WORDS;
+use lists::Place;
+ghost use mathlib.Core.Path.{_≡_};
+ghost use Prim.Native.Nat.{_*_, _≤_};
+ghost use lib.ListN.{length};
+ghost use Rattle.lists.specs.First.{firstAt, placeOf};
+ghost use Rattle.answer.specs.Refusal.{accepted, answerOf};
+ghost use Rattle.keccak.specs.Row.{OP-WORDS};
+ghost use Rattle.keccak.specs.Refusals.{highAt, notWhole, tooShort, tooHigh};
+
+// The first of n operations whose address is above the last one.
+fn first_high(ops: &[u64], n: usize) -> Place
+    requires { ⌜ OP-WORDS * n ≤ length (now ops) ⌝ }
+    ensures { λ r. ⌜ r ≡ placeOf (firstAt (highAt (now (ops .entry))) n) ⌝ }
+{
+    let mut i: usize = 0;
+    while i < n {
+        if ops[OP_WORDS * i + 1] > LAST_ADDRESS {
+            return Place::At(i);
+        }
+        i += 1;
+    }
+    Place::Nowhere
+}
+
+// The checks of a call that takes a list of operations and a slice to write to, after those of its numbers.
+pub fn check_operations(ops: &[u64], room: usize, needed: usize) -> Answer
+    ensures { λ r. ⌜ r ≡ answerOf (notWhole (now (ops .entry)) (tooShort room needed (tooHigh (now (ops .entry)) accepted))) ⌝ }
+{
+    if ops.len() % OP_WORDS != 0 {
+        return Answer::Refused(Refusal::NotWhole(2));
+    }
+    if room < needed {
+        return Answer::Refused(Refusal::TooShort(needed as u64));
+    }
+    let n = ops.len() / OP_WORDS;
+    if let Place::At(i) = first_high(ops, n) {
+        return Answer::Refused(Refusal::HighAddress(ops[OP_WORDS * i + 1]));
+    }
+    Answer::Done
+}
