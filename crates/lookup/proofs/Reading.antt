@@ -1,0 +1,72 @@
+-- A call for a tuple reads of the lent row its columns only: what it answers, and what it leaves in the lent slice, is the
+-- same for any two rows that are long enough and alike in their columns. Assumes nothing.
+use mathlib.Core.Path.{_≡_, refl, sym, ap, _∙_}
+use mathlib.Core.Bool.{Bool}
+use mathlib.Core.List.{List}
+use mathlib.Core.Option.{Option, some}
+use Prim.Native.Nat.{ℕ, _≤_, _<_}
+use borrow.Author.Tests.{le-leb, le-ltb}
+use lib.Dec.{leb, ltb}
+use lib.ListN.{length, take}
+use Rattle.lists.proofs.Then.{by-le}
+use Rattle.lists.proofs.Reading.{Alike, ReadsFirst, front-same}
+use Rattle.answer.specs.Refusal.{refuseIf, refuseAt, accepted, overwrite, afterwards}
+use Rattle.answer.specs.declared.Refusal.{Refusal}
+use Rattle.answer.specs.declared.Refusal.the-variants.{PastEnd, TooShort, NotElement}
+use Rattle.answer.proofs.Laws.{refuse-yes, kept}
+use Rattle.field.specs.Elements.{firstNotElement}
+use Rattle.field.proofs.Reading.{elements-reads}
+use Rattle.lookup.specs.Tuple.{Tuple}
+use Rattle.lookup.specs.declared.TupleAnswer.the-variants.{Refused}
+use Rattle.lookup.specs.Call.{sizedRefusal, tupleRefusal, tupleAnswer, tupleAnswerOf, tupleAfter}
+
+-- 'A row may be lent longer than its columns; the rest is neither read nor written': not read
+abbrev pub RestNotRead : ℕ → ℕ → (List ℕ → ℕ → Tuple) → Type 0
+RestNotRead width count tuple =
+    (row : List ℕ) (i : ℕ) (out : List ℕ)
+    → (tupleAnswerOf width count tuple (take width row) i out ≡ tupleAnswerOf width count tuple row i out)
+    × (tupleAfter width count tuple (take width row) i out ≡ tupleAfter width count tuple row i out)
+
+-- the test of a row's length passes for no row that is long enough
+pub long-enough : (width : ℕ) (row other : List ℕ) → width ≤ length row → width ≤ length other
+    → ltb (length row) width ≡ ltb (length other) width
+long-enough width row other h j = le-ltb _ _ h ∙ sym (le-ltb _ _ j)
+
+module _ (width count : ℕ) (tuple : List ℕ → ℕ → Tuple) (reads : ReadsFirst width count tuple) where
+  module _ (row other : List ℕ) (h : width ≤ length row) (j : width ≤ length other) (same : Alike width row other) (i : ℕ) (out : List ℕ) where
+    -- below `count` the checks and the tuple are the same
+    checks : i < count → tupleRefusal width count tuple row i out ≡ tupleRefusal width count tuple other i out
+    unfolding tupleRefusal sizedRefusal
+    checks l =
+        let e : tuple row i ≡ tuple other i = reads row other same i l in
+        let b : ltb (length row) width ≡ ltb (length other) width = long-enough width row other h j in
+        let f : firstNotElement row width ≡ firstNotElement other width = elements-reads width row other same in
+        λ t. refuseIf (leb count i) (PastEnd count)
+        (refuseIf (b t) (TooShort width)
+        (refuseIf (ltb (length out) (length (e t .values))) (TooShort (length (e t .values)))
+        (refuseAt (f t) NotElement accepted)))
+
+    -- from `count` on any row is refused before it is read
+    past : (any : List ℕ) → count ≤ i → tupleRefusal width count tuple any i out ≡ some (PastEnd count)
+    unfolding tupleRefusal sizedRefusal
+    past any l = refuse-yes _ _ (le-leb _ _ l)
+
+    pub answer-reads : tupleAnswerOf width count tuple row i out ≡ tupleAnswerOf width count tuple other i out
+    unfolding tupleAnswer
+    answer-reads =
+        by-le count i
+        (λ l. ap (tupleAnswer (tuple row i)) (past row l) ∙ sym (ap (tupleAnswer (tuple other i)) (past other l)))
+        (λ l. let e = reads row other same i l in let c = checks l in λ t. tupleAnswer (e t) (c t))
+
+    pub after-reads : tupleAfter width count tuple row i out ≡ tupleAfter width count tuple other i out
+    after-reads =
+        by-le count i
+        (λ l. sym (kept _ out (past row l)) ∙ kept _ out (past other l))
+        (λ l. let e = reads row other same i l in let c = checks l in λ t. afterwards (c t) (overwrite (e t .values) out) out)
+
+  -- so a row lent longer than its columns is as good as its columns alone
+  pub tuple-rest : RestNotRead width count tuple
+  tuple-rest row i out = (
+    front-same (λ (r : List ℕ). tupleAnswerOf width count tuple r i out) width (λ r o h j same. answer-reads r o h j same i out) row,
+    front-same (λ (r : List ℕ). tupleAfter width count tuple r i out) width (λ r o h j same. after-reads r o h j same i out) row,
+  )
