@@ -57,17 +57,19 @@ extern "C" {
 #define KECCAK_TABLES_IS_WH_COLUMNS 4
 #define KECCAK_TABLES_IS_WH_TUPLES 5
 
-/* Core rows: columns, values, tuples; the words of an operation's keys. */
+/* Core rows: columns, values, tuples, the words of a row's tuples; the words of an operation's keys. */
 #define KECCAK_TABLES_CORE_COLUMNS 486
 #define KECCAK_TABLES_CORE_VALUES 52
 #define KECCAK_TABLES_CORE_TUPLES 84
+#define KECCAK_TABLES_CORE_TUPLE_WORDS 1457
 #define KECCAK_TABLES_KEY_WORDS 50
 
-/* Round rows: rounds of an operation, columns, values, tuples. */
+/* Round rows: rounds of an operation, columns, values, tuples, the words of a row's tuples. */
 #define KECCAK_TABLES_ROUNDS 24
 #define KECCAK_TABLES_ROUND_COLUMNS 1480
 #define KECCAK_TABLES_ROUND_VALUES 141
 #define KECCAK_TABLES_ROUND_TUPLES 1031
+#define KECCAK_TABLES_ROUND_TUPLE_WORDS 8211
 
 /* The most values that a tuple of any row has. */
 #define KECCAK_TABLES_MAX_TUPLE_LENGTH 203
@@ -220,6 +222,13 @@ keccak_tables_answer keccak_tables_keccak_values(const uint64_t *row, size_t row
 keccak_tables_tuple keccak_tables_keccak_bus_interaction(const uint64_t *row, size_t row_length, size_t index, uint64_t syscall,
                                                          uint64_t *out, size_t out_length);
 
+/*
+ * Writes all 84 tuples of a core row, one after the other: for each bus, side, length and multiplicity, then its values.
+ * 3 row < 486, then out < 1,457; 5 a column.
+ */
+keccak_tables_answer keccak_tables_keccak_bus_interactions(const uint64_t *row, size_t row_length, uint64_t syscall,
+                                                           uint64_t *out, size_t out_length);
+
 /* ---- the round table ---- */
 
 /* Writes the row of a round from the 25 lanes of START. 1 round >= 24; 3 start < 25, then row < 1,480. */
@@ -242,6 +251,10 @@ keccak_tables_answer keccak_tables_keccak_rnd_values(const uint64_t *row, size_t
 /* Tuple `index` of a round row. 1 index >= 1,031; 3 row < 1,480, then out < the tuple's length; 5 a column. */
 keccak_tables_tuple keccak_tables_keccak_rnd_bus_interaction(const uint64_t *row, size_t row_length, size_t index, uint64_t *out,
                                                              size_t out_length);
+
+/* Writes all 1,031 tuples of a round row, likewise. 3 row < 1,480, then out < 8,211; 5 a column. */
+keccak_tables_answer keccak_tables_keccak_rnd_bus_interactions(const uint64_t *row, size_t row_length, uint64_t *out,
+                                                               size_t out_length);
 
 /* ---- the verdict ---- */
 

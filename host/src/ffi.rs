@@ -128,6 +128,8 @@ bind! {
     keccak_bus_interaction = keccak_tables_keccak_bus_interaction(
         read row, number index: usize, number syscall: u64, write out
     ) -> FlatTuple;
+    keccak_bus_interactions =
+        keccak_tables_keccak_bus_interactions(read row, number syscall: u64, write out) -> FlatAnswer;
 
     keccak_rnd_row =
         keccak_tables_keccak_rnd_row(number timestamp: u64, read start, number round: usize, write row) -> FlatAnswer;
@@ -137,6 +139,7 @@ bind! {
     keccak_rnd_values = keccak_tables_keccak_rnd_values(read row, write out) -> FlatAnswer;
     keccak_rnd_bus_interaction =
         keccak_tables_keccak_rnd_bus_interaction(read row, number index: usize, write out) -> FlatTuple;
+    keccak_rnd_bus_interactions = keccak_tables_keccak_rnd_bus_interactions(read row, write out) -> FlatAnswer;
 
     verdict = keccak_tables_verdict(read core, read round) -> FlatVerdict;
 }

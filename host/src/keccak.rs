@@ -17,6 +17,9 @@ pub const NUM_TUPLES: usize = 84;
 /// The most values that a tuple of a row has.
 pub const MAX_TUPLE_LENGTH: usize = 203;
 
+/// The words of a row's tuples: for each the four of its header, then its values.
+pub const TUPLE_WORDS: usize = 1457;
+
 /// The words of an operation's keys: two for each lane.
 pub const KEY_WORDS: usize = 50;
 
@@ -60,4 +63,9 @@ pub fn core_values(row: &[u64], out: &mut [u64]) -> Result<(), Refusal> {
 /// `out`. `syscall` is the number of the Keccak system call, whose halves stand in tuple 0.
 pub fn bus_interaction(row: &[u64], index: usize, syscall: u64, out: &mut [u64]) -> Result<BusInteraction, Refusal> {
     BusInteraction::from_flat(ffi::keccak_bus_interaction(row, index, syscall, out))
+}
+
+/// All 84 tuples of a row, one after the other, to the front of `out`: 1,457 words, which [`tuples`](crate::tuples) reads.
+pub fn bus_interactions(row: &[u64], syscall: u64, out: &mut [u64]) -> Result<(), Refusal> {
+    ffi::keccak_bus_interactions(row, syscall, out).into()
 }

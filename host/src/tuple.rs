@@ -99,4 +99,67 @@ impl BusInteraction {
             multiplicity: flat.multiplicity,
         })
     }
+
+    /// A tuple by the words of its header: bus, side, length, multiplicity.
+    fn from_header(&[bus, side, length, multiplicity]: &[u64; 4]) -> Option<Self> {
+        Some(Self {
+            bus: *Bus::ALL.get(usize::try_from(bus).ok()?)?,
+            side: match side {
+                0 => Side::Sender,
+                1 => Side::Receiver,
+                _ => return None,
+            },
+            length: usize::try_from(length).ok()?,
+            multiplicity,
+        })
+    }
+}
+
+/// The tuples that a call for all tuples of a row wrote, each with its values: [`keccak::bus_interactions`] and
+/// [`keccak_rnd::bus_interactions`]. Ends where the words do, or where they are no tuple.
+///
+/// [`keccak::bus_interactions`]: crate::keccak::bus_interactions
+/// [`keccak_rnd::bus_interactions`]: crate::keccak_rnd::bus_interactions
+pub fn tuples(words: &[u64]) -> impl Iterator<Item = (BusInteraction, &[u64])> {
+    let mut rest = words;
+    std::iter::from_fn(move || {
+        let (header, after) = rest.split_first_chunk()?;
+        let tuple = BusInteraction::from_header(header)?;
+        let (values, after) = after.split_at_checked(tuple.length)?;
+        rest = after;
+        Some((tuple, values))
+    })
+}
+
+#[cfg(test)]
+mod tests {
+    use super::*;
+
+    #[test]
+    fn words_are_read_as_tuples_up_to_what_is_none() {
+        let words = [1, 0, 2, 9, 7, 8, 5, 1, 0, 3];
+        let read: Vec<_> = tuples(&words).collect();
+        let tuple = |bus, side, length, multiplicity| BusInteraction {
+            bus,
+            side,
+            length,
+            multiplicity,
+        };
+        assert_eq!(
+            read,
+            [
+                (tuple(Bus::AreBytes, Side::Sender, 2, 9), &[7, 8][..]),
+                (tuple(Bus::Keccak, Side::Receiver, 0, 3), &[][..]),
+            ]
+        );
+        for none in [
+            &[13, 0, 0, 0][..],
+            &[0, 2, 0, 0],
+            &[0, 0, 2, 0, 7],
+            &[0, 0, u64::MAX, 0],
+            &[0, 0, 0],
+        ] {
+            assert_eq!(tuples(none).count(), 0);
+        }
+    }
 }

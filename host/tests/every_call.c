@@ -32,6 +32,7 @@ enum { ADDRESS_HALF = 2, ADDRESS_WORD = 3, TIMESTAMP = 5, CORE = 4 * 486, ROUND 
 static uint64_t operation[52];
 static uint64_t core[CORE + 1];
 static uint64_t rounds[ROUND + 1];
+static uint64_t all[KECCAK_TABLES_ROUND_TUPLE_WORDS + 1];
 
 static void bitwise_calls(void) {
     static const uint64_t expected[11] = {52, 18, 4, 16, 54, 38, 0, 0, 0, 9024, 1};
@@ -194,6 +195,13 @@ static void core_calls(void) {
     CHECK(low == 1 && high == 1);
     tuple = keccak_tables_keccak_bus_interaction(row, 486, 84, 0, out, 204);
     REFUSED(tuple, 1, 84);
+
+    all[1457] = GUARD;
+    answer = CALL(keccak_tables_keccak_bus_interactions)(row, 486, 0x700000006, all, 1457);
+    DONE(answer);
+    CHECK(all[0] == 7 && all[1] == 1 && all[2] == 4 && all[3] == 1 && all[6] == 6 && all[7] == 7 && all[1457] == GUARD);
+    answer = keccak_tables_keccak_bus_interactions(row, 486, 0, all, 1456);
+    REFUSED(answer, 3, 1457);
     row[485] = KECCAK_TABLES_P;
     tuple = keccak_tables_keccak_bus_interaction(row, 487, 83, 0, out, 204);
     REFUSED(tuple, 5, 485);
@@ -247,6 +255,14 @@ static void round_calls(void) {
     REFUSED(tuple, 1, 1031);
     tuple = keccak_tables_keccak_rnd_bus_interaction(row, 1480, 0, out, 202);
     REFUSED(tuple, 3, 203);
+
+    all[8211] = GUARD;
+    answer = CALL(keccak_tables_keccak_rnd_bus_interactions)(row, 1480, all, 8211);
+    DONE(answer);
+    CHECK(all[0] == 5 && all[1] == 1 && all[2] == 203 && all[3] == 1 && all[8211] == GUARD);
+    CHECK(memcmp(all + 4, out, sizeof out) == 0);
+    answer = keccak_tables_keccak_rnd_bus_interactions(row, 1479, all, 8210);
+    REFUSED(answer, 3, 1480);
 }
 
 /* The operation claims a zero output, which is wrong; then the output is put right by the last round's row. */

@@ -8,7 +8,7 @@ use keccak_tables::operation_file::Tally;
 use keccak_tables::verdict::{Table, Verdict};
 use keccak_tables::{
     Bus, BusInteraction, Lent, MAX_OPS, OP_WORDS, Operation, P, Refusal, Side, bitwise, is_wh, keccak, keccak_rc,
-    keccak_rnd, operation_file, verdict,
+    keccak_rnd, operation_file, tuples, verdict,
 };
 
 const GUARD: u64 = 0xA5A5_A5A5_A5A5_A5A5;
@@ -155,6 +155,13 @@ fn core_calls() {
     assert!(out[..answer.length].windows(2).any(|halves| halves == [6, 7]));
     let refused = keccak::bus_interaction(&row, 84, 0, &mut out);
     assert_eq!(refused, Err(Refusal::PastEnd { limit: 84 }));
+
+    let mut all = [GUARD; keccak::TUPLE_WORDS + 1];
+    assert_eq!(keccak::bus_interactions(&row, 0x7_0000_0006, &mut all), Ok(()));
+    assert_eq!((all[0], all[1], all[2], all[3], all[1457]), (7, 1, 4, 1, GUARD));
+    assert_eq!(tuples(&all[..1457]).count(), keccak::NUM_TUPLES);
+    let refused = keccak::bus_interactions(&row, 0, &mut all[..1456]);
+    assert_eq!(refused, Err(Refusal::TooShort { needed: 1457 }));
 }
 
 #[test]
@@ -188,8 +195,16 @@ fn round_calls() {
         received(Bus::Keccak, 203, 1)
     );
     assert_eq!(out[0], 5);
+    let mut all = vec![GUARD; keccak_rnd::TUPLE_WORDS + 1];
+    assert_eq!(keccak_rnd::bus_interactions(&row, &mut all), Ok(()));
+    assert_eq!(
+        (&all[..4], &all[4..207], all[8211]),
+        (&[5, 1, 203, 1][..], &out[..], GUARD)
+    );
+    assert_eq!(tuples(&all[..8211]).count(), keccak_rnd::NUM_TUPLES);
     row[1479] = P;
     let refused = Err(Refusal::NotElement { place: 1479 });
+    assert_eq!(keccak_rnd::bus_interactions(&row, &mut all), refused);
     assert_eq!(keccak_rnd::round_values(&row, &mut values), refused);
     assert_eq!(keccak_rnd::bus_interaction(&row, 0, &mut out).map(drop), refused);
 }

@@ -56,11 +56,13 @@ fn the_header_and_the_bindings_have_the_same_numbers() {
         ("CORE_COLUMNS", keccak::NUM_COLUMNS as u64),
         ("CORE_VALUES", keccak::NUM_VALUES as u64),
         ("CORE_TUPLES", keccak::NUM_TUPLES as u64),
+        ("CORE_TUPLE_WORDS", keccak::TUPLE_WORDS as u64),
         ("KEY_WORDS", keccak::KEY_WORDS as u64),
         ("ROUNDS", keccak_rnd::ROUNDS as u64),
         ("ROUND_COLUMNS", keccak_rnd::NUM_COLUMNS as u64),
         ("ROUND_VALUES", keccak_rnd::NUM_VALUES as u64),
         ("ROUND_TUPLES", keccak_rnd::NUM_TUPLES as u64),
+        ("ROUND_TUPLE_WORDS", keccak_rnd::TUPLE_WORDS as u64),
         ("MAX_TUPLE_LENGTH", keccak_rnd::MAX_TUPLE_LENGTH as u64),
     ];
     let numbers: BTreeMap<String, u64> = numbers.map(|(name, number)| (name.to_string(), number)).into();

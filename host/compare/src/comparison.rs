@@ -1,4 +1,4 @@
-//! A run: counts the words compared, tells each difference, and says per group what was compared.
+//! A run: counts the calls that were tried and the words compared, tells each difference, and says per group what was compared.
 
 use std::collections::{BTreeMap, BTreeSet};
 use std::process::ExitCode;
@@ -12,6 +12,7 @@ const ENOUGH: u64 = 20;
 #[derive(Default)]
 pub struct Comparison {
     group: Option<Group>,
+    calls: u64,
     words: u64,
     differences: u64,
     tried: BTreeMap<&'static str, BTreeSet<u64>>,
@@ -19,6 +20,7 @@ pub struct Comparison {
 
 struct Group {
     name: String,
+    calls: u64,
     items: u64,
     words: u64,
 }
@@ -29,9 +31,15 @@ impl Comparison {
         self.end_group();
         self.group = Some(Group {
             name: name.into(),
+            calls: 0,
             items: 0,
             words: 0,
         });
+    }
+
+    /// Notes that one of our calls was tried on an input.
+    pub fn called(&mut self) {
+        self.group.as_mut().expect("a call belongs to a group").calls += 1;
     }
 
     /// Ours and theirs are to be equal. `input` names the input, given the place of the first word that differs.
@@ -66,6 +74,7 @@ impl Comparison {
     /// A call is to do its work.
     pub fn done<T>(&mut self, input: impl FnOnce() -> String, answer: Result<T, Refusal>) -> Option<T> {
         let (number, detail) = numbers(&answer);
+        self.called();
         self.equal(|_| input(), &[number, detail], &[0, 0]);
         answer.ok()
     }
@@ -73,6 +82,7 @@ impl Comparison {
     /// A call is to be refused with this number and detail.
     pub fn refused<T>(&mut self, input: impl FnOnce() -> String, answer: Result<T, Refusal>, number: u64, detail: u64) {
         let (ours, our_detail) = numbers(&answer);
+        self.called();
         self.equal(|_| input(), &[ours, our_detail], &[number, detail]);
     }
 
@@ -99,9 +109,10 @@ impl Comparison {
         self.differences
     }
 
-    /// Ends the run: the last line says how much was compared.
+    /// Ends the run: the last lines say how many calls were tried, and how much was compared.
     pub fn finish(mut self) -> ExitCode {
         self.end_group();
+        println!("tried {} calls", self.calls);
         println!("compared {} words, {} differences", self.words, self.differences);
         if self.differences == 0 {
             ExitCode::SUCCESS
@@ -112,8 +123,12 @@ impl Comparison {
 
     fn end_group(&mut self) {
         if let Some(group) = self.group.take() {
+            self.calls += group.calls;
             self.words += group.words;
-            println!("{}: {} comparisons, {} words", group.name, group.items, group.words);
+            println!(
+                "{}: {} calls, {} comparisons, {} words",
+                group.name, group.calls, group.items, group.words
+            );
         }
     }
 }

@@ -10,6 +10,9 @@ use crate::lent::Lent;
 /// A call for a tuple of a row by its index and the number of the system call.
 type SyscallTuple = fn(&[u64], usize, u64, &mut [u64]) -> Result<BusInteraction, Refusal>;
 
+/// A call for all tuples of a row by the number of the system call.
+type AllTuples = fn(&[u64], u64, &mut [u64]) -> Result<(), Refusal>;
+
 /// A table: our calls, and the Rust's answers. Only core tuples depend on the number of the system call.
 pub struct Table {
     /// Its name.
@@ -34,6 +37,12 @@ pub struct Table {
     pub rust_values: fn(&[u64]) -> Vec<u64>,
     /// A tuple of a row.
     pub tuple: SyscallTuple,
+    /// The archive's name of the call for all tuples.
+    pub tuples_name: &'static str,
+    /// The words of a row's tuples.
+    pub tuple_words: usize,
+    /// All tuples of a row, as words.
+    pub tuples: AllTuples,
     /// All tuples of a row by the Rust.
     pub rust_tuples: fn(&[u64], u64) -> Vec<oracle::Tuple>,
 }
@@ -51,6 +60,9 @@ pub const CORE: Table = Table {
     values: keccak::core_values,
     rust_values: oracle::core_values,
     tuple: keccak::bus_interaction,
+    tuples_name: "keccak_bus_interactions",
+    tuple_words: keccak::TUPLE_WORDS,
+    tuples: keccak::bus_interactions,
     rust_tuples: oracle::core_tuples,
 };
 
@@ -67,6 +79,9 @@ pub const ROUND: Table = Table {
     values: keccak_rnd::round_values,
     rust_values: oracle::round_values,
     tuple: |row, index, _, out| keccak_rnd::bus_interaction(row, index, out),
+    tuples_name: "keccak_rnd_bus_interactions",
+    tuple_words: keccak_rnd::TUPLE_WORDS,
+    tuples: |row, _, out| keccak_rnd::bus_interactions(row, out),
     rust_tuples: |row, _| oracle::round_tuples(row),
 };
 

@@ -28,12 +28,12 @@ use crate::{rows, tuples, values, verdicts};
 /// | a call on a list | n, index | list | slice | address | | |
 /// | a round row | round | | START, row | | | |
 /// | a height, the padding's lookups | n | | | | | |
-/// | values | | | row, slice | | column | |
+/// | values, all tuples | | | row, slice | | column | |
 /// | a tuple | index | | row, slice | | column | |
 /// | `verdict` | | core, round | | | core, round | |
 /// | a file's reader | n | | | address | | mark, cut |
 /// | `read_operations` | n | | list | address | | mark, cut |
-pub const MATRIX: [(&str, &[u64]); 28] = [
+pub const MATRIX: [(&str, &[u64]); 30] = [
     ("generate_bitwise_row", &[0, 1, 3]),
     ("bitwise_row_index", &[0, 1]),
     ("bitwise_bump", &[0, 1, 3, 5]),
@@ -50,12 +50,14 @@ pub const MATRIX: [(&str, &[u64]); 28] = [
     ("keccak_height", &[0, 1]),
     ("keccak_values", &[0, 3, 5]),
     ("keccak_bus_interaction", &[0, 1, 3, 5]),
+    ("keccak_bus_interactions", &[0, 3, 5]),
     ("keccak_rnd_row", &[0, 1, 3]),
     ("generate_keccak_rnd_trace", &[0, 1, 2, 3, 4]),
     ("keccak_rnd_height", &[0, 1]),
     ("padding_are_bytes", &[0, 1]),
     ("keccak_rnd_values", &[0, 3, 5]),
     ("keccak_rnd_bus_interaction", &[0, 1, 3, 5]),
+    ("keccak_rnd_bus_interactions", &[0, 3, 5]),
     ("verdict", &[0, 2, 5]),
     ("tally_start", &[0]),
     ("tally_feed", &[0, 4, 6]),

@@ -41,6 +41,12 @@ fn answer_numbers(tuple: &BusInteraction) -> [u64; 4] {
     ]
 }
 
+/// A tuple of the Rust's as words: bus, side, length, multiplicity, values.
+pub fn words_of(tuple: &oracle::Tuple) -> Vec<u64> {
+    let [bus, side, multiplicity, length] = expected_numbers(tuple);
+    [&[bus, side, length, multiplicity], &tuple.values[..]].concat()
+}
+
 /// The same of a tuple of the Rust's.
 fn expected_numbers(tuple: &oracle::Tuple) -> [u64; 4] {
     [

@@ -57,6 +57,7 @@ pub fn compare(comparison: &mut Comparison, seed: u64, n: usize) {
 fn judged(comparison: &mut Comparison, input: &dyn Fn(usize) -> String, tables: &Tables) -> [u64; 4] {
     let Tables { core, round } = tables;
     let ours = words(verdict(core, round));
+    comparison.called();
     comparison.equal(input, &ours, &judge::verdict(core, round).words());
     ours
 }

@@ -14,6 +14,7 @@ pub fn compare(comparison: &mut Comparison, words: &mut Words) {
     numbers.extend(words.take(2000));
     for number in numbers {
         let key = IsWhKey::of_dword(number);
+        comparison.called();
         comparison.equal(
             |_| format!("the key of {number}"),
             &[key.word, key.half],

@@ -1,9 +1,8 @@
-//! The verdict on honest tables whose round rows, padding among them, are in a drawn order; beside it the verdict on the
-//! same tables in the writer's order. Both are ours: `ratio shuffled` is the time of the shuffled over that of the ordered.
+//! The verdict on tables that leave the writer's order; beside it the verdict on the same tables in that order. Both are ours:
+//! a ratio is the time of the one over that of the other. Each answer is checked in every run.
 //!
-//! Each tuple of a row that leaves the writer's order is counted over all such rows, so the time of the shuffled tables
-//! grows with the square of the calls, and more where the caches don't hold the rows. The answer, that both hold, is
-//! checked in every run.
+//! `shuffled-calls` has the 24 round rows of each call together, the calls in a drawn order; `shuffled` has all round rows,
+//! padding among them, in a drawn order; `shuffled-dropped` is the same with one active row cleared, so that it fails.
 
 use std::hint::black_box;
 use std::time::Duration;
@@ -21,28 +20,54 @@ pub const CALLS: usize = 100;
 pub fn run(calls: usize) {
     let mut words = Words::new(7);
     let ordered = Tables::written(calls, &mut words);
-    let mut shuffled = ordered.clone();
-    shuffle(&mut shuffled.round, keccak_rnd::NUM_COLUMNS, &mut words);
     let rows = ordered.core.len() / keccak::NUM_COLUMNS + ordered.round.len() / keccak_rnd::NUM_COLUMNS;
     println!("shuffled, {calls} calls, {rows} rows: time in all, and of a row");
+
+    let call = keccak_rnd::ROUNDS * keccak_rnd::NUM_COLUMNS;
+    let mut by_calls = ordered.clone();
+    shuffle(&mut by_calls.round[..calls * call], call, &mut words);
+    let mut by_rows = ordered.clone();
+    shuffle(&mut by_rows.round, keccak_rnd::NUM_COLUMNS, &mut words);
+    let mut dropped = by_rows.clone();
+    clear_an_active_row(&mut dropped.round, &mut words);
+
     // Many calls take long enough for one run to tell.
     let runs = (1000 / calls.max(1)).clamp(1, 5);
-    let [shuffled, ordered] = best(
+    let holds = |tables: &Tables| judged(tables, |answer| *answer == Verdict::Holds { active: calls as u64 });
+    let fails = |tables: &Tables| judged(tables, |answer| matches!(answer, Verdict::Unbalanced { .. }));
+    let times = best(
         runs,
         [
-            Box::new(|| judged(&shuffled, calls)),
-            Box::new(|| judged(&ordered, calls)),
+            Box::new(|| holds(&ordered)),
+            Box::new(|| holds(&by_calls)),
+            Box::new(|| holds(&by_rows)),
+            Box::new(|| fails(&dropped)),
         ],
     );
-    for (what, time) in [("round rows shuffled", shuffled), ("in the writer's order", ordered)] {
-        whole(what, time);
-        line(what, time, rows);
+    let names = ["in the writer's order", "shuffled-calls", "shuffled", "shuffled-dropped"];
+    for (name, time) in names.into_iter().zip(times) {
+        whole(name, time);
+        line(name, time, rows);
     }
-    ratio("shuffled", shuffled, ordered);
+    for (name, time) in names.into_iter().zip(times).skip(1) {
+        ratio(name, time, times[0]);
+    }
 }
 
-/// The time of a verdict that has to be that the tables of so many calls hold.
-fn judged(tables: &Tables, calls: usize) -> Duration {
-    let holds = Ok(Verdict::Holds { active: calls as u64 });
-    time(|| assert_eq!(verdict(black_box(&tables.core), black_box(&tables.round)), holds))
+/// Clears one of the active rows, drawn.
+fn clear_an_active_row(round: &mut [u64], words: &mut Words) {
+    let mut active: Vec<&mut [u64]> = round
+        .chunks_exact_mut(keccak_rnd::NUM_COLUMNS)
+        .filter(|row| row[keccak_rnd::NUM_COLUMNS - 1] == 1)
+        .collect();
+    let drawn = words.below(active.len() as u64) as usize;
+    active[drawn].fill(0);
+}
+
+/// The time of a verdict, which has to be as expected.
+fn judged(tables: &Tables, expected: impl Fn(&Verdict) -> bool) -> Duration {
+    time(|| {
+        let answer = verdict(black_box(&tables.core), black_box(&tables.round)).expect("a verdict");
+        assert!(expected(&answer), "{answer}");
+    })
 }

@@ -1,9 +1,10 @@
-//! The tuples of a row, ours by index against the published interactions.
+//! The tuples of a row, ours by index and ours at once against the published interactions.
 //!
 //! The Rust's `bus_interactions` builds a list for the whole table, once; that is not timed. Timed is the evaluation of all
 //! of it on four written rows: each interaction's values into a lent slice and its multiplicity, from the row's field
 //! elements, made before. Ours is as many calls by index, from the row's words into the same kind of slice; each call
-//! checks that every column of the row is below p. How the Rust's prover walks its list is not published (the crate
+//! checks that every column of the row is below p. Ours at once is one call for all tuples of a row, with one such check,
+//! and it writes each tuple's header too. How the Rust's prover walks its list is not published (the crate
 //! `stark`): the walk is the oracle's, without its allocations. Its field is the oracle's stand-in.
 
 use std::hint::black_box;
@@ -48,8 +49,24 @@ fn tuples(name: &str, table: &Table, interactions: &[BusInteraction]) {
             }
         }
     };
-    let [ours, rust] = best(RUNS, [Box::new(|| time(ours)), Box::new(|| time(rust))]);
-    line("ours", ours, ROWS);
+    let at_once = || {
+        let mut out = vec![0; table.tuple_words];
+        for row in words.chunks_exact(table.columns) {
+            let _ = black_box((table.tuples)(black_box(row), 11, &mut out));
+            black_box(&out);
+        }
+    };
+    let [ours, at_once, rust] = best(
+        RUNS,
+        [
+            Box::new(|| time(ours)),
+            Box::new(|| time(at_once)),
+            Box::new(|| time(rust)),
+        ],
+    );
+    line("ours, by index", ours, ROWS);
+    line("ours, at once", at_once, ROWS);
     line("the Rust", rust, ROWS);
     ratio(name, ours, rust);
+    ratio(&format!("{name}-at-once"), at_once, rust);
 }
