@@ -2,11 +2,10 @@
 use answer::Answer;
 use answer::Number;
 use is_wh::IsWhKey;
-use lookup::Bus;
-use lookup::Side;
 use lookup::TupleAnswer;
+use lookup::header::bus_number;
+use lookup::header::side_number;
 ghost use mathlib.Core.Path.{_≡_};
-ghost use Rattle.lookup.specs.Tuple.{busNumber, sideNumber};
 ghost use Rattle.flat.specs.Flat.{flatAnswer, flatNumber, flatTuple, flatKey};
 
 // Number and detail of the refusal, or 0 and 0 where the call did its work.
@@ -70,35 +69,6 @@ pub fn flat_number(answer: Number) -> FlatNumber
             detail: refusal.detail(),
             value: 0,
         },
-    }
-}
-
-fn bus_number(bus: Bus) -> u64
-    ensures { λ r. ⌜ r ≡ busNumber bus ⌝ }
-{
-    match bus {
-        Bus::ByteAlu => 0,
-        Bus::AreBytes => 1,
-        Bus::IsHalfword => 2,
-        Bus::IsWh => 3,
-        Bus::KeccakRc => 4,
-        Bus::Keccak => 5,
-        Bus::Memw => 6,
-        Bus::Ecall => 7,
-        Bus::Msb8 => 8,
-        Bus::Msb16 => 9,
-        Bus::Zero => 10,
-        Bus::IsB20 => 11,
-        Bus::Hwsl => 12,
-    }
-}
-
-fn side_number(side: Side) -> u64
-    ensures { λ r. ⌜ r ≡ sideNumber side ⌝ }
-{
-    match side {
-        Side::Sender => 0,
-        Side::Receiver => 1,
     }
 }
 

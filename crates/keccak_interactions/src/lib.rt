@@ -11,12 +11,11 @@ ghost use lib.ListN.{length};
 ghost use lib.Seq.{sets};
 ghost use Rattle.lists.specs.Tab.{word};
 ghost use Rattle.field.specs.Field.{p};
-ghost use Rattle.answer.specs.Refusal.{overwrite, afterwards};
 ghost use Rattle.lookup.specs.Words.{tupleWords, tuplesWords};
-ghost use Rattle.evaluation.specs.Call.{valuesRefusal, valuesAnswer};
+ghost use Rattle.evaluation.specs.Call.{valuesAnswer};
 ghost use Rattle.keccak.specs.Columns.{NUM-COLUMNS};
 ghost use Rattle.keccak.specs.Tuples.{NUM-TUPLES, coreTuple};
-ghost use Rattle.keccak_interactions.specs.Words.{NUM-WORDS};
+ghost use Rattle.keccak_interactions.specs.Words.{NUM-WORDS, coreTuplesAfter};
 
 // Four words for each tuple, and its values.
 pub const NUM_WORDS: usize = 1457;
@@ -49,7 +48,7 @@ fn put_tuples(row: &[u64], syscall: u64, out: &mut [u64])
 // The tuples of a core row, whoever filled it: its columns are checked once. The syscall number is handed over.
 pub fn bus_interactions(row: &[u64], syscall: u64, out: &mut [u64]) -> Answer
     ensures answer { λ r. ⌜ r ≡ valuesAnswer NUM-COLUMNS NUM-WORDS (now (row .entry)) (now (out .entry)) ⌝ }
-    ensures words { λ _. ⌜ now (out .exit) ≡ afterwards (valuesRefusal NUM-COLUMNS NUM-WORDS (now (row .entry)) (length (now (out .entry)))) (overwrite (tuplesWords (coreTuple 24 syscall (now (row .entry))) NUM-TUPLES) (now (out .entry))) (now (out .entry)) ⌝ }
+    ensures words { λ _. ⌜ now (out .exit) ≡ coreTuplesAfter syscall (now (row .entry)) (now (out .entry)) ⌝ }
 {
     let room = out.len();
     if let Answer::Refused(refusal) = check_values(NUM_COLUMNS, NUM_WORDS, row, room) {

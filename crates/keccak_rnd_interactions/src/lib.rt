@@ -9,13 +9,12 @@ ghost use mathlib.Core.Path.{_≡_};
 ghost use Prim.Native.Nat.{_+_, _<_, _≤_};
 ghost use lib.ListN.{length};
 ghost use lib.Seq.{sets};
-ghost use Rattle.answer.specs.Refusal.{overwrite, afterwards};
 ghost use Rattle.lookup.specs.Words.{tupleWords, tuplesWords};
-ghost use Rattle.evaluation.specs.Call.{valuesRefusal, valuesAnswer};
+ghost use Rattle.evaluation.specs.Call.{valuesAnswer};
 ghost use Rattle.keccak_rnd.specs.Columns.{NUM-COLUMNS};
 ghost use Rattle.keccak_rnd.specs.Tuples.{NUM-TUPLES, roundTuple};
 ghost use Rattle.keccak_rnd_lookup_tuples.specs.Elements.{Elements};
-ghost use Rattle.keccak_rnd_interactions.specs.Words.{NUM-WORDS};
+ghost use Rattle.keccak_rnd_interactions.specs.Words.{NUM-WORDS, roundTuplesAfter};
 
 // Four words for each tuple, and its values.
 pub const NUM_WORDS: usize = 8211;
@@ -48,7 +47,7 @@ fn put_tuples(row: &[u64], out: &mut [u64])
 // The tuples of a round row, whoever filled it: its columns are checked once.
 pub fn bus_interactions(row: &[u64], out: &mut [u64]) -> Answer
     ensures answer { λ r. ⌜ r ≡ valuesAnswer NUM-COLUMNS NUM-WORDS (now (row .entry)) (now (out .entry)) ⌝ }
-    ensures words { λ _. ⌜ now (out .exit) ≡ afterwards (valuesRefusal NUM-COLUMNS NUM-WORDS (now (row .entry)) (length (now (out .entry)))) (overwrite (tuplesWords (roundTuple (now (row .entry))) NUM-TUPLES) (now (out .entry))) (now (out .entry)) ⌝ }
+    ensures words { λ _. ⌜ now (out .exit) ≡ roundTuplesAfter (now (row .entry)) (now (out .entry)) ⌝ }
 {
     let room = out.len();
     if let Answer::Refused(refusal) = check_values(NUM_COLUMNS, NUM_WORDS, row, room) {

@@ -5,16 +5,16 @@ use flat::flat_answer;
 use flat::flat_number;
 ghost use mathlib.Core.Path.{_≡_};
 ghost use lib.ListN.{length};
-ghost use Rattle.answer.specs.Refusal.{answerOf, numberOf, overwrite, afterwards};
+ghost use Rattle.answer.specs.Refusal.{answerOf, numberOf};
 ghost use Rattle.keccak.specs.Height.{height, MIN-ROWS};
-ghost use Rattle.keccak.specs.Row.{coreRow, coreTable, opAt, keyWords};
-ghost use Rattle.keccak.specs.Refusals.{opCount, rowRefusal, traceRefusal, keysRefusal, countRefusal};
+ghost use Rattle.keccak.specs.Refusals.{rowRefusal, traceRefusal, keysRefusal, countRefusal};
+ghost use Rattle.keccak.specs.Calls.{coreRowAfter, coreTraceAfter, keysAfter};
 ghost use Rattle.flat.specs.Flat.{flatAnswer, flatNumber};
 
 #[no_mangle]
 pub extern "C" fn keccak_tables_keccak_row(ops: &[u64], index: usize, row: &mut [u64]) -> FlatAnswer
     ensures answer { λ r. ⌜ r ≡ flatAnswer (answerOf (rowRefusal (length (now (row .entry))) (now (ops .entry)) index)) ⌝ }
-    ensures words { λ _. ⌜ now (row .exit) ≡ afterwards (rowRefusal (length (now (row .entry))) (now (ops .entry)) index) (overwrite (coreRow (opAt (now (ops .entry)) index)) (now (row .entry))) (now (row .entry)) ⌝ }
+    ensures words { λ _. ⌜ now (row .exit) ≡ coreRowAfter (now (ops .entry)) index (now (row .entry)) ⌝ }
 {
     flat_answer(keccak_trace::keccak_row(ops, index, row))
 }
@@ -22,7 +22,7 @@ pub extern "C" fn keccak_tables_keccak_row(ops: &[u64], index: usize, row: &mut 
 #[no_mangle]
 pub extern "C" fn keccak_tables_generate_keccak_trace(ops: &[u64], table: &mut [u64]) -> FlatAnswer
     ensures answer { λ r. ⌜ r ≡ flatAnswer (answerOf (traceRefusal (length (now (table .entry))) (now (ops .entry)))) ⌝ }
-    ensures words { λ _. ⌜ now (table .exit) ≡ afterwards (traceRefusal (length (now (table .entry))) (now (ops .entry))) (overwrite (coreTable MIN-ROWS (opCount (now (ops .entry))) (opAt (now (ops .entry)))) (now (table .entry))) (now (table .entry)) ⌝ }
+    ensures words { λ _. ⌜ now (table .exit) ≡ coreTraceAfter (now (ops .entry)) (now (table .entry)) ⌝ }
 {
     flat_answer(keccak_trace::generate_keccak_trace(ops, table))
 }
@@ -30,7 +30,7 @@ pub extern "C" fn keccak_tables_generate_keccak_trace(ops: &[u64], table: &mut [
 #[no_mangle]
 pub extern "C" fn keccak_tables_is_wh_keys(ops: &[u64], out: &mut [u64]) -> FlatAnswer
     ensures answer { λ r. ⌜ r ≡ flatAnswer (answerOf (keysRefusal (length (now (out .entry))) (now (ops .entry)))) ⌝ }
-    ensures words { λ _. ⌜ now (out .exit) ≡ afterwards (keysRefusal (length (now (out .entry))) (now (ops .entry))) (overwrite (keyWords (opCount (now (ops .entry))) (opAt (now (ops .entry)))) (now (out .entry))) (now (out .entry)) ⌝ }
+    ensures words { λ _. ⌜ now (out .exit) ≡ keysAfter (now (ops .entry)) (now (out .entry)) ⌝ }
 {
     flat_answer(keccak_keys::is_wh_keys(ops, out))
 }

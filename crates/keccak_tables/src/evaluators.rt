@@ -1,4 +1,4 @@
-// The values and the tuples of a core row and of a round row.
+// The values and the tuples of a core row and of a round row, tuples by index and all at once.
 use flat::FlatAnswer;
 use flat::FlatTuple;
 use flat::flat_answer;
@@ -16,6 +16,8 @@ ghost use Rattle.keccak_rnd.specs.Values.{roundValue};
 ghost use Rattle.keccak_rnd.specs.Values as round-values;
 ghost use Rattle.keccak_rnd.specs.Tuples.{roundTuple};
 ghost use Rattle.keccak_rnd.specs.Tuples as round-tuples;
+ghost use Rattle.keccak_interactions.specs.Words as core-words;
+ghost use Rattle.keccak_rnd_interactions.specs.Words as round-words;
 ghost use Rattle.flat.specs.Flat.{flatAnswer, flatTuple};
 
 #[no_mangle]
@@ -58,4 +60,27 @@ pub extern "C" fn keccak_tables_keccak_rnd_bus_interaction(
     ensures words { λ _. ⌜ now (out .exit) ≡ tupleAfter round.NUM-COLUMNS round-tuples.NUM-TUPLES roundTuple (now (row .entry)) index (now (out .entry)) ⌝ }
 {
     flat_tuple(keccak_rnd_tuples::bus_interaction(row, index, out))
+}
+
+#[no_mangle]
+pub extern "C" fn keccak_tables_keccak_bus_interactions(
+    row: &[u64],
+    syscall: u64,
+    out: &mut [u64],
+) -> FlatAnswer
+    ensures answer { λ r. ⌜ r ≡ flatAnswer (valuesAnswer core.NUM-COLUMNS core-words.NUM-WORDS (now (row .entry)) (now (out .entry))) ⌝ }
+    ensures words { λ _. ⌜ now (out .exit) ≡ core-words.coreTuplesAfter syscall (now (row .entry)) (now (out .entry)) ⌝ }
+{
+    flat_answer(keccak_interactions::bus_interactions(row, syscall, out))
+}
+
+#[no_mangle]
+pub extern "C" fn keccak_tables_keccak_rnd_bus_interactions(
+    row: &[u64],
+    out: &mut [u64],
+) -> FlatAnswer
+    ensures answer { λ r. ⌜ r ≡ flatAnswer (valuesAnswer round.NUM-COLUMNS round-words.NUM-WORDS (now (row .entry)) (now (out .entry))) ⌝ }
+    ensures words { λ _. ⌜ now (out .exit) ≡ round-words.roundTuplesAfter (now (row .entry)) (now (out .entry)) ⌝ }
+{
+    flat_answer(keccak_rnd_interactions::bus_interactions(row, out))
 }

@@ -9,17 +9,16 @@ use flat::flat_number;
 use flat::flat_tuple;
 use is_wh::IsWhKey;
 ghost use mathlib.Core.Path.{_≡_};
-ghost use Rattle.answer.specs.Refusal.{answerOf, numberOf, overwrite, afterwards};
+ghost use Rattle.answer.specs.Refusal.{answerOf, numberOf};
 ghost use Rattle.lookup.specs.Call.{tupleAnswerOf, tupleAfter};
 ghost use Rattle.bitwise.specs.Columns as bitwise;
-ghost use Rattle.bitwise.specs.Row.{bitwiseRow, row-index, indexRefusal};
+ghost use Rattle.bitwise.specs.Row.{row-index, indexRefusal};
 ghost use Rattle.bitwise.specs.Row as bitwise-row;
-ghost use Rattle.bitwise.specs.Counters.{counterAt, charge, bumpRefusal};
+ghost use Rattle.bitwise.specs.Counters.{bumpRefusal, bumpAfter};
 ghost use Rattle.bitwise.specs.Tuples.{bitwiseTuple};
 ghost use Rattle.keccak_rc.specs.Columns as rc;
-ghost use Rattle.keccak_rc.specs.Row.{rcRow};
 ghost use Rattle.keccak_rc.specs.Row as rc-row;
-ghost use Rattle.keccak_rc.specs.Table.{rcTable, traceRefusal, updated, updateRefusal};
+ghost use Rattle.keccak_rc.specs.Table.{traceRefusal, updateRefusal, rcTraceAfter, updateAfter};
 ghost use Rattle.keccak_rc.specs.Tuples as rc-tuples;
 ghost use Rattle.is_wh.specs.Columns as is-wh;
 ghost use Rattle.is_wh.specs.Key.{of-dword};
@@ -30,7 +29,7 @@ ghost use Rattle.flat.specs.Flat.{flatAnswer, flatNumber, flatTuple, flatKey};
 #[no_mangle]
 pub extern "C" fn keccak_tables_generate_bitwise_row(index: usize, row: &mut [u64]) -> FlatAnswer
     ensures answer { λ r. ⌜ r ≡ flatAnswer (answerOf (bitwise-row.rowRefusal index (now (row .entry)))) ⌝ }
-    ensures words { λ _. ⌜ now (row .exit) ≡ afterwards (bitwise-row.rowRefusal index (now (row .entry))) (overwrite (bitwiseRow index) (now (row .entry))) (now (row .entry)) ⌝ }
+    ensures words { λ _. ⌜ now (row .exit) ≡ bitwise-row.bitwiseRowAfter index (now (row .entry)) ⌝ }
 {
     flat_answer(bitwise::generate_bitwise_row(index, row))
 }
@@ -51,7 +50,7 @@ pub extern "C" fn keccak_tables_bitwise_bump(
     z: u8,
 ) -> FlatAnswer
     ensures answer { λ r. ⌜ r ≡ flatAnswer (answerOf (bumpRefusal (now (counters .entry)) kind x y z)) ⌝ }
-    ensures words { λ _. ⌜ now (counters .exit) ≡ afterwards (bumpRefusal (now (counters .entry)) kind x y z) (charge (now (counters .entry)) (counterAt kind x y z)) (now (counters .entry)) ⌝ }
+    ensures words { λ _. ⌜ now (counters .exit) ≡ bumpAfter (now (counters .entry)) kind x y z ⌝ }
 {
     flat_answer(bitwise_counts::bump(counters, kind, x, y, z))
 }
@@ -71,7 +70,7 @@ pub extern "C" fn keccak_tables_bitwise_bus_interaction(
 #[no_mangle]
 pub extern "C" fn keccak_tables_keccak_rc_generate_row(round: usize, out: &mut [u64]) -> FlatAnswer
     ensures answer { λ r. ⌜ r ≡ flatAnswer (answerOf (rc-row.rowRefusal round (now (out .entry)))) ⌝ }
-    ensures words { λ _. ⌜ now (out .exit) ≡ afterwards (rc-row.rowRefusal round (now (out .entry))) (overwrite (rcRow round) (now (out .entry))) (now (out .entry)) ⌝ }
+    ensures words { λ _. ⌜ now (out .exit) ≡ rc-row.rcRowAfter round (now (out .entry)) ⌝ }
 {
     flat_answer(keccak_rc::generate_row(round, out))
 }
@@ -79,7 +78,7 @@ pub extern "C" fn keccak_tables_keccak_rc_generate_row(round: usize, out: &mut [
 #[no_mangle]
 pub extern "C" fn keccak_tables_generate_keccak_rc_trace(table: &mut [u64]) -> FlatAnswer
     ensures answer { λ r. ⌜ r ≡ flatAnswer (answerOf (traceRefusal (now (table .entry)))) ⌝ }
-    ensures words { λ _. ⌜ now (table .exit) ≡ afterwards (traceRefusal (now (table .entry))) (overwrite rcTable (now (table .entry))) (now (table .entry)) ⌝ }
+    ensures words { λ _. ⌜ now (table .exit) ≡ rcTraceAfter (now (table .entry)) ⌝ }
 {
     flat_answer(keccak_rc::generate_keccak_rc_trace(table))
 }
@@ -90,7 +89,7 @@ pub extern "C" fn keccak_tables_keccak_rc_update_multiplicities(
     n: u64,
 ) -> FlatAnswer
     ensures answer { λ r. ⌜ r ≡ flatAnswer (answerOf (updateRefusal (now (table .entry)) n)) ⌝ }
-    ensures words { λ _. ⌜ now (table .exit) ≡ afterwards (updateRefusal (now (table .entry)) n) (updated 24 n (now (table .entry))) (now (table .entry)) ⌝ }
+    ensures words { λ _. ⌜ now (table .exit) ≡ updateAfter (now (table .entry)) n ⌝ }
 {
     flat_answer(keccak_rc::update_multiplicities(table, n))
 }

@@ -5,14 +5,12 @@ use flat::flat_answer;
 use flat::flat_number;
 ghost use mathlib.Core.Path.{_≡_};
 ghost use lib.ListN.{length};
-ghost use Rattle.lists.specs.Tab.{tab, word};
-ghost use Rattle.bits.specs.Bits.{wordAt};
-ghost use Rattle.answer.specs.Refusal.{answerOf, numberOf, overwrite, afterwards};
+ghost use Rattle.answer.specs.Refusal.{answerOf, numberOf};
 ghost use Rattle.keccak.specs.Height.{MIN-ROWS};
-ghost use Rattle.keccak.specs.Row.{opAt};
-ghost use Rattle.keccak.specs.Refusals.{opCount, countRefusal};
-ghost use Rattle.keccak_rnd.specs.Row.{roundRow, roundHeight, roundTable, padding-are-bytes};
+ghost use Rattle.keccak.specs.Refusals.{countRefusal};
+ghost use Rattle.keccak_rnd.specs.Row.{roundHeight, padding-are-bytes};
 ghost use Rattle.keccak_rnd.specs.Refusals.{rowRefusal, traceRefusal};
+ghost use Rattle.keccak_rnd.specs.Calls.{roundRowAfter, roundTraceAfter};
 ghost use Rattle.flat.specs.Flat.{flatAnswer, flatNumber};
 
 #[no_mangle]
@@ -23,7 +21,7 @@ pub extern "C" fn keccak_tables_keccak_rnd_row(
     row: &mut [u64],
 ) -> FlatAnswer
     ensures answer { λ r. ⌜ r ≡ flatAnswer (answerOf (rowRefusal round (now (start .entry)) (now (row .entry)))) ⌝ }
-    ensures words { λ _. ⌜ now (row .exit) ≡ afterwards (rowRefusal round (now (start .entry)) (now (row .entry))) (overwrite (roundRow (wordAt timestamp) round (tab 25 (word (now (start .entry))))) (now (row .entry))) (now (row .entry)) ⌝ }
+    ensures words { λ _. ⌜ now (row .exit) ≡ roundRowAfter timestamp (now (start .entry)) round (now (row .entry)) ⌝ }
 {
     flat_answer(keccak_rnd_row::keccak_rnd_row(timestamp, start, round, row))
 }
@@ -34,7 +32,7 @@ pub extern "C" fn keccak_tables_generate_keccak_rnd_trace(
     table: &mut [u64],
 ) -> FlatAnswer
     ensures answer { λ r. ⌜ r ≡ flatAnswer (answerOf (traceRefusal (length (now (table .entry))) (now (ops .entry)))) ⌝ }
-    ensures words { λ _. ⌜ now (table .exit) ≡ afterwards (traceRefusal (length (now (table .entry))) (now (ops .entry))) (overwrite (roundTable 24 MIN-ROWS (opCount (now (ops .entry))) (opAt (now (ops .entry)))) (now (table .entry))) (now (table .entry)) ⌝ }
+    ensures words { λ _. ⌜ now (table .exit) ≡ roundTraceAfter (now (ops .entry)) (now (table .entry)) ⌝ }
 {
     flat_answer(keccak_rnd_trace::generate_keccak_rnd_trace(ops, table))
 }

@@ -9,10 +9,9 @@ use flat_reader::flat_cursor;
 use flat_reader::flat_tally;
 ghost use mathlib.Core.Path.{_≡_};
 ghost use lib.ListN.{length};
-ghost use Rattle.answer.specs.Refusal.{answerOf, overwrite, afterwards};
-ghost use Rattle.op_file.specs.File.{fileWords};
+ghost use Rattle.answer.specs.Refusal.{answerOf};
 ghost use Rattle.op_file.specs.Reader.{feedOf, finishOf, start as startOf};
-ghost use Rattle.op_list.specs.Files.{readRefusal, fileBytes, writeRefusal};
+ghost use Rattle.op_list.specs.Files.{readRefusal, writeRefusal, readAfter, writeAfter};
 ghost use Rattle.flat.specs.Flat.{flatAnswer};
 ghost use Rattle.flat_reader.specs.FlatReader.{cursorOf, flatCursor, flatTally};
 
@@ -42,7 +41,7 @@ pub extern "C" fn keccak_tables_tally_finish(cursor: FlatCursor) -> FlatTally
 #[no_mangle]
 pub extern "C" fn keccak_tables_read_operations(file: &[u8], ops: &mut [u64]) -> FlatAnswer
     ensures answer { λ r. ⌜ r ≡ flatAnswer (answerOf (readRefusal (now (file .entry)) (length (now (ops .entry))))) ⌝ }
-    ensures words { λ _. ⌜ now (ops .exit) ≡ afterwards (readRefusal (now (file .entry)) (length (now (ops .entry)))) (overwrite (fileWords (now (file .entry))) (now (ops .entry))) (now (ops .entry)) ⌝ }
+    ensures words { λ _. ⌜ now (ops .exit) ≡ readAfter (now (file .entry)) (now (ops .entry)) ⌝ }
 {
     flat_answer(op_list::read_operations(file, ops))
 }
@@ -50,7 +49,7 @@ pub extern "C" fn keccak_tables_read_operations(file: &[u8], ops: &mut [u64]) ->
 #[no_mangle]
 pub extern "C" fn keccak_tables_write_operations(ops: &[u64], file: &mut [u8]) -> FlatAnswer
     ensures answer { λ r. ⌜ r ≡ flatAnswer (answerOf (writeRefusal (length (now (file .entry))) (now (ops .entry)))) ⌝ }
-    ensures words { λ _. ⌜ now (file .exit) ≡ afterwards (writeRefusal (length (now (file .entry))) (now (ops .entry))) (overwrite (fileBytes (now (ops .entry))) (now (file .entry))) (now (file .entry)) ⌝ }
+    ensures words { λ _. ⌜ now (file .exit) ≡ writeAfter (now (ops .entry)) (now (file .entry)) ⌝ }
 {
     flat_answer(op_list::write_operations(ops, file))
 }
