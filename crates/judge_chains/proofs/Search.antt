@@ -1,11 +1,11 @@
 -- What the search for chains cites. Assumes nothing.
-use mathlib.Core.Path.{_≡_, refl, sym, subst, _∙_}
+use mathlib.Core.Path.{_≡_, refl, sym, ap, subst, _∙_}
 use mathlib.Core.Logic.{inl, inr}
 use mathlib.Core.Bool.{true, false}
 use mathlib.Core.List.{List}
-use Prim.Native.Nat.{ℕ, _+_, _≤_, _<_}
+use Prim.Native.Nat.{ℕ, _+_, _-_, _%_, _≤_, _<_}
 use native.Mathlib.Numerals.{add-one}
-use native.Mathlib.Nat.{eq-or-lt-of-le, le-of-suc-le-suc}
+use native.Mathlib.Nat.{eq-or-lt-of-le, le-of-suc-le-suc, mod-lt, mod-eq-of-lt, add-mod-right}
 use native.Mathlib.Omega.{arith}
 use Rattle.lists.proofs.Tests.{T-of, true-not-false}
 use Rattle.lists.specs.declared.Place.{Place}
@@ -19,6 +19,15 @@ use Rattle.judge_tuples.specs.Port.{tupleOf}
 use Rattle.judge_tuples.specs.declared.Port.the-variants.{CoreReceive, RoundReceive, RoundSend}
 use Rattle.judge_bus.specs.Even.{owedBy, Started}
 use Rattle.judge_chains.specs.Chain.{Follows, Linked, Chain, EachChain, Found}
+
+-- ---- rows counted round the end
+pub rest-of : (x n : ℕ) → n ≤ x → x < n + n → x - n ≡ x % n
+rest-of x n l h =
+    let e : x - n + n ≡ x = omega arith in
+    sym (ap (λ (k : ℕ). k % n) (sym e) ∙ add-mod-right (x - n) n ∙ mod-eq-of-lt (omega arith))
+
+pub around-in : (x n k r : ℕ) → k < n → r ≡ x % n → r < n
+around-in x n k r l e = subst (λ (m : ℕ). m < n) (sym e) (mod-lt x (omega arith))
 
 -- ---- what a search found
 module _ (P : ℕ → Type 0) where

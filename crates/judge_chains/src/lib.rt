@@ -10,41 +10,55 @@ use keccak_rnd::ROUNDS;
 use lists::Place;
 ghost use mathlib.Core.Path.{_≡_};
 ghost use mathlib.Core.Bool.{true};
-ghost use Prim.Native.Nat.{ℕ, _≤_, _<_};
+ghost use Prim.Native.Nat.{ℕ, _+_, _%_, _≤_, _<_};
 ghost use Rattle.lists.specs.declared.Place.the-variants.{At};
 ghost use Rattle.verdict.specs.Kind.{rows, actives};
 ghost use Rattle.verdict.specs.CoreAndRound.{coreLayout, roundLayout};
 ghost use Rattle.judge_bus.specs.Even.{Started};
 ghost use Rattle.judge_chains.specs.Chain.{Follows, Linked, Chain, EachChain, Chained, Found};
 
-// The first active row from `from` on, before row `to`, that receives what is owed. MU stands far behind the timestamp
-// and the round, in which most rows differ, so it is read last.
-fn row_between(core: &[u64], a: usize, round: &[u64], last: Place, from: usize, to: usize) -> Place
-    requires { ⌜ (a < rows coreLayout (now core)) × Started (now round) last × (to ≤ rows roundLayout (now round)) ⌝ }
-    ensures { λ r. ⌜ Found (Follows (now (core .entry)) a (now (round .entry)) last) r ⌝ }
+// Whether round row q is active and receives what is owed. The first word of a timestamp, one word along a chain, tells
+// most rows apart; MU stands far behind it in the row, so it is read last.
+fn is_next(core: &[u64], a: usize, round: &[u64], last: Place, q: usize) -> bool
+    requires { ⌜ (a < rows coreLayout (now core)) × (q < rows roundLayout (now round)) × Started (now round) last ⌝ }
+    ensures { λ r. ⌜ (r ≡ true → Follows (now (core .entry)) a (now (round .entry)) last q) ⌝ }
 {
-    let mut q = from;
-    while q < to {
-        if takes(core, a, round, last, q) {
-            if round_active(round, q) {
-                return Place::At(q);
-            }
-        }
-        q += 1;
+    if round[q * keccak_rnd::NUM_COLUMNS] != core[a * keccak::NUM_COLUMNS] {
+        return false;
     }
-    Place::Nowhere
+    if !takes(core, a, round, last, q) {
+        return false;
+    }
+    round_active(round, q)
 }
 
-// The search begins at row `from` and goes round the end of the table: rows in the writer's order cost one step each.
+// Row x of n rows, where the first comes after the last.
+fn around(x: usize, n: usize) -> usize
+    requires { ⌜ x < n + n ⌝ }
+    ensures { λ r. ⌜ r ≡ x % n ⌝ }
+{
+    if x < n { x } else { x - n }
+}
+
+// The search begins at row `from` and goes both ways: rows in the writer's order, or in the reversed one, are found at once.
 fn next_row(core: &[u64], a: usize, round: &[u64], last: Place, from: usize) -> Place
     requires { ⌜ (a < rows coreLayout (now core)) × Started (now round) last × (from ≤ rows roundLayout (now round)) ⌝ }
     ensures { λ r. ⌜ Found (Follows (now (core .entry)) a (now (round .entry)) last) r ⌝ }
 {
     let rows = round.len() / keccak_rnd::NUM_COLUMNS;
-    if let Place::At(q) = row_between(core, a, round, last, from, rows) {
-        return Place::At(q);
+    let mut k = 0;
+    while k < rows {
+        let after = around(from + k, rows);
+        if is_next(core, a, round, last, after) {
+            return Place::At(after);
+        }
+        let before = around(from + rows - 1 - k, rows);
+        if is_next(core, a, round, last, before) {
+            return Place::At(before);
+        }
+        k += 1;
     }
-    row_between(core, a, round, last, 0, from)
+    Place::Nowhere
 }
 
 // The last of 24 rows that follow one another in the chain of core row a.
