@@ -1,21 +1,29 @@
--- A round row's values and tuples read only its 1,480 columns. Assumes nothing.
+-- A round row's values and tuples read only its 1,480 columns, and the call that writes a row reads of START only its 25
+-- lanes. Assumes nothing.
 use mathlib.Core.Path.{_≡_, ap}
 use mathlib.Core.List.{List, [], _∷_}
-use mathlib.Core.Bool.{_&&_}
+use mathlib.Core.Bool.{Bool, _&&_}
 use Prim.Native.Nat.{ℕ, _+_, _*_, _/_, _%_, _^_, _≤_, _<_}
 use native.Mathlib.Omega.{arith}
-use lib.Dec.{eqb}
+use lib.Dec.{eqb, leb}
+use lib.ListN.{length, take}
 use Rattle.lists.specs.Tab.{pick, tab, word}
 use Rattle.lists.proofs.Laws.{tab-same}
-use Rattle.lists.proofs.Reading.{Alike, ReadsFirst, then-same, pick-lt}
+use Rattle.lists.proofs.Reading.{Alike, ReadsFirst, front-same, then-same, pick-lt}
 use Rattle.field.specs.Field.{fadd, fsub, fmul}
+use Rattle.bits.specs.Bits.{wordAt}
+use Rattle.answer.specs.Refusal.{refuseIf, accepted, overwrite, afterwards}
+use Rattle.answer.specs.declared.Refusal.the-variants.{PastEnd, TooShort}
 use Rattle.templates.specs.Templates.{isBit}
 use Rattle.lookup.specs.Tuple.{sender, receiver}
 use Rattle.lookup.specs.declared.Bus.the-variants.{ByteAlu, AreBytes, KeccakRc, Keccak}
-use Rattle.lookup.proofs.Reading.{RestNotRead, tuple-rest}
+use Rattle.lookup.proofs.Reading.{RestNotRead, long-enough, tuple-rest}
+use Rattle.keccak.specs.Refusals.{tooShort}
 use Rattle.keccak.proofs.Reading.{by-xyb-same, keccak-same}
 use Rattle.keccak_rnd.specs.Columns.{NUM-COLUMNS, TIMESTAMP-0, TIMESTAMP-1, ROUND, MU, start, cxz, cxz-left, cxz-right-bit, cxz-right-bit-for-byte, dxz, theta, rot-left, rot-right, chi-ands, chi, rc, iota, pi-left, pi-right}
-use Rattle.keccak_rnd.specs.Row.{rnc}
+use Rattle.keccak_rnd.specs.Row.{rnc, roundRow}
+use Rattle.keccak_rnd.specs.Refusals.{rowRefusal}
+use Rattle.keccak_rnd.specs.Calls.{roundRowAfter}
 use Rattle.keccak_rnd.specs.Values.{NUM-VALUES, halfwordAt, identity, thetaValue, rhoValue, roundValue}
 use Rattle.keccak_rnd.specs.Tuples.{NUM-TUPLES, roundReceived, out, roundSent, alu, areBytes, rotatedCAt, piAt, notPiAt, rcTuple, cxzTuple0, cxzTuple, cxzLeftTuple, dxzTuple, thetaTuple, rotTuple, chiAndsTuple, chiTuple, iotaTuple, roundTuple}
 
@@ -148,3 +156,24 @@ tuple-reads row other same =
 
 pub rest-not-read : RestNotRead NUM-COLUMNS NUM-TUPLES roundTuple
 rest-not-read = tuple-rest NUM-COLUMNS NUM-TUPLES roundTuple tuple-reads
+
+-- ---- `keccak_rnd_row`, which may be lent a START that is longer than its 25 lanes
+module _ (timestamp round : ℕ) (row : List ℕ) where
+  module _ (start other : List ℕ) (h : 25 ≤ length start) (j : 25 ≤ length other) (same : Alike 25 start other) where
+    checks : rowRefusal round start row ≡ rowRefusal round other row
+    unfolding rowRefusal
+    checks = ap (λ (b : Bool). refuseIf (leb 24 round) (PastEnd 24) (refuseIf b (TooShort 25) (tooShort (length row) NUM-COLUMNS accepted))) (long-enough 25 start other h j)
+
+    lanes : tab 25 (word start) ≡ tab 25 (word other)
+    lanes = tab-same 25 (word start) (word other) same
+
+    after : roundRowAfter timestamp start round row ≡ roundRowAfter timestamp other round row
+    after = λ t. afterwards (checks t) (overwrite (roundRow (wordAt timestamp) round (lanes t)) row) row
+
+  pub start-rest : (start : List ℕ)
+      → (rowRefusal round (take 25 start) row ≡ rowRefusal round start row)
+      × (roundRowAfter timestamp (take 25 start) round row ≡ roundRowAfter timestamp start round row)
+  start-rest start = (
+    front-same (λ (s : List ℕ). rowRefusal round s row) 25 checks start,
+    front-same (λ (s : List ℕ). roundRowAfter timestamp s round row) 25 after start,
+  )
