@@ -1,21 +1,35 @@
--- A round row's values and tuples read only its 1,480 columns. Assumes nothing.
+-- What the calls of the round table read: of a row only its 1,480 columns, for values and tuples; of START only its 25
+-- lanes; of an operation never its output. Assumes nothing.
 use mathlib.Core.Path.{_≡_, ap}
 use mathlib.Core.List.{List, [], _∷_}
-use mathlib.Core.Bool.{_&&_}
-use Prim.Native.Nat.{ℕ, _+_, _*_, _/_, _%_, _^_, _≤_, _<_}
+use mathlib.Core.Bool.{Bool, not, _&&_}
+use Prim.Native.Nat.{ℕ, _+_, _-_, _*_, _/_, _%_, _^_, _≤_, _<_}
+use native.Mathlib.Nat.{add-zero}
 use native.Mathlib.Omega.{arith}
-use lib.Dec.{eqb}
-use Rattle.lists.specs.Tab.{pick, tab, word}
+use lib.Dec.{eqb, leb, ltb}
+use lib.ListN.{length, take}
+use Rattle.lists.specs.Tab.{pick, tab, tableOf, word}
+use Rattle.lists.specs.First.{firstAt}
 use Rattle.lists.proofs.Laws.{tab-same}
-use Rattle.lists.proofs.Reading.{Alike, ReadsFirst, then-same, pick-lt}
+use Rattle.lists.proofs.Reading.{Alike, ReadsFirst, front-same, then-same, pick-lt}
 use Rattle.field.specs.Field.{fadd, fsub, fmul}
+use Rattle.bits.specs.Bits.{wordAt}
+use Rattle.answer.specs.Refusal.{refuseIf, refuseAt, accepted, overwrite, afterwards}
+use Rattle.answer.specs.declared.Refusal.the-variants.{PastEnd, NotWhole, TooShort, HighAddress}
+use Rattle.answer.specs.Limits.{MAX-OPS}
+use Rattle.fips202.specs.Lanes.{roundsL}
 use Rattle.templates.specs.Templates.{isBit}
 use Rattle.lookup.specs.Tuple.{sender, receiver}
 use Rattle.lookup.specs.declared.Bus.the-variants.{ByteAlu, AreBytes, KeccakRc, Keccak}
-use Rattle.lookup.proofs.Reading.{RestNotRead, tuple-rest}
+use Rattle.lookup.proofs.Reading.{RestNotRead, long-enough, tuple-rest}
+use Rattle.keccak.specs.Height.{MIN-ROWS}
+use Rattle.keccak.specs.Row.{OP-WORDS, LAST-ADDRESS, opAt}
+use Rattle.keccak.specs.Refusals.{opCount, addressAt, highAt, tooShort, operationsRefusal}
 use Rattle.keccak.proofs.Reading.{by-xyb-same, keccak-same}
 use Rattle.keccak_rnd.specs.Columns.{NUM-COLUMNS, TIMESTAMP-0, TIMESTAMP-1, ROUND, MU, start, cxz, cxz-left, cxz-right-bit, cxz-right-bit-for-byte, dxz, theta, rot-left, rot-right, chi-ands, chi, rc, iota, pi-left, pi-right}
-use Rattle.keccak_rnd.specs.Row.{rnc}
+use Rattle.keccak_rnd.specs.Row.{rnc, roundRow, roundPad, opRow, roundRowAt, roundHeight, roundTable}
+use Rattle.keccak_rnd.specs.Refusals.{rowRefusal, traceRefusal}
+use Rattle.keccak_rnd.specs.Calls.{roundRowAfter, roundTraceAfter}
 use Rattle.keccak_rnd.specs.Values.{NUM-VALUES, halfwordAt, identity, thetaValue, rhoValue, roundValue}
 use Rattle.keccak_rnd.specs.Tuples.{NUM-TUPLES, roundReceived, out, roundSent, alu, areBytes, rotatedCAt, piAt, notPiAt, rcTuple, cxzTuple0, cxzTuple, cxzLeftTuple, dxzTuple, thetaTuple, rotTuple, chiAndsTuple, chiTuple, iotaTuple, roundTuple}
 
@@ -148,3 +162,61 @@ tuple-reads row other same =
 
 pub rest-not-read : RestNotRead NUM-COLUMNS NUM-TUPLES roundTuple
 rest-not-read = tuple-rest NUM-COLUMNS NUM-TUPLES roundTuple tuple-reads
+
+-- ---- `keccak_rnd_row`, which may be lent a START that is longer than its 25 lanes
+module _ (timestamp round : ℕ) (row : List ℕ) where
+  module _ (start other : List ℕ) (h : 25 ≤ length start) (j : 25 ≤ length other) (same : Alike 25 start other) where
+    checks : rowRefusal round start row ≡ rowRefusal round other row
+    unfolding rowRefusal
+    checks = ap (λ (b : Bool). refuseIf (leb 24 round) (PastEnd 24) (refuseIf b (TooShort 25) (tooShort (length row) NUM-COLUMNS accepted))) (long-enough 25 start other h j)
+
+    lanes : tab 25 (word start) ≡ tab 25 (word other)
+    lanes = tab-same 25 (word start) (word other) same
+
+    after : roundRowAfter timestamp start round row ≡ roundRowAfter timestamp other round row
+    after = λ t. afterwards (checks t) (overwrite (roundRow (wordAt timestamp) round (lanes t)) row) row
+
+  pub start-rest : (start : List ℕ)
+      → (rowRefusal round (take 25 start) row ≡ rowRefusal round start row)
+      × (roundRowAfter timestamp (take 25 start) round row ≡ roundRowAfter timestamp start round row)
+  start-rest start = (
+    front-same (λ (s : List ℕ). rowRefusal round s row) 25 checks start,
+    front-same (λ (s : List ℕ). roundRowAfter timestamp s round row) 25 after start,
+  )
+
+-- ---- '`generate_keccak_rnd_trace` never reads the operation's output': it is the same for two lists that are as long as
+-- each other and whose operations have the same first 27 words: timestamp, address and input
+module _ (ops other : List ℕ) (long : length ops ≡ length other)
+    (same : (i k : ℕ) → k < 27 → word ops (OP-WORDS * i + k) ≡ word other (OP-WORDS * i + k)) where
+  timestamp-same : (i : ℕ) → opAt ops i .timestamp ≡ opAt other i .timestamp
+  unfolding opAt
+  timestamp-same i = rw add-zero at (same i 0 (omega arith))
+
+  address-same : (i : ℕ) → addressAt ops i ≡ addressAt other i
+  unfolding opAt
+  address-same i = same i 1 (omega arith)
+
+  input-same : (i : ℕ) → opAt ops i .input ≡ opAt other i .input
+  unfolding opAt
+  input-same i = tab-same 25 _ _ (λ k h. let e : OP-WORDS * i + 2 + k ≡ OP-WORDS * i + (2 + k) = omega arith in rw e (same i (2 + k) (omega arith)))
+
+  refusal-output : (room : ℕ) → traceRefusal room ops ≡ traceRefusal room other
+  unfolding traceRefusal operationsRefusal highAt
+  refusal-output room =
+      λ t. refuseIf (ltb MAX-OPS (long t / OP-WORDS)) (PastEnd (MAX-OPS + 1))
+      (refuseIf (not (eqb (long t % OP-WORDS) 0)) (NotWhole 2)
+      (tooShort room (roundHeight 24 MIN-ROWS (long t / OP-WORDS) * NUM-COLUMNS)
+      (refuseAt (firstAt (λ i. ltb LAST-ADDRESS (address-same i t)) (long t / OP-WORDS)) (λ i. HighAddress (address-same i t)) accepted)))
+
+  table-output : roundTable 24 MIN-ROWS (opCount ops) (opAt ops) ≡ roundTable 24 MIN-ROWS (opCount other) (opAt other)
+  unfolding roundTable roundRowAt opRow
+  table-output =
+      λ t. tableOf (roundHeight 24 MIN-ROWS (long t / OP-WORDS)) NUM-COLUMNS (λ q.
+      pick (ltb q (long t / OP-WORDS * 24))
+      (roundRow (wordAt (timestamp-same (q / 24) t)) (24 - 24 + q % 24) (roundsL (24 - 24) (q % 24) (input-same (q / 24) t))) roundPad)
+
+  pub output-not-read : (table : List ℕ)
+      → (traceRefusal (length table) ops ≡ traceRefusal (length table) other) × (roundTraceAfter ops table ≡ roundTraceAfter other table)
+  output-not-read table =
+      let c = refusal-output (length table) in
+      (c, λ t. afterwards (c t) (overwrite (table-output t) table) table)
