@@ -5,7 +5,7 @@ use borrow.Author.Needs.{needs}
 use Rattle.lists.specs.Tab.{word}
 use Rattle.lookup.specs.Tuple.{sender, receiver}
 use Rattle.lookup.specs.declared.Bus.the-variants.{Keccak}
-use Rattle.is_wh.proofs.Tuples.{as-tuple}
+use Rattle.lookup.proofs.Call.{as-tuple}
 use Rattle.keccak.specs.Columns.{MU}
 use Rattle.keccak.specs.Tuples.{coreTuple, ecallTuple, addrMemw, coreSent, coreReceived}
 use Rattle.keccak_tuples.proofs.Tuples.{room, is-ecall, is-addr, is-sent, is-received, ecall-length, addr-length, sent-length, received-length}

@@ -3,7 +3,7 @@ use mathlib.Core.Path.{_≡_}
 use Prim.Native.Nat.{_-_}
 use native.Mathlib.Omega.{arith}
 use borrow.Author.Needs.{needs}
-use Rattle.is_wh.proofs.Tuples.{as-tuple}
+use Rattle.lookup.proofs.Call.{as-tuple}
 use Rattle.keccak.specs.Tuples.{coreTuple, alignTuple, addrBytesTuple, laneMemw}
 use Rattle.keccak_tuples.proofs.Tuples.{room, is-align, is-bytes, is-lane, align-length, bytes-length, lane-length}
 use Rattle.keccak_tuples.proofs.tail_tuple.Statement.{statement}
