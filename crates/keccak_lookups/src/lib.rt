@@ -1,4 +1,7 @@
 // The first tuple of a core row that needs a match and has none: the columns are tested, and no tuple is made.
+use keccak::ADDR;
+use keccak::MU;
+use keccak::STATE_PTR;
 use lists::Place;
 ghost use mathlib.Core.Path.{_≡_};
 ghost use mathlib.Core.Bool.{not};
@@ -11,12 +14,6 @@ ghost use Rattle.matching.specs.Matching.{matched};
 ghost use Rattle.keccak.specs.Columns.{NUM-COLUMNS, MU};
 ghost use Rattle.keccak.specs.Tuples.{NUM-TUPLES, coreTuple};
 ghost use Rattle.keccak_lookups.specs.Lookups.{lookupFails};
-
-const ADDR: usize = 2;
-
-const STATE_PTR: usize = 410;
-
-const MU: usize = 485;
 
 // Of the first 54 tuples: those of the pointers. A pointer sends its word and its middle half, then its low half.
 fn first_pointer_failure(row: &[u64]) -> Place

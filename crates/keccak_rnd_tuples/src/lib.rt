@@ -21,7 +21,6 @@ ghost use Rattle.keccak.specs.Columns.{byXYB};
 ghost use Rattle.keccak.specs.Tuples.{keccakValues};
 ghost use Rattle.keccak_rnd.specs.Columns.{NUM-COLUMNS};
 ghost use Rattle.keccak_rnd.specs.Tuples.{NUM-TUPLES, roundTuple, rcTuple};
-ghost use Rattle.keccak_rnd_lookup_tuples.specs.Elements.{Elements};
 ghost use Rattle.keccak_rnd_tuples.specs.States.{laneWord, columnWord, stateWord};
 
 pub const NUM_TUPLES: usize = 1031;
@@ -187,7 +186,7 @@ fn tuple_length(index: usize) -> usize
 
 // Tuple `index` of a row that the checks passed.
 fn row_tuple(row: &[u64], index: usize, out: &mut [u64]) -> BusInteraction
-    requires { ⌜ (1480 ≤ length (now row)) × Elements (now row) × (index < 1031) × (length (roundTuple (now row) index .values) ≤ length (now out)) ⌝ }
+    requires { ⌜ (1480 ≤ length (now row)) × ((k : ℕ) → k < NUM-COLUMNS → word (now row) k < p) × (index < 1031) × (length (roundTuple (now row) index .values) ≤ length (now out)) ⌝ }
     ensures answer { λ r. ⌜ r ≡ interactionOf (roundTuple (now (row .entry)) index) ⌝ }
     ensures words { λ _. ⌜ now (out .exit) ≡ overwrite (roundTuple (now (row .entry)) index .values) (now (out .entry)) ⌝ }
 {

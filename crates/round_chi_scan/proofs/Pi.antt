@@ -3,26 +3,32 @@ use mathlib.Core.Path.{_≡_, sym, ap, ap₂, _∙_}
 use mathlib.Core.Bool.{Bool}
 use mathlib.Core.List.{List}
 use Prim.Native.Nat.{ℕ, _+_, _-_, _*_, _/_, _%_, _≤_, _<_}
-use native.Mathlib.Nat.{mod-add-mod, add-mod-right}
+use native.Mathlib.Nat.{zero-add, mod-add-mod, add-mod-right}
 use native.Mathlib.Omega.{arith}
 use lib.ListN.{length}
 use lib.Seq.{sets}
 use Rattle.lists.specs.Tab.{tab, word}
+use Rattle.lists.proofs.Laws.{Filled, filled-block, stored-at, stored-long}
 use Rattle.lists.proofs.Then.{by-le}
 use Rattle.field.specs.Field.{p, fadd, fsub}
+use Rattle.field.specs.Elements.{ElementRow}
 use Rattle.field.proofs.Field.{mod-p, fadd-wrap, fadd-small}
 use Rattle.fips202.specs.Fips.{RHO}
 use Rattle.keccak.specs.Columns.{byXYB}
-use Rattle.keccak_rnd.specs.Columns.{MU}
+use Rattle.keccak_rnd.specs.Columns.{NUM-COLUMNS, MU}
 use Rattle.keccak_rnd.specs.Tuples.{piAt, chiAndsTuple, chiTuple}
-use Rattle.round_value.specs.Readable.{Readable}
 use Rattle.scan.specs.Scan.{unmatched, aluOff}
 use Rattle.scan.proofs.Scans.{alu-off}
 use Rattle.round_scan.specs.Parts.{andsTuples, chiTuples, PiOf}
-use Rattle.round_scan.proofs.Tests.{test, xyb, stored-at, stored-long}
+use Rattle.round_scan.proofs.Tests.{test, xyb}
 
 pub pi-of : (row l vs : List ℕ) → 200 ≤ length l → vs ≡ sets l 0 (tab 200 (byXYB (piAt row))) → PiOf row vs
 pi-of row l vs h e = record { long = stored-long l vs (tab 200 (byXYB (piAt row))) 200 h e; is = λ k b. stored-at l vs (byXYB (piAt row)) 200 k h e b }
+
+-- a turn that stores a lane of eight
+pub filled-lane : {l row row′ : List ℕ} {n : ℕ} (x : ℕ) (f g : ℕ → ℕ) → Filled l 0 n f row (8 * x) → 8 * (x + 1) ≤ n → row′ ≡ sets row (8 * x) (tab 8 g)
+    → ((j : ℕ) → j < 8 → f (8 * x + j) ≡ g j) → Filled l 0 n f row′ (8 * (x + 1))
+filled-lane {row = row} x f g h b e same = filled-block 8 x g h b (e ∙ ap (λ (k : ℕ). sets row k (tab 8 g)) (sym (zero-add (8 * x)))) same
 
 -- a lane of π, k being the offset of the lane that it comes from
 pub pi-lane : (row : List ℕ) (l k : ℕ) → k ≡ RHO ((l / 5 + 3 * (l % 5)) % 5) (l / 5) → (j : ℕ) → j < 8
@@ -63,7 +69,7 @@ not-sum l r hl hr =
 pub of-not : {r : Bool} {n m : ℕ} (b c : ℕ) → r ≡ aluOff 0 n b c → n ≡ m → r ≡ aluOff 0 m b c
 of-not b c e d = e ∙ ap (λ (w : ℕ). aluOff 0 w b c) d
 
-pub ands-same : (row pi : List ℕ) → Readable row → (word row MU ≡ 0 → ⊥) → PiOf row pi → (l z : ℕ) → l < 25 → z < 8
+pub ands-same : (row pi : List ℕ) → ElementRow NUM-COLUMNS row → (word row MU ≡ 0 → ⊥) → PiOf row pi → (l z : ℕ) → l < 25 → z < 8
     → unmatched (andsTuples row) (8 * l + z)
     ≡ aluOff 0 (fsub 255 (word pi (8 * ((l / 5 + 1) % 5 * 5 + l % 5) + z))) (word pi (8 * ((l / 5 + 2) % 5 * 5 + l % 5) + z)) (word row (1063 + (l / 5 + 5 * (l % 5)) * 8 + z))
 unfolding unmatched andsTuples

@@ -4,8 +4,7 @@ use mathlib.Core.Option.{none}
 use native.Mathlib.Omega.{arith}
 use borrow.Author.Needs.{needs}
 use Rattle.lists.specs.First.{firstAt, placeOf}
-use Rattle.lists.proofs.First.{at-more, at-hit, place-at, place-nowhere}
-use Rattle.keccak_values.proofs.Failures.{found-in}
+use Rattle.lists.proofs.First.{at-more, at-hit, found-in, place-at, place-nowhere}
 use Rattle.keccak_lookups.specs.Lookups.{lookupFails}
 use Rattle.keccak_lookups.proofs.Lookups.{idle-none, wide-fails, align-fails, align-holds}
 use Rattle.keccak_lookups.proofs.core_lookup_failure.Statement.{statement}

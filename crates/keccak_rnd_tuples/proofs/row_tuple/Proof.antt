@@ -2,14 +2,16 @@
 use mathlib.Core.Path.{ap}
 use native.Mathlib.Omega.{arith}
 use Rattle.keccak_rnd.specs.Tuples.{roundTuple}
-use Rattle.keccak_rnd_lookup_tuples.proofs.Tuples.{as-tuple}
+use Rattle.lookup.proofs.Call.{as-tuple}
 use Rattle.keccak_rnd_tuples.proofs.Tuples.{at-rc, keccak-size, rc-size}
 use borrow.Author.Needs.{needs}
 use Rattle.keccak_rnd_tuples.proofs.row_tuple.Statement.{statement}
 use Rattle.keccak_rnd_tuples.proofs.row_tuple.Tie as tie
 
 lookup-tuple-requires : tie.Need-lookup-tuple-requires
-lookup-tuple-requires c κs = search needs
+lookup-tuple-requires c κs =
+    let s = c .before .before .before .before in
+    (record { long = s .pre .0; below = s .pre .1 }, c .before .if1 .taken, s .pre .2, s .pre .3)
 
 same-length : tie.Need-same-length
 same-length c = search needs

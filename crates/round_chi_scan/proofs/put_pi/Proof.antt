@@ -4,8 +4,7 @@ use native.Mathlib.Omega.{arith}
 use Rattle.lists.proofs.Laws.{Filled, filled-none, filled-all}
 use Rattle.keccak.specs.Columns.{byXYB}
 use Rattle.keccak_rnd.specs.Tuples.{piAt}
-use Rattle.round_scan.proofs.Tests.{filled-lane}
-use Rattle.round_chi_scan.proofs.Pi.{pi-lane}
+use Rattle.round_chi_scan.proofs.Pi.{filled-lane, pi-lane}
 use Rattle.round_chi_scan.proofs.put_pi.Statement.{statement}
 use Rattle.round_chi_scan.proofs.put_pi.Tie as tie
 
