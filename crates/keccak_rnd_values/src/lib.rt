@@ -1,4 +1,5 @@
 // tables/keccak_rnd.rs, eval: the 141 values of a round row.
+use add_template::is_bit;
 use answer::Answer;
 use evaluation::check_values;
 use groups::put_carry_values;
@@ -7,7 +8,6 @@ use groups::put_theta_values;
 use keccak_rnd::MU;
 use keccak_rnd::NUM_COLUMNS;
 use round_value::element;
-use round_value::is_bit;
 ghost use mathlib.Core.Path.{_≡_};
 ghost use Prim.Native.Nat.{_≤_};
 ghost use lib.ListN.{length};
@@ -30,8 +30,8 @@ pub fn put_round_values(row: &[u64], out: &mut [u64])
     put_carry_values(row, out);
     put_theta_values(row, out);
     put_rho_values(row, out);
-    let mu = is_bit(element(row, MU));
-    out[140] = mu.value;
+    let mu = element(row, MU);
+    out[140] = is_bit(mu.value);
 }
 
 // The values of a row, whoever filled it.

@@ -1,4 +1,5 @@
 // tables/keccak_rnd.rs, eval: the values of a round row, one by one.
+use add_template::is_bit;
 use field::Fe;
 use keccak_rnd::CXZ;
 use keccak_rnd::CXZ_LEFT;
@@ -13,7 +14,6 @@ ghost use Prim.Native.Nat.{_+_, _/_, _%_, _^_, _≤_, _<_};
 ghost use Rattle.lists.specs.Tab.{word};
 ghost use Rattle.field.specs.Field.{p, fmul};
 ghost use Rattle.field.specs.Elements.{ElementRow};
-ghost use Rattle.templates.specs.Templates.{isBit};
 ghost use Rattle.keccak_rnd.specs.Columns.{NUM-COLUMNS, MU};
 ghost use Rattle.keccak_rnd.specs.Row.{rnc};
 ghost use Rattle.keccak_rnd.specs.Tuples.{rotatedCAt};
@@ -68,15 +68,6 @@ pub fn identity(half: Fe, power: u32, left: Fe, right: Fe) -> Fe
     rest.sub(left)
 }
 
-// x (1 - x).
-pub fn is_bit(x: Fe) -> Fe
-    requires { ⌜ x .value < p ⌝ }
-    ensures { λ r. ⌜ r .value ≡ isBit (x .value) ⌝ }
-{
-    let rest = Fe::ONE.sub(x);
-    x.mul(rest)
-}
-
 // MU times a value; in the rows of rounds MU is 1.
 pub fn gated(row: &[u64], value: Fe) -> Fe
     requires { ⌜ ElementRow NUM-COLUMNS (now row) × (value .value < p) ⌝ }
@@ -95,7 +86,9 @@ pub fn carry_value(row: &[u64], i: usize) -> Fe
     ensures { λ r. ⌜ r .value ≡ carryValue (now (row .entry)) (i / 4) (i % 4) ⌝ }
 {
     let carry = element(row, CXZ_RIGHT + i);
-    is_bit(carry)
+    Fe {
+        value: is_bit(carry.value),
+    }
 }
 
 // 20 to 39: halfword hw of C[x], shifted by one.
