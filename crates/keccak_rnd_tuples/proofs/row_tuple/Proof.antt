@@ -9,9 +9,7 @@ use Rattle.keccak_rnd_tuples.proofs.row_tuple.Statement.{statement}
 use Rattle.keccak_rnd_tuples.proofs.row_tuple.Tie as tie
 
 lookup-tuple-requires : tie.Need-lookup-tuple-requires
-lookup-tuple-requires c κs =
-    let s = c .before .before .before .before in
-    (record { long = s .pre .0; below = s .pre .1 }, c .before .if1 .taken, s .pre .2, s .pre .3)
+lookup-tuple-requires c κs = search needs
 
 same-length : tie.Need-same-length
 same-length c = search needs
@@ -22,7 +20,7 @@ returns c = search needs
 received-requires : tie.Need-received-requires
 received-requires c κs =
     let a = c .before .before .before .before .before .args in
-    (c .before .before .before .before .before .pre .0, omega (arith, keccak-size (a .row .now) (a .index) (omega arith), c .before .before .before .before .before .pre .3))
+    (c .before .before .before .before .before .pre .0 .long, omega (arith, keccak-size (a .row .now) (a .index) (omega arith), c .before .before .before .before .before .pre .2))
 
 same-length-2 : tie.Need-same-length-2
 same-length-2 c = search needs
@@ -33,7 +31,7 @@ returns-2 c = as-tuple _ (ap (roundTuple (c .before .before .before .before .bef
 sent-requires : tie.Need-sent-requires
 sent-requires c κs =
     let a = c .before .before .before .before .before .before .args in
-    (c .before .before .before .before .before .before .pre .0, c .before .before .before .before .before .before .pre .1 2 (omega arith), omega (arith, keccak-size (a .row .now) (a .index) (omega arith), c .before .before .before .before .before .before .pre .3))
+    (c .before .before .before .before .before .before .pre .0 .long, c .before .before .before .before .before .before .pre .0 .below 2 (omega arith), omega (arith, keccak-size (a .row .now) (a .index) (omega arith), c .before .before .before .before .before .before .pre .2))
 
 same-length-3 : tie.Need-same-length-3
 same-length-3 c = search needs
@@ -44,7 +42,7 @@ returns-3 c = as-tuple _ (ap (roundTuple (c .before .before .before .before .bef
 constant-requires : tie.Need-constant-requires
 constant-requires c κs =
     let a = c .before .before .before .before .before .before .args in
-    (c .before .before .before .before .before .before .pre .0, omega (arith, rc-size (a .row .now) (a .index) (omega arith), c .before .before .before .before .before .before .pre .3))
+    (c .before .before .before .before .before .before .pre .0 .long, omega (arith, rc-size (a .row .now) (a .index) (omega arith), c .before .before .before .before .before .before .pre .2))
 
 same-length-4 : tie.Need-same-length-4
 same-length-4 c = search needs

@@ -23,7 +23,7 @@ returns : tie.Need-returns
 returns c = search needs
 
 pointer-tuple-requires : tie.Need-pointer-tuple-requires
-pointer-tuple-requires c κs = let s = c .before .before .before .before .before in (s .pre .0, omega arith, fits _ (pointer (c .before)) (s .pre .3))
+pointer-tuple-requires c κs = let s = c .before .before .before .before .before in (s .pre .0 .long, omega arith, fits _ (pointer (c .before)) (s .pre .2))
 
 same-length-2 : tie.Need-same-length-2
 same-length-2 c = search needs
