@@ -1,6 +1,6 @@
 -- What each tuple of an IS_WH row and of IS_WHH is: bus, side, multiplicity and values, by column numbers. And that they meet: what IS_WHH sends for a
 -- 64-bit value is what the row of its key receives. Assumes nothing.
-use mathlib.Core.Path.{_≡_, refl, sym, ap, ap₂, subst, _∙_}
+use mathlib.Core.Path.{_≡_, refl, sym, ap, ap₂, _∙_}
 use mathlib.Core.List.{List, [], _∷_}
 use Prim.Native.Nat.{ℕ, zero, suc, _+_, _-_, _*_, _/_, _%_, _^_, _≤_, _<_}
 use native.Mathlib.Nat.{mod-eq-of-lt}
@@ -9,10 +9,7 @@ use lib.ListN.{length}
 use Rattle.lists.specs.Tab.{word}
 use Rattle.lists.proofs.Then.{then-lt, then-past}
 use Rattle.field.specs.Field.{p, fadd, fmul}
-use Rattle.answer.specs.Refusal.{overwrite}
 use Rattle.lookup.specs.Tuple.{Tuple}
-use Rattle.lookup.specs.Call.{interactionOf}
-use Rattle.lookup.specs.declared.BusInteraction.{BusInteraction}
 use Rattle.lookup.specs.declared.Bus.the-variants.{IsWh, IsHalfword, IsB20}
 use Rattle.lookup.specs.declared.Side.the-variants.{Sender, Receiver}
 use Rattle.is_wh.specs.Key.{of-dword}
@@ -52,11 +49,3 @@ module _ (row : List ℕ) where
 
   pub two-values : (i : ℕ) → 4 ≤ i → 2 ≡ length (isWhTuple row i .values)
   two-values i h = ap (λ (t : Tuple). length (t .values)) (sym (pair-received i h))
-
--- ---- for the calls that give them
-pub fits : {s t : Tuple} (n : ℕ) → s ≡ t → length (s .values) ≤ n → length (t .values) ≤ n
-fits n e h = subst (λ (t : Tuple). length (t .values) ≤ n) e h
-
-pub as-tuple : {s t : Tuple} {r : BusInteraction} {new : List ℕ} (old : List ℕ) → s ≡ t → r ≡ interactionOf t → new ≡ overwrite (t .values) old
-    → (r ≡ interactionOf s) × (new ≡ overwrite (s .values) old)
-as-tuple old e a w = (a ∙ ap interactionOf (sym e), w ∙ ap (λ (t : Tuple). overwrite (t .values) old) (sym e))

@@ -7,10 +7,10 @@ use Prim.Native.Nat.{ℕ, _+_, _-_, _*_, _/_, _<_}
 use native.Mathlib.Omega.{arith}
 use borrow.Author.Tests.{eq-eqb, ne-eqb}
 use lib.Dec.{eqb}
-use lib.ListN.{length, take, drop, List·getD-append}
+use lib.ListN.{length, take, drop}
 use lib.Seq.{sets, length-sets}
 use Rattle.lists.specs.Tab.{word, tab, rowAt}
-use Rattle.lists.proofs.Laws.{length-tab, getD-tab, sets-front}
+use Rattle.lists.proofs.Laws.{stored-at}
 use Rattle.lists.specs.First.{firstAt, placeOf}
 use Rattle.lists.specs.declared.Place.{Place}
 use Rattle.lists.specs.declared.Place.the-variants.{At, Nowhere}
@@ -29,13 +29,9 @@ pub held : (w n : ℕ) (value : List ℕ → ℕ → ℕ) (ws old now : List ℕ
     (length now ≡ n) × ((i : ℕ) → i < n → word now i ≡ value (rowAt w ws r) i)
 held w n value ws old now r l h e =
     let vs : List ℕ = tab n (value (rowAt w ws r)) in
-    let size : length vs ≡ n = length-tab n (value (rowAt w ws r)) in
     let is : now ≡ sets old 0 vs = e ∙ ap (λ (x : List ℕ). sets old 0 (tab n (value x))) (part-is w ws r l) in (
       ap length is ∙ length-sets old 0 vs ∙ h,
-      λ i g.
-          ap (λ (x : List ℕ). word x i) (is ∙ sets-front old vs n size (omega arith))
-          ∙ List·getD-append vs (drop n old) 0 i (omega arith)
-          ∙ getD-tab n (value (rowAt w ws r)) i 0 g,
+      λ i g. stored-at old now (value (rowAt w ws r)) n i (omega arith) is g,
     )
 
 -- what a test of such a word says of the scan of its table

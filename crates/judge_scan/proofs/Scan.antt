@@ -1,7 +1,7 @@
 -- What a scan over rows cites, where a row is handed on as a part of the slice and answers with its first index.
 -- Assumes nothing.
 --     at-none-row, at-some-row   what a row's search says of the scan of rows
---     part-is, part-long, part-words   the part of a table that is row r: its words, how many, and that they are elements
+--     part-is, part-long, part-row   the part of a table that is row r: its words, how many, and that they are elements
 use mathlib.Core.Path.{_≡_, refl, sym, ap, subst, _∙_}
 use mathlib.Core.Bool.{Bool}
 use mathlib.Core.Option.{Option, none, some}
@@ -16,6 +16,7 @@ use Rattle.lists.specs.declared.Place.the-variants.{At, Nowhere}
 use Rattle.lists.proofs.First.{first-more, first-hit, at-clear, at-found, row-nothing}
 use Rattle.lists.proofs.Laws.{word-rowAt}
 use Rattle.field.specs.Field.{p}
+use Rattle.field.specs.Elements.{ElementRow}
 use Rattle.verdict.specs.Failures.{Elements}
 use Rattle.verdict.proofs.Parts.{row-ends, part-between}
 use Rattle.judge_scan.specs.Spot.{spotOf}
@@ -55,7 +56,11 @@ module _ (w : ℕ) (ws : List ℕ) (r : ℕ) (l : r < length ws / w) where
       let n : length (take w (drop (r * w) ws)) ≡ w = length-take-le w (drop (r * w) ws) (omega (arith, length-drop (r * w) ws)) in
       subst (λ (k : ℕ). w ≤ length (take k (drop (r * w) ws))) (sym e) (omega arith)
 
-  pub part-words : Elements ws → (k : ℕ) → k < w → word (take (r * w + w - r * w) (drop (r * w) ws)) k < p
-  part-words h k g =
-      subst (λ (n : ℕ). n < p) (sym (ap (λ (x : List ℕ). word x k) part-is ∙ word-rowAt w ws r k g))
-      (h (r * w + k) (omega (arith, row-ends w ws r l)))
+  pub part-row : Elements ws → ElementRow w (take (r * w + w - r * w) (drop (r * w) ws))
+  part-row h =
+      record {
+        long = part-long;
+        below = λ k g.
+            subst (λ (n : ℕ). n < p) (sym (ap (λ (x : List ℕ). word x k) part-is ∙ word-rowAt w ws r k g))
+            (h (r * w + k) (omega (arith, row-ends w ws r l)));
+      }

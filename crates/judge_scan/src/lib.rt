@@ -12,23 +12,18 @@ pub enum Spot {
     Nowhere,
 }
 
-// MU, the last column of a row.
-const CORE_MU: usize = 485;
-
-const ROUND_MU: usize = 1479;
-
 pub fn core_active(core: &[u64], row: usize) -> bool
     requires { ⌜ row < rows coreLayout (now core) ⌝ }
     ensures { λ r. ⌜ r ≡ active coreLayout (now (core .entry)) row ⌝ }
 {
-    core[row * keccak::NUM_COLUMNS + CORE_MU] == 1
+    core[row * keccak::NUM_COLUMNS + keccak::MU] == 1
 }
 
 pub fn round_active(round: &[u64], row: usize) -> bool
     requires { ⌜ row < rows roundLayout (now round) ⌝ }
     ensures { λ r. ⌜ r ≡ active roundLayout (now (round .entry)) row ⌝ }
 {
-    round[row * keccak_rnd::NUM_COLUMNS + ROUND_MU] == 1
+    round[row * keccak_rnd::NUM_COLUMNS + keccak_rnd::MU] == 1
 }
 
 // How many rows of a core table are active.

@@ -18,30 +18,17 @@ use Rattle.lookup.specs.declared.Bus.the-variants.{Keccak}
 use Rattle.bitwise.specs.Found.{aluOp, aluFound, areBytesFound, halfFound}
 use Rattle.is_wh.specs.Found.{isWhFound}
 use Rattle.matching.specs.Matching.{foundOn, found, matched}
+use Rattle.scan.specs.Scan.{unmatched}
+use Rattle.scan.proofs.Scans.{idle-off, sent-off, free-off}
 use Rattle.keccak.specs.Columns.{MU}
 use Rattle.keccak.specs.Tuples.{coreTuple, ecallTuple, addrMemw, coreSent, coreReceived, pointerTuple, alignTuple, addrBytesTuple, laneMemw}
 use Rattle.keccak_tuples.proofs.Tuples.{is-ecall, is-addr, is-sent, is-received, is-pointer, is-align, is-bytes, is-lane, pointer-pair, pointer-low}
-use Rattle.keccak_lookups.specs.Lookups.{lookupFails}
-
--- a tuple whose multiplicity is 0, one that is looked up, and one that is asked nothing
-idle-match : (t : Tuple) → t .multiplicity ≡ 0 → matched t ≡ true
-idle-match t e = ap {B = Bool} (λ (b : Bool). elim b as (λ _. Bool) [ true ↦ true | false ↦ found t ]) (eq-eqb _ _ e)
-
-looked-up : (t : Tuple) → (t .multiplicity ≡ 0 → ⊥) → matched t ≡ found t
-looked-up t n = ap {B = Bool} (λ (b : Bool). elim b as (λ _. Bool) [ true ↦ true | false ↦ found t ]) (ne-eqb _ _ n)
-
-free-match : (t : Tuple) → found t ≡ true → matched t ≡ true
-free-match t e = go (eqb (t .multiplicity) 0)
-  where
-    go : (b : Bool) → elim b as (λ _. Bool) [ true ↦ true | false ↦ found t ] ≡ true
-    go true = refl
-    go false = e
 
 module _ (row : List ℕ) where
   -- tuples that are asked nothing
-  free : (i : ℕ) {t : Tuple} → coreTuple 24 0 row i ≡ t → found t ≡ true → lookupFails row i ≡ false
-  unfolding lookupFails
-  free i {t} e f = ap (λ (u : Tuple). not (matched u)) e ∙ ap not (free-match t f)
+  free : (i : ℕ) {t : Tuple} → coreTuple 24 0 row i ≡ t → found t ≡ true → unmatched (coreTuple 24 0 row) i ≡ false
+  unfolding unmatched
+  free i {t} e f = ap (λ (u : Tuple). not (matched u)) e ∙ free-off t f
 
   ecall-free : found (ecallTuple 0 row) ≡ true
   unfolding foundOn ecallTuple
@@ -63,39 +50,39 @@ module _ (row : List ℕ) where
   unfolding foundOn laneMemw
   lane-free i = refl
 
-  head-holds : (i : ℕ) → i < 4 → lookupFails row i ≡ false
+  head-holds : (i : ℕ) → i < 4 → unmatched (coreTuple 24 0 row) i ≡ false
   head-holds zero h = free 0 (is-ecall 24 0 row 0 refl) ecall-free
   head-holds (suc zero) h = free 1 (is-addr 24 0 row 1 refl) addr-free
   head-holds (suc (suc zero)) h = free 2 (is-sent 24 0 row 2 refl) (sent-free (word row MU) (coreSent 24 row))
   head-holds (suc (suc (suc zero))) h = free 3 (is-received 24 0 row 3 refl) (received-free (word row MU) (coreReceived row))
   head-holds (suc (suc (suc (suc i)))) h = absurd (omega arith)
 
-  lane-holds : (i : ℕ) → 59 ≤ i → lookupFails row i ≡ false
+  lane-holds : (i : ℕ) → 59 ≤ i → unmatched (coreTuple 24 0 row) i ≡ false
   lane-holds i h = free i (is-lane 24 0 row i h) (lane-free (i - 59))
 
   -- no tuple before the pointers fails
-  pub head-none : firstAt (lookupFails row) 4 ≡ none
-  head-none = at-nothing (lookupFails row) 4 head-holds
+  pub head-none : firstAt (unmatched (coreTuple 24 0 row)) 4 ≡ none
+  head-none = at-nothing (unmatched (coreTuple 24 0 row)) 4 head-holds
 
   -- where none fails below 59, none fails
-  pub tail-none : firstAt (lookupFails row) 59 ≡ none → firstAt (lookupFails row) 84 ≡ none
-  tail-none e = at-nothing (lookupFails row) 84 (λ k h. by-le 59 k (lane-holds k) (λ l. at-clear (lookupFails row) 59 k e l))
+  pub tail-none : firstAt (unmatched (coreTuple 24 0 row)) 59 ≡ none → firstAt (unmatched (coreTuple 24 0 row)) 84 ≡ none
+  tail-none e = at-nothing (unmatched (coreTuple 24 0 row)) 84 (λ k h. by-le 59 k (lane-holds k) (λ l. at-clear (unmatched (coreTuple 24 0 row)) 59 k e l))
 
   module _ (active : word row MU ≡ 0 → ⊥) where
-    asked : (i : ℕ) {t : Tuple} → coreTuple 24 0 row i ≡ t → t .multiplicity ≡ word row MU → lookupFails row i ≡ not (found t)
-    unfolding lookupFails
-    asked i {t} e m = ap (λ (u : Tuple). not (matched u)) e ∙ ap not (looked-up t (λ z. active (sym m ∙ z)))
+    asked : (i : ℕ) {t : Tuple} → coreTuple 24 0 row i ≡ t → t .multiplicity ≡ word row MU → unmatched (coreTuple 24 0 row) i ≡ not (found t)
+    unfolding unmatched
+    asked i {t} e m = ap (λ (u : Tuple). not (matched u)) e ∙ sent-off t (λ z. active (sym m ∙ z))
 
     -- the pointers
     module _ (i : ℕ) (h : i < 25) where
-      pair-is : lookupFails row (4 + 2 * i) ≡ not (ltb (word row (410 + 3 * i + 2)) (2 ^ 32) && ltb (word row (410 + 3 * i + 1)) (2 ^ 16))
+      pair-is : unmatched (coreTuple 24 0 row) (4 + 2 * i) ≡ not (ltb (word row (410 + 3 * i + 2)) (2 ^ 32) && ltb (word row (410 + 3 * i + 1)) (2 ^ 16))
       unfolding foundOn isWhFound
       pair-is =
           let q : (4 + 2 * i - 4) / 2 ≡ i = omega arith in
           let r : (4 + 2 * i - 4) % 2 ≡ 0 = omega arith in
           asked (4 + 2 * i) (is-pointer 24 0 row (4 + 2 * i) (omega arith) (omega arith) ∙ at-two (pointerTuple row) q r ∙ pointer-pair row i 0 refl) refl
 
-      low-is : lookupFails row (5 + 2 * i) ≡ not (ltb (word row (410 + 3 * i)) 65536)
+      low-is : unmatched (coreTuple 24 0 row) (5 + 2 * i) ≡ not (ltb (word row (410 + 3 * i)) 65536)
       unfolding foundOn halfFound
       low-is =
           let q : (5 + 2 * i - 4) / 2 ≡ i = omega arith in
@@ -103,38 +90,38 @@ module _ (row : List ℕ) where
           let n : _≡_ {A = ℕ} 1 0 → ⊥ = λ z. omega arith in
           asked (5 + 2 * i) (is-pointer 24 0 row (5 + 2 * i) (omega arith) (omega arith) ∙ at-two (pointerTuple row) q r ∙ pointer-low row i 1 n) refl
 
-      pub word-fails : 4294967296 ≤ word row (410 + 3 * i + 2) → lookupFails row (4 + 2 * i) ≡ true
+      pub word-fails : 4294967296 ≤ word row (410 + 3 * i + 2) → unmatched (coreTuple 24 0 row) (4 + 2 * i) ≡ true
       word-fails l = pair-is ∙ ap not (false-and _ _ (λ e. absurd (true-not-false (sym e ∙ le-ltb _ _ l))))
 
-      pub half-fails : 65536 ≤ word row (410 + 3 * i + 1) → lookupFails row (4 + 2 * i) ≡ true
+      pub half-fails : 65536 ≤ word row (410 + 3 * i + 1) → unmatched (coreTuple 24 0 row) (4 + 2 * i) ≡ true
       half-fails l = pair-is ∙ ap not (false-and (ltb (word row (410 + 3 * i + 2)) (2 ^ 32)) (ltb (word row (410 + 3 * i + 1)) (2 ^ 16)) (λ e. le-ltb _ _ l))
 
-      pub pair-holds : word row (410 + 3 * i + 2) < 4294967296 → word row (410 + 3 * i + 1) < 65536 → lookupFails row (4 + 2 * i) ≡ false
+      pub pair-holds : word row (410 + 3 * i + 2) < 4294967296 → word row (410 + 3 * i + 1) < 65536 → unmatched (coreTuple 24 0 row) (4 + 2 * i) ≡ false
       pair-holds a b = pair-is ∙ ap not (true-and _ _ (lt-ltb _ _ a) (lt-ltb _ _ b))
 
-      pub low-fails : 65536 ≤ word row (410 + 3 * i) → lookupFails row (5 + 2 * i) ≡ true
+      pub low-fails : 65536 ≤ word row (410 + 3 * i) → unmatched (coreTuple 24 0 row) (5 + 2 * i) ≡ true
       low-fails l = low-is ∙ ap not (le-ltb _ _ l)
 
-      pub low-holds : word row (410 + 3 * i) < 65536 → lookupFails row (5 + 2 * i) ≡ false
+      pub low-holds : word row (410 + 3 * i) < 65536 → unmatched (coreTuple 24 0 row) (5 + 2 * i) ≡ false
       low-holds l = low-is ∙ ap not (lt-ltb _ _ l)
 
     -- the address's lowest byte
-    align-is : lookupFails row 54 ≡ not (ltb (word row 2) 256 && eqb 0 (bitAnd (word row 2) 7))
+    align-is : unmatched (coreTuple 24 0 row) 54 ≡ not (ltb (word row 2) 256 && eqb 0 (bitAnd (word row 2) 7))
     unfolding foundOn aluFound aluOp alignTuple
     align-is = asked 54 (is-align 24 0 row 54 refl) refl
 
-    pub wide-fails : 256 ≤ word row 2 → lookupFails row 54 ≡ true
+    pub wide-fails : 256 ≤ word row 2 → unmatched (coreTuple 24 0 row) 54 ≡ true
     wide-fails l = align-is ∙ ap not (false-and _ _ (λ e. absurd (true-not-false (sym e ∙ le-ltb _ _ l))))
 
-    pub align-fails : (bitAnd (word row 2) 7 ≡ 0 → ⊥) → lookupFails row 54 ≡ true
+    pub align-fails : (bitAnd (word row 2) 7 ≡ 0 → ⊥) → unmatched (coreTuple 24 0 row) 54 ≡ true
     align-fails n = align-is ∙ ap not (false-and (ltb (word row 2) 256) (eqb 0 (bitAnd (word row 2) 7)) (λ e. ne-eqb _ _ (λ z. n (sym z))))
 
-    pub align-holds : word row 2 < 256 → bitAnd (word row 2) 7 ≡ 0 → lookupFails row 54 ≡ false
+    pub align-holds : word row 2 < 256 → bitAnd (word row 2) 7 ≡ 0 → unmatched (coreTuple 24 0 row) 54 ≡ false
     align-holds a e = align-is ∙ ap not (true-and _ _ (lt-ltb _ _ a) (eq-eqb _ _ (sym e)))
 
     -- the address's bytes
     module _ (i : ℕ) (h : i < 4) where
-      bytes-is : lookupFails row (55 + i) ≡ not (ltb (word row (2 + 2 * i)) 256 && ltb (word row (2 + 2 * i + 1)) 256)
+      bytes-is : unmatched (coreTuple 24 0 row) (55 + i) ≡ not (ltb (word row (2 + 2 * i)) 256 && ltb (word row (2 + 2 * i + 1)) 256)
       unfolding foundOn areBytesFound addrBytesTuple
       bytes-is =
           let q : 55 + i - 55 ≡ i = omega arith in
@@ -144,35 +131,35 @@ module _ (row : List ℕ) where
           next : (i : ℕ) → 2 + (2 * i + 1) ≡ 2 + 2 * i + 1
           next i = omega arith
 
-      pub first-fails : 256 ≤ word row (2 + 2 * i) → lookupFails row (55 + i) ≡ true
+      pub first-fails : 256 ≤ word row (2 + 2 * i) → unmatched (coreTuple 24 0 row) (55 + i) ≡ true
       first-fails l = bytes-is ∙ ap not (false-and _ _ (λ e. absurd (true-not-false (sym e ∙ le-ltb _ _ l))))
 
-      pub second-fails : 256 ≤ word row (2 + 2 * i + 1) → lookupFails row (55 + i) ≡ true
+      pub second-fails : 256 ≤ word row (2 + 2 * i + 1) → unmatched (coreTuple 24 0 row) (55 + i) ≡ true
       second-fails l = bytes-is ∙ ap not (false-and (ltb (word row (2 + 2 * i)) 256) (ltb (word row (2 + 2 * i + 1)) 256) (λ e. le-ltb _ _ l))
 
-      pub bytes-hold : word row (2 + 2 * i) < 256 → word row (2 + 2 * i + 1) < 256 → lookupFails row (55 + i) ≡ false
+      pub bytes-hold : word row (2 + 2 * i) < 256 → word row (2 + 2 * i + 1) < 256 → unmatched (coreTuple 24 0 row) (55 + i) ≡ false
       bytes-hold a b = bytes-is ∙ ap not (true-and _ _ (lt-ltb _ _ a) (lt-ltb _ _ b))
 
 -- a row that sends nothing
 module _ (row : List ℕ) (idle : word row MU ≡ 0) where
-  quiet : (k : ℕ) {t : Tuple} → coreTuple 24 0 row k ≡ t → t .multiplicity ≡ word row MU → lookupFails row k ≡ false
-  unfolding lookupFails
-  quiet k {t} e m = ap (λ (u : Tuple). not (matched u)) e ∙ ap not (idle-match t (m ∙ idle))
+  quiet : (k : ℕ) {t : Tuple} → coreTuple 24 0 row k ≡ t → t .multiplicity ≡ word row MU → unmatched (coreTuple 24 0 row) k ≡ false
+  unfolding unmatched
+  quiet k {t} e m = ap (λ (u : Tuple). not (matched u)) e ∙ idle-off t (m ∙ idle)
 
   pointer-mu : (i j : ℕ) → pointerTuple row i j .multiplicity ≡ word row MU
   unfolding pointerTuple
   pointer-mu i zero = refl
   pointer-mu i (suc j) = refl
 
-  quiet-align : (k : ℕ) → k ≡ 54 → lookupFails row k ≡ false
+  quiet-align : (k : ℕ) → k ≡ 54 → unmatched (coreTuple 24 0 row) k ≡ false
   unfolding alignTuple
   quiet-align k e = quiet k (is-align 24 0 row k e) refl
 
-  quiet-bytes : (k : ℕ) → 55 ≤ k → k < 59 → lookupFails row k ≡ false
+  quiet-bytes : (k : ℕ) → 55 ≤ k → k < 59 → unmatched (coreTuple 24 0 row) k ≡ false
   unfolding addrBytesTuple
   quiet-bytes k l h = quiet k (is-bytes 24 0 row k l h) refl
 
-  quiet-at : (k : ℕ) → lookupFails row k ≡ false
+  quiet-at : (k : ℕ) → unmatched (coreTuple 24 0 row) k ≡ false
   quiet-at k =
       by-le 4 k
       (λ l. by-le 54 k
@@ -182,8 +169,8 @@ module _ (row : List ℕ) (idle : word row MU ≡ 0) where
       (λ m. quiet k (is-pointer 24 0 row k l m) (pointer-mu ((k - 4) / 2) ((k - 4) % 2))))
       (head-holds row k)
 
-  pub idle-none : firstAt (lookupFails row) 84 ≡ none
-  idle-none = at-nothing (lookupFails row) 84 (λ k h. quiet-at k)
+  pub idle-none : firstAt (unmatched (coreTuple 24 0 row)) 84 ≡ none
+  idle-none = at-nothing (unmatched (coreTuple 24 0 row)) 84 (λ k h. quiet-at k)
 
 -- ---- for the scans: one index more, and the two of a pointer
 module _ (t : ℕ → Bool) where

@@ -1,4 +1,7 @@
 // The first tuple of a core row that needs a match and has none: the columns are tested, and no tuple is made.
+use keccak::ADDR;
+use keccak::MU;
+use keccak::STATE_PTR;
 use lists::Place;
 ghost use mathlib.Core.Path.{_≡_};
 ghost use mathlib.Core.Bool.{not};
@@ -10,18 +13,12 @@ ghost use Rattle.lists.specs.First.{firstAt, placeOf};
 ghost use Rattle.matching.specs.Matching.{matched};
 ghost use Rattle.keccak.specs.Columns.{NUM-COLUMNS, MU};
 ghost use Rattle.keccak.specs.Tuples.{NUM-TUPLES, coreTuple};
-ghost use Rattle.keccak_lookups.specs.Lookups.{lookupFails};
-
-const ADDR: usize = 2;
-
-const STATE_PTR: usize = 410;
-
-const MU: usize = 485;
+ghost use Rattle.scan.specs.Scan.{unmatched};
 
 // Of the first 54 tuples: those of the pointers. A pointer sends its word and its middle half, then its low half.
 fn first_pointer_failure(row: &[u64]) -> Place
     requires { ⌜ (NUM-COLUMNS ≤ length (now row)) × (word (now row) MU ≡ 0 → ⊥) ⌝ }
-    ensures { λ r. ⌜ r ≡ placeOf (firstAt (lookupFails (now (row .entry))) 54) ⌝ }
+    ensures { λ r. ⌜ r ≡ placeOf (firstAt (unmatched (coreTuple 24 0 (now (row .entry)))) 54) ⌝ }
 {
     let mut i: usize = 0;
     while i < 25 {
@@ -42,8 +39,8 @@ fn first_pointer_failure(row: &[u64]) -> Place
 
 // From tuple 55 on, where none fails before it: the four pairs of the address's bytes; Memw needs no match here.
 fn first_byte_failure(row: &[u64]) -> Place
-    requires { ⌜ (NUM-COLUMNS ≤ length (now row)) × (word (now row) MU ≡ 0 → ⊥) × (firstAt (lookupFails (now row)) 55 ≡ none) ⌝ }
-    ensures { λ r. ⌜ r ≡ placeOf (firstAt (lookupFails (now (row .entry))) NUM-TUPLES) ⌝ }
+    requires { ⌜ (NUM-COLUMNS ≤ length (now row)) × (word (now row) MU ≡ 0 → ⊥) × (firstAt (unmatched (coreTuple 24 0 (now row))) 55 ≡ none) ⌝ }
+    ensures { λ r. ⌜ r ≡ placeOf (firstAt (unmatched (coreTuple 24 0 (now (row .entry)))) NUM-TUPLES) ⌝ }
 {
     let mut i: usize = 0;
     while i < 4 {

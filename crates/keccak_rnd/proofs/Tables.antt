@@ -1,18 +1,17 @@
 -- The tables of bytes that a row is written from: an array by its places, and what each table's cells are. Assumes nothing.
-use mathlib.Core.Path.{_≡_, refl, sym, ap, ap₂, _∙_, subst}
+use mathlib.Core.Path.{_≡_, sym, ap, ap₂, _∙_, subst}
 use mathlib.Core.List.{List, [], _∷_, _++_}
-use Prim.Native.Nat.{ℕ, suc, _+_, _-_, _*_, _/_, _%_, _^_, _≤_, _<_}
-use native.Mathlib.Nat.{add-zero, le-trans, le-of-suc-le-suc, mul-le-mul-left, mul-le-mul-right}
+use Prim.Native.Nat.{ℕ, suc, _+_, _-_, _*_, _/_, _%_, _^_, _<_}
+use native.Mathlib.Nat.{add-zero}
 use native.Mathlib.Omega.{arith}
 use lib.Bits.{bitXor}
 use lib.Dec.{eqb}
 use lib.ListN.{getD}
-use lib.Pow.{pow-mono}
 use Rattle.lists.specs.Tab.{pick, tab, tabFrom, word, rowOf}
 use Rattle.lists.proofs.Laws.{getD-tab, tab-same}
-use Rattle.bits.specs.Bits.{byteAt, laneByte, pack, laneOf, Bytes, halfword, hwsl, hwslCarry, leftByte, rightByte}
-use Rattle.bits.proofs.Bytes.{byte-lt, byte-xor, lane-byteAt}
-use Rattle.bits.proofs.Rotate.{half-lt, half-same, left-bytes, right-bytes}
+use Rattle.bits.specs.Bits.{byteAt, laneByte, laneOf, halfword, hwsl, hwslCarry, leftByte, rightByte}
+use Rattle.bits.proofs.Bytes.{byte-xor, lane-byteAt, lane-same}
+use Rattle.bits.proofs.Rotate.{half-same, left-bytes, right-bytes}
 use Rattle.fips202.specs.Fips.{RHO}
 use Rattle.fips202.specs.Lanes.{lane, grid, Lanes}
 use Rattle.fips202.proofs.Steps.{lane-of, lane-grid, grid-same}
@@ -33,58 +32,6 @@ pub eight : (f : ℕ → ℕ) {a b c d e g h i : ℕ} → a ≡ f 0 → b ≡ f 
     → a ∷ b ∷ c ∷ d ∷ e ∷ g ∷ h ∷ i ∷ [] ≡ tab 8 f
 unfolding tab tabFrom
 eight f p q r s u v w x = λ t. p t ∷ q t ∷ r t ∷ s t ∷ u t ∷ v t ∷ w t ∷ x t ∷ []
-
--- ---- shifted halfwords
--- the carry of a halfword is a halfword
-pub carry-half : (n r : ℕ) → n < 65536 → r < 16 → n * 2 ^ r / 65536 < 65536
-carry-half n r h l =
-    let le : n * 2 ^ r ≤ 65535 * 32768 = le-trans (mul-le-mul-right (2 ^ r) (le-of-suc-le-suc h)) (mul-le-mul-left 65535 (pow-mono {i = r} {j = 15} (omega arith))) in
-    omega arith
-
-pub split-half : (n : ℕ) → n % 65536 + 65536 * (n / 65536) ≡ n
-split-half n = omega arith
-
--- a lane by its halfwords
-lane-pairs : (f : ℕ → ℕ) → f 0 + f 1 * 256 + (f 2 + f 3 * 256) * 65536 + (f 4 + f 5 * 256) * 4294967296 + (f 6 + f 7 * 256) * 281474976710656 ≡ laneOf f
-unfolding pack
-lane-pairs f = omega arith
-
-two-bytes : (n : ℕ) → n < 65536 → n ≡ byteAt n 0 + byteAt n 1 * 256
-two-bytes n h = omega arith
-
-half-0 : (n : ℕ) → n % 65536 ≡ halfword (byteAt n) 0
-half-0 n = omega arith
-
-half-1 : (n : ℕ) → n / 2 ^ 16 % 65536 ≡ halfword (byteAt n) 1
-half-1 n = omega arith
-
-half-2 : (n : ℕ) → n / 2 ^ 32 % 65536 ≡ halfword (byteAt n) 2
-half-2 n = omega arith
-
-half-3 : (n : ℕ) → n / 2 ^ 48 % 65536 ≡ halfword (byteAt n) 3
-half-3 n = omega arith
-
--- a function of the four halfwords of a lane, as a lane
-module _ (g : ℕ → ℕ) (n : ℕ) (small : (h : ℕ) → h < 65536 → g h < 65536) where
-  halves-lane : {a b c d : ℕ} → a ≡ g (n % 65536) → b ≡ g (n / 2 ^ 16 % 65536) → c ≡ g (n / 2 ^ 32 % 65536) → d ≡ g (n / 2 ^ 48 % 65536)
-      → a + b * 65536 + c * 4294967296 + d * 281474976710656 ≡ laneOf (λ b. byteAt (g (halfword (byteAt n) (b / 2))) (b % 2))
-  halves-lane {a} {b} {c} {d} p q r s =
-      (λ t. (p ∙ ap g (half-0 n) ∙ at 0 (omega arith)) t + (q ∙ ap g (half-1 n) ∙ at 1 (omega arith)) t * 65536
-      + (r ∙ ap g (half-2 n) ∙ at 2 (omega arith)) t * 4294967296 + (s ∙ ap g (half-3 n) ∙ at 3 (omega arith)) t * 281474976710656)
-      ∙ lane-pairs (λ b. byteAt (g (halfword (byteAt n) (b / 2))) (b % 2))
-    where
-      at : (h : ℕ) → h < 4 → g (halfword (byteAt n) h) ≡ byteAt (g (halfword (byteAt n) h)) 0 + byteAt (g (halfword (byteAt n) h)) 1 * 256
-      at h l = two-bytes (g (halfword (byteAt n) h)) (small (halfword (byteAt n) h) (half-lt (byteAt n) (λ b _. byte-lt n b) h l))
-
-pub low-lane : (n r : ℕ) → {a b c d : ℕ} → a ≡ hwsl (n % 65536) r → b ≡ hwsl (n / 2 ^ 16 % 65536) r → c ≡ hwsl (n / 2 ^ 32 % 65536) r → d ≡ hwsl (n / 2 ^ 48 % 65536) r
-    → a + b * 65536 + c * 4294967296 + d * 281474976710656 ≡ laneOf (leftByte (byteAt n) r)
-unfolding leftByte
-low-lane n r p q s u = halves-lane (λ h. hwsl h r) n (λ h l. omega arith) p q s u
-
-pub carry-lane : (n r : ℕ) → r < 16 → {a b c d : ℕ} → a ≡ hwslCarry (n % 65536) r → b ≡ hwslCarry (n / 2 ^ 16 % 65536) r → c ≡ hwslCarry (n / 2 ^ 32 % 65536) r → d ≡ hwslCarry (n / 2 ^ 48 % 65536) r
-    → a + b * 65536 + c * 4294967296 + d * 281474976710656 ≡ laneOf (rightByte (byteAt n) r)
-unfolding rightByte
-carry-lane n r l p q s u = halves-lane (λ h. hwslCarry h r) n (λ h k. carry-half h r k l) p q s u
 
 -- ---- bytes
 pub byte-0 : (n : ℕ) → n % 256 ≡ byteAt n 0
@@ -153,14 +100,6 @@ even-joined l r h = ap₂ (λ (m k : ℕ). word l (2 * h) + pick (eqb m 0) (word
 
     e₂ : (h : ℕ) → (2 * h / 2 + 3) % 4 ≡ (h + 3) % 4
     e₂ h = omega arith
-
--- a lane by its bytes
-lane-same : (f g : ℕ → ℕ) → ((b : ℕ) → b < 8 → f b ≡ g b) → laneOf f ≡ laneOf g
-lane-same f g e =
-    sym (lane-pairs f)
-    ∙ (λ t. e 0 (omega arith) t + e 1 (omega arith) t * 256 + (e 2 (omega arith) t + e 3 (omega arith) t * 256) * 65536
-    + (e 4 (omega arith) t + e 5 (omega arith) t * 256) * 4294967296 + (e 6 (omega arith) t + e 7 (omega arith) t * 256) * 281474976710656)
-    ∙ lane-pairs g
 
 module _ (s : List ℕ) where
   parity-is : (x : ℕ) → x < 5 → parityBytes (cxzTable s) x ≡ tab 8 (cByte s x)

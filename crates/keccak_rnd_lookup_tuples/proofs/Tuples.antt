@@ -3,20 +3,16 @@ use mathlib.Core.Path.{_≡_, sym, ap, ap₂, subst, _∙_}
 use mathlib.Core.List.{List, [], _∷_}
 use Prim.Native.Nat.{ℕ, _+_, _-_, _*_, _/_, _%_, _≤_, _<_}
 use native.Mathlib.Omega.{arith}
-use borrow.Author.Tests.{eq-eqb, ne-eqb}
-use lib.ListN.{length}
 use Rattle.lists.specs.Tab.{word}
 use Rattle.lists.proofs.Then.{then-lt, then-ge}
-use Rattle.field.specs.Field.{p, fadd}
+use Rattle.field.specs.Field.{p}
+use Rattle.field.specs.Elements.{ElementRow}
 use Rattle.answer.specs.Refusal.{overwrite}
 use Rattle.fips202.specs.Fips.{RHO}
 use Rattle.lookup.specs.Tuple.{Tuple}
-use Rattle.lookup.specs.Call.{interactionOf}
-use Rattle.lookup.specs.declared.BusInteraction.{BusInteraction}
 use Rattle.keccak.specs.Columns.{laneColumn, byXYB}
-use Rattle.keccak_rnd.specs.Columns.{pi-left, pi-right}
-use Rattle.keccak_rnd.specs.Tuples.{rotatedCAt, cxzTuple0, cxzTuple, cxzLeftTuple, dxzTuple, thetaTuple, rotTuple, chiAndsTuple, chiTuple, iotaTuple, roundTuple}
-use Rattle.keccak_rnd_lookup_tuples.specs.Elements.{Elements}
+use Rattle.keccak_rnd.specs.Columns.{NUM-COLUMNS, pi-left, pi-right}
+use Rattle.keccak_rnd.specs.Tuples.{cxzTuple0, cxzTuple, cxzLeftTuple, dxzTuple, thetaTuple, rotTuple, chiAndsTuple, chiTuple, iotaTuple, roundTuple}
 
 module _ (row : List ℕ) (i : ℕ) where
   -- the tuple at an index, found at another way of writing it
@@ -99,26 +95,11 @@ pub bytes-words : {a b a′ b′ : ℕ} {new : List ℕ} (old : List ℕ) → a 
     → new ≡ overwrite (a′ ∷ b′ ∷ []) old
 bytes-words old p q e = e ∙ ap₂ (λ (s t : ℕ). overwrite (s ∷ t ∷ []) old) p q
 
-pub fits : {s t : Tuple} (n : ℕ) → s ≡ t → length (s .values) ≤ n → length (t .values) ≤ n
-fits n e h = subst (λ (t : Tuple). length (t .values) ≤ n) e h
-
-pub as-tuple : {s t : Tuple} {r : BusInteraction} {new : List ℕ} (old : List ℕ) → s ≡ t → r ≡ interactionOf t
-    → new ≡ overwrite (t .values) old → (r ≡ interactionOf s) × (new ≡ overwrite (s .values) old)
-as-tuple old e a w = (a ∙ ap interactionOf (sym e), w ∙ ap (λ (t : Tuple). overwrite (t .values) old) (sym e))
-
 -- ---- the words that are read
-element : (row : List ℕ) {v : ℕ} (k : ℕ) → Elements row → k < 1480 → v ≡ word row k → v < p
-element row k h l e = subst (λ (n : ℕ). n < p) (sym e) (h k l)
+element : (row : List ℕ) {v : ℕ} (k : ℕ) → ElementRow NUM-COLUMNS row → k < 1480 → v ≡ word row k → v < p
+element row k h l e = subst (λ (n : ℕ). n < p) (sym e) (h .below k l)
 
 module _ (row : List ℕ) where
-  -- an odd byte of C rotated by one, and an even one
-  pub odd-byte : (x b : ℕ) → b % 2 ≡ 1 → word row (363 + x * 8 + b) ≡ rotatedCAt row x b
-  odd-byte x b h = rw (ne-eqb (b % 2) 0 (λ e. omega arith))
-
-  pub even-byte : {v : ℕ} (x b : ℕ) → (b % 2 ≡ 1 → ⊥)
-      → v ≡ fadd (word row (363 + x * 8 + b)) (word row (403 + x * 4 + (b / 2 + 3) % 4)) → v ≡ rotatedCAt row x b
-  even-byte x b h q = rw (eq-eqb (b % 2) 0 (omega arith)) q
-
   -- the two words of a byte of π, k being the offset that was looked up
   pub left-word : {v : ℕ} (x y b k : ℕ) → k ≡ RHO ((x + 3 * y) % 5) x
       → v ≡ word row (laneColumn 663 ((x + 3 * y) % 5) x ((b + (8 - 2 * (k / 16))) % 8)) → v ≡ word row (pi-left x y b)
@@ -131,8 +112,8 @@ module _ (row : List ℕ) where
       q ∙ ap (λ (n : ℕ). word row (laneColumn 863 ((x + 3 * y) % 5) x ((b + (14 - 2 * (n / 16))) % 8))) e
 
   -- both are elements
-  pub left-element : {v : ℕ} (x y b : ℕ) → Elements row → x < 5 → v ≡ word row (pi-left x y b) → v < p
+  pub left-element : {v : ℕ} (x y b : ℕ) → ElementRow NUM-COLUMNS row → x < 5 → v ≡ word row (pi-left x y b) → v < p
   left-element x y b h l e = element row (pi-left x y b) h (omega arith) e
 
-  pub right-element : {v : ℕ} (x y b : ℕ) → Elements row → x < 5 → v ≡ word row (pi-right x y b) → v < p
+  pub right-element : {v : ℕ} (x y b : ℕ) → ElementRow NUM-COLUMNS row → x < 5 → v ≡ word row (pi-right x y b) → v < p
   right-element x y b h l e = element row (pi-right x y b) h (omega arith) e

@@ -2,49 +2,36 @@
 // and 220 on the AreBytes bus.
 use field::Fe;
 use fips202::rho_offset;
+use keccak_rnd::CHI;
+use keccak_rnd::CHI_ANDS;
+use keccak_rnd::CXZ;
+use keccak_rnd::CXZ_LEFT;
+use keccak_rnd::DXZ;
+use keccak_rnd::IOTA;
+use keccak_rnd::MU;
+use keccak_rnd::RC;
+use keccak_rnd::ROT_LEFT;
+use keccak_rnd::ROT_RIGHT;
+use keccak_rnd::START;
+use keccak_rnd::THETA;
 use lookup::Bus;
 use lookup::BusInteraction;
 use lookup::Side;
+use round_value::rotated_c;
 ghost use mathlib.Core.Path.{_≡_};
 ghost use mathlib.Core.List.{[], _∷_};
 ghost use Prim.Native.Nat.{_+_, _<_, _≤_};
 ghost use lib.ListN.{length};
 ghost use Rattle.lists.specs.Tab.{word};
+ghost use Rattle.field.specs.Elements.{ElementRow};
 ghost use Rattle.answer.specs.Refusal.{overwrite};
 ghost use Rattle.lookup.specs.Tuple.{sender};
 ghost use Rattle.lookup.specs.Call.{interactionOf};
 ghost use Rattle.lookup.specs.declared.Bus.the-variants.{ByteAlu};
 ghost use Rattle.keccak.specs.Columns.{laneColumn};
-ghost use Rattle.keccak_rnd.specs.Columns.{cxz, pi-left, pi-right};
-ghost use Rattle.keccak_rnd.specs.Tuples.{areBytes, rotatedCAt, piAt, notPiAt, cxzTuple0, cxzTuple, cxzLeftTuple, dxzTuple};
+ghost use Rattle.keccak_rnd.specs.Columns.{NUM-COLUMNS, cxz, pi-left, pi-right};
+ghost use Rattle.keccak_rnd.specs.Tuples.{areBytes, piAt, notPiAt, cxzTuple0, cxzTuple, cxzLeftTuple, dxzTuple};
 ghost use Rattle.keccak_rnd.specs.Tuples.{thetaTuple, rotTuple, chiAndsTuple, chiTuple, iotaTuple, roundTuple};
-ghost use Rattle.keccak_rnd_lookup_tuples.specs.Elements.{Elements};
-
-const START: usize = 3;
-
-const CXZ: usize = 203;
-
-const CXZ_LEFT: usize = 363;
-
-const CXZ_RIGHT: usize = 403;
-
-const DXZ: usize = 423;
-
-const THETA: usize = 463;
-
-const ROT_LEFT: usize = 663;
-
-const ROT_RIGHT: usize = 863;
-
-const CHI_ANDS: usize = 1063;
-
-const CHI: usize = 1263;
-
-const RC: usize = 1463;
-
-const IOTA: usize = 1471;
-
-const MU: usize = 1479;
 
 // The first value of a ByteAlu tuple.
 const AND: u64 = 0;
@@ -95,24 +82,10 @@ fn lane_byte(row: &[u64], base: usize, x: usize, y: usize, b: usize) -> u64
 
 // Byte b of the parity of column x after a stage.
 fn cxz_byte(row: &[u64], x: usize, stage: usize, b: usize) -> u64
-    requires { ⌜ (1480 ≤ length (now row)) × (x < 5) × (stage < 4) × (b < 8) ⌝ }
+    requires { ⌜ (NUM-COLUMNS ≤ length (now row)) × (x < 5) × (stage < 4) × (b < 8) ⌝ }
     ensures { λ r. ⌜ r ≡ word (now (row .entry)) (cxz x stage b) ⌝ }
 {
     row[CXZ + (x * 4 + stage) * 8 + b]
-}
-
-// Byte b of C[x] rotated by one: an even byte takes the carry of the halfword below it.
-fn rotated_c(row: &[u64], x: usize, b: usize) -> u64
-    requires { ⌜ (1480 ≤ length (now row)) × Elements (now row) × (x < 5) × (b < 8) ⌝ }
-    ensures { λ r. ⌜ r ≡ rotatedCAt (now (row .entry)) x b ⌝ }
-{
-    let left = row[CXZ_LEFT + x * 8 + b];
-    if b % 2 == 1 {
-        return left;
-    }
-    let carry = row[CXZ_RIGHT + x * 4 + (b / 2 + 3) % 4];
-    let sum = Fe { value: left }.add(Fe { value: carry });
-    sum.value
 }
 
 // The two words whose sum is a byte of π.
@@ -123,7 +96,7 @@ struct Parts {
 
 // pi_src_cols: π's lane (x, y) is ρ's lane (x + 3y, x), whose halfwords are still to be moved.
 fn pi_parts(row: &[u64], x: usize, y: usize, b: usize) -> Parts
-    requires { ⌜ (1480 ≤ length (now row)) × (x < 5) × (y < 5) × (b < 8) ⌝ }
+    requires { ⌜ (NUM-COLUMNS ≤ length (now row)) × (x < 5) × (y < 5) × (b < 8) ⌝ }
     ensures left { λ r. ⌜ r .left ≡ word (now (row .entry)) (pi-left x y b) ⌝ }
     ensures right { λ r. ⌜ r .right ≡ word (now (row .entry)) (pi-right x y b) ⌝ }
 {
@@ -136,7 +109,7 @@ fn pi_parts(row: &[u64], x: usize, y: usize, b: usize) -> Parts
 
 // Byte b of π's lane (x, y).
 fn pi_at(row: &[u64], x: usize, y: usize, b: usize) -> u64
-    requires { ⌜ (1480 ≤ length (now row)) × Elements (now row) × (x < 5) × (y < 5) × (b < 8) ⌝ }
+    requires { ⌜ ElementRow NUM-COLUMNS (now row) × (x < 5) × (y < 5) × (b < 8) ⌝ }
     ensures { λ r. ⌜ r ≡ piAt (now (row .entry)) x y b ⌝ }
 {
     let parts = pi_parts(row, x, y, b);
@@ -146,7 +119,7 @@ fn pi_at(row: &[u64], x: usize, y: usize, b: usize) -> u64
 
 // And 255 less that byte.
 fn not_pi_at(row: &[u64], x: usize, y: usize, b: usize) -> u64
-    requires { ⌜ (1480 ≤ length (now row)) × Elements (now row) × (x < 5) × (y < 5) × (b < 8) ⌝ }
+    requires { ⌜ ElementRow NUM-COLUMNS (now row) × (x < 5) × (y < 5) × (b < 8) ⌝ }
     ensures { λ r. ⌜ r ≡ notPiAt (now (row .entry)) x y b ⌝ }
 {
     let parts = pi_parts(row, x, y, b);
@@ -157,7 +130,7 @@ fn not_pi_at(row: &[u64], x: usize, y: usize, b: usize) -> u64
 
 // Stage 0 of the column parities.
 fn cxz_tuple_0(row: &[u64], x: usize, b: usize, out: &mut [u64]) -> BusInteraction
-    requires { ⌜ (1480 ≤ length (now row)) × (x < 5) × (b < 8) × (4 ≤ length (now out)) ⌝ }
+    requires { ⌜ (NUM-COLUMNS ≤ length (now row)) × (x < 5) × (b < 8) × (4 ≤ length (now out)) ⌝ }
     ensures answer { λ r. ⌜ r ≡ interactionOf (cxzTuple0 (now (row .entry)) x b) ⌝ }
     ensures words { λ _. ⌜ now (out .exit) ≡ overwrite (cxzTuple0 (now (row .entry)) x b .values) (now (out .entry)) ⌝ }
 {
@@ -169,7 +142,7 @@ fn cxz_tuple_0(row: &[u64], x: usize, b: usize, out: &mut [u64]) -> BusInteracti
 
 // Stage k + 1 of them.
 fn cxz_tuple(row: &[u64], x: usize, k: usize, b: usize, out: &mut [u64]) -> BusInteraction
-    requires { ⌜ (1480 ≤ length (now row)) × (x < 5) × (k < 3) × (b < 8) × (4 ≤ length (now out)) ⌝ }
+    requires { ⌜ (NUM-COLUMNS ≤ length (now row)) × (x < 5) × (k < 3) × (b < 8) × (4 ≤ length (now out)) ⌝ }
     ensures answer { λ r. ⌜ r ≡ interactionOf (cxzTuple (now (row .entry)) x k b) ⌝ }
     ensures words { λ _. ⌜ now (out .exit) ≡ overwrite (cxzTuple (now (row .entry)) x k b .values) (now (out .entry)) ⌝ }
 {
@@ -181,7 +154,7 @@ fn cxz_tuple(row: &[u64], x: usize, k: usize, b: usize, out: &mut [u64]) -> BusI
 
 // The bytes of halfword i of C[x] shifted by one.
 fn cxz_left_tuple(row: &[u64], x: usize, i: usize, out: &mut [u64]) -> BusInteraction
-    requires { ⌜ (1480 ≤ length (now row)) × (x < 5) × (i < 4) × (2 ≤ length (now out)) ⌝ }
+    requires { ⌜ (NUM-COLUMNS ≤ length (now row)) × (x < 5) × (i < 4) × (2 ≤ length (now out)) ⌝ }
     ensures answer { λ r. ⌜ r ≡ interactionOf (cxzLeftTuple (now (row .entry)) x i) ⌝ }
     ensures words { λ _. ⌜ now (out .exit) ≡ overwrite (cxzLeftTuple (now (row .entry)) x i .values) (now (out .entry)) ⌝ }
 {
@@ -191,7 +164,7 @@ fn cxz_left_tuple(row: &[u64], x: usize, i: usize, out: &mut [u64]) -> BusIntera
 
 // D[x] = C[x - 1] xor C[x + 1] rotated by one.
 fn dxz_tuple(row: &[u64], x: usize, b: usize, out: &mut [u64]) -> BusInteraction
-    requires { ⌜ (1480 ≤ length (now row)) × Elements (now row) × (x < 5) × (b < 8) × (4 ≤ length (now out)) ⌝ }
+    requires { ⌜ ElementRow NUM-COLUMNS (now row) × (x < 5) × (b < 8) × (4 ≤ length (now out)) ⌝ }
     ensures answer { λ r. ⌜ r ≡ interactionOf (dxzTuple (now (row .entry)) x b) ⌝ }
     ensures words { λ _. ⌜ now (out .exit) ≡ overwrite (dxzTuple (now (row .entry)) x b .values) (now (out .entry)) ⌝ }
 {
@@ -202,7 +175,7 @@ fn dxz_tuple(row: &[u64], x: usize, b: usize, out: &mut [u64]) -> BusInteraction
 
 // θ adds D[x] to lane (x, y).
 fn theta_tuple(row: &[u64], x: usize, y: usize, b: usize, out: &mut [u64]) -> BusInteraction
-    requires { ⌜ (1480 ≤ length (now row)) × (x < 5) × (y < 5) × (b < 8) × (4 ≤ length (now out)) ⌝ }
+    requires { ⌜ (NUM-COLUMNS ≤ length (now row)) × (x < 5) × (y < 5) × (b < 8) × (4 ≤ length (now out)) ⌝ }
     ensures answer { λ r. ⌜ r ≡ interactionOf (thetaTuple (now (row .entry)) x y b) ⌝ }
     ensures words { λ _. ⌜ now (out .exit) ≡ overwrite (thetaTuple (now (row .entry)) x y b .values) (now (out .entry)) ⌝ }
 {
@@ -213,7 +186,7 @@ fn theta_tuple(row: &[u64], x: usize, y: usize, b: usize, out: &mut [u64]) -> Bu
 
 // ρ's two parts are bytes.
 fn rot_tuple(row: &[u64], x: usize, y: usize, b: usize, out: &mut [u64]) -> BusInteraction
-    requires { ⌜ (1480 ≤ length (now row)) × (x < 5) × (y < 5) × (b < 8) × (2 ≤ length (now out)) ⌝ }
+    requires { ⌜ (NUM-COLUMNS ≤ length (now row)) × (x < 5) × (y < 5) × (b < 8) × (2 ≤ length (now out)) ⌝ }
     ensures answer { λ r. ⌜ r ≡ interactionOf (rotTuple (now (row .entry)) x y b) ⌝ }
     ensures words { λ _. ⌜ now (out .exit) ≡ overwrite (rotTuple (now (row .entry)) x y b .values) (now (out .entry)) ⌝ }
 {
@@ -224,7 +197,7 @@ fn rot_tuple(row: &[u64], x: usize, y: usize, b: usize, out: &mut [u64]) -> BusI
 
 // χ's ands.
 fn chi_ands_tuple(row: &[u64], x: usize, y: usize, b: usize, out: &mut [u64]) -> BusInteraction
-    requires { ⌜ (1480 ≤ length (now row)) × Elements (now row) × (x < 5) × (y < 5) × (b < 8) × (4 ≤ length (now out)) ⌝ }
+    requires { ⌜ ElementRow NUM-COLUMNS (now row) × (x < 5) × (y < 5) × (b < 8) × (4 ≤ length (now out)) ⌝ }
     ensures answer { λ r. ⌜ r ≡ interactionOf (chiAndsTuple (now (row .entry)) x y b) ⌝ }
     ensures words { λ _. ⌜ now (out .exit) ≡ overwrite (chiAndsTuple (now (row .entry)) x y b .values) (now (out .entry)) ⌝ }
 {
@@ -236,7 +209,7 @@ fn chi_ands_tuple(row: &[u64], x: usize, y: usize, b: usize, out: &mut [u64]) ->
 
 // χ.
 fn chi_tuple(row: &[u64], x: usize, y: usize, b: usize, out: &mut [u64]) -> BusInteraction
-    requires { ⌜ (1480 ≤ length (now row)) × Elements (now row) × (x < 5) × (y < 5) × (b < 8) × (4 ≤ length (now out)) ⌝ }
+    requires { ⌜ ElementRow NUM-COLUMNS (now row) × (x < 5) × (y < 5) × (b < 8) × (4 ≤ length (now out)) ⌝ }
     ensures answer { λ r. ⌜ r ≡ interactionOf (chiTuple (now (row .entry)) x y b) ⌝ }
     ensures words { λ _. ⌜ now (out .exit) ≡ overwrite (chiTuple (now (row .entry)) x y b .values) (now (out .entry)) ⌝ }
 {
@@ -248,7 +221,7 @@ fn chi_tuple(row: &[u64], x: usize, y: usize, b: usize, out: &mut [u64]) -> BusI
 
 // ι adds the constant to lane (0, 0).
 fn iota_tuple(row: &[u64], b: usize, out: &mut [u64]) -> BusInteraction
-    requires { ⌜ (1480 ≤ length (now row)) × (b < 8) × (4 ≤ length (now out)) ⌝ }
+    requires { ⌜ (NUM-COLUMNS ≤ length (now row)) × (b < 8) × (4 ≤ length (now out)) ⌝ }
     ensures answer { λ r. ⌜ r ≡ interactionOf (iotaTuple (now (row .entry)) b) ⌝ }
     ensures words { λ _. ⌜ now (out .exit) ≡ overwrite (iotaTuple (now (row .entry)) b .values) (now (out .entry)) ⌝ }
 {
@@ -257,7 +230,7 @@ fn iota_tuple(row: &[u64], b: usize, out: &mut [u64]) -> BusInteraction
 
 // Tuple `index` from 3 to 222: C, its shifted halfwords, D.
 fn parity_tuple(row: &[u64], index: usize, out: &mut [u64]) -> BusInteraction
-    requires { ⌜ (1480 ≤ length (now row)) × Elements (now row) × (3 ≤ index) × (index < 223) × (length (roundTuple (now row) index .values) ≤ length (now out)) ⌝ }
+    requires { ⌜ ElementRow NUM-COLUMNS (now row) × (3 ≤ index) × (index < 223) × (length (roundTuple (now row) index .values) ≤ length (now out)) ⌝ }
     ensures answer { λ r. ⌜ r ≡ interactionOf (roundTuple (now (row .entry)) index) ⌝ }
     ensures words { λ _. ⌜ now (out .exit) ≡ overwrite (roundTuple (now (row .entry)) index .values) (now (out .entry)) ⌝ }
 {
@@ -279,7 +252,7 @@ fn parity_tuple(row: &[u64], index: usize, out: &mut [u64]) -> BusInteraction
 
 // Tuple `index` from 223 to 1022: θ, ρ's parts, χ's ands and χ, of each byte of each lane.
 fn lane_tuple(row: &[u64], index: usize, out: &mut [u64]) -> BusInteraction
-    requires { ⌜ (1480 ≤ length (now row)) × Elements (now row) × (223 ≤ index) × (index < 1023) × (length (roundTuple (now row) index .values) ≤ length (now out)) ⌝ }
+    requires { ⌜ ElementRow NUM-COLUMNS (now row) × (223 ≤ index) × (index < 1023) × (length (roundTuple (now row) index .values) ≤ length (now out)) ⌝ }
     ensures answer { λ r. ⌜ r ≡ interactionOf (roundTuple (now (row .entry)) index) ⌝ }
     ensures words { λ _. ⌜ now (out .exit) ≡ overwrite (roundTuple (now (row .entry)) index .values) (now (out .entry)) ⌝ }
 {
@@ -301,7 +274,7 @@ fn lane_tuple(row: &[u64], index: usize, out: &mut [u64]) -> BusInteraction
 
 // Tuple `index` from 3 to 1030 of a row that the checks passed.
 pub fn lookup_tuple(row: &[u64], index: usize, out: &mut [u64]) -> BusInteraction
-    requires { ⌜ (1480 ≤ length (now row)) × Elements (now row) × (3 ≤ index) × (index < 1031) × (length (roundTuple (now row) index .values) ≤ length (now out)) ⌝ }
+    requires { ⌜ ElementRow NUM-COLUMNS (now row) × (3 ≤ index) × (index < 1031) × (length (roundTuple (now row) index .values) ≤ length (now out)) ⌝ }
     ensures answer { λ r. ⌜ r ≡ interactionOf (roundTuple (now (row .entry)) index) ⌝ }
     ensures words { λ _. ⌜ now (out .exit) ≡ overwrite (roundTuple (now (row .entry)) index .values) (now (out .entry)) ⌝ }
 {

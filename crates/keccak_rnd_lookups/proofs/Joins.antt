@@ -5,7 +5,7 @@ use mathlib.Core.List.{List, _∷_}
 use Prim.Native.Nat.{ℕ, zero, suc, _+_, _≤_, _<_}
 use native.Mathlib.Numerals.{add-one}
 use native.Mathlib.Omega.{arith}
-use borrow.Author.Tests.{ne-eqb, lt-ltb, le-ltb}
+use borrow.Author.Tests.{lt-ltb, le-ltb}
 use lib.Dec.{eqb, ltb}
 use lib.ListN.{getD}
 use Rattle.lists.specs.Tab.{tabFrom, tab, then, word}
@@ -27,7 +27,7 @@ use Rattle.matching.specs.Matching.{foundOn, matched}
 use Rattle.keccak_rnd.specs.Columns.{MU}
 use Rattle.keccak_rnd.specs.Tuples.{roundReceived, roundSent, rcTuple, roundTuple}
 use Rattle.scan.specs.Scan.{unmatched, afterPlace}
-use Rattle.scan.proofs.Scans.{first-then, none-off}
+use Rattle.scan.proofs.Scans.{first-then, none-off, sent-off, free-off}
 use Rattle.round_scan.specs.Parts.{rcTuples, parityTuples, stageTuples, leftTuples, dTuples, thetaTuples, rotTuples, andsTuples, chiTuples, iotaTuples, chiPart, thetaPart, parityPart}
 
 -- ---- a test of every index, in a loop
@@ -55,7 +55,7 @@ rc-off : (m r : ℕ) (f : ℕ → ℕ) → (m ≡ 0 → ⊥)
     → not (matched (sender KeccakRc m (r ∷ tab 8 f))) ≡ not (ltb r 32 && all 8 (λ b. eqb (f b) (byteAt (roundConstant r) b)))
 unfolding foundOn rcFound tab tabFrom
 rc-off m r f h =
-    ap (λ (q : Bool). not (elim q as (λ _. Bool) [ true ↦ true | false ↦ foundOn KeccakRc (r ∷ tab 8 f) ])) (ne-eqb m 0 h)
+    sent-off (sender KeccakRc m (r ∷ tab 8 f)) h
     ∙ ap (λ (q : Bool). not (ltb r 32 && q))
     (all-same 8 (λ b. eqb (getD (tab 8 f) b 0) (byteAt (roundConstant r) b)) (λ b. eqb (f b) (byteAt (roundConstant r) b))
     (λ b l. ap (λ (v : ℕ). eqb v (byteAt (roundConstant r) b)) (getD-tab 8 f b 0 l)))
@@ -103,11 +103,7 @@ join n m f g p q e = e ∙ ap₂ (λ (u v : Place). afterPlace u n v) p q ∙ fi
 -- the tuples of the bus between the tables ask for nothing
 keccak-off : (t : Tuple) → t .bus ≡ Keccak → not (matched t) ≡ false
 unfolding foundOn
-keccak-off t e = go (eqb (t .multiplicity) 0)
-  where
-    go : (b : Bool) → not (elim b as (λ _. Bool) [ true ↦ true | false ↦ foundOn (t .bus) (t .values) ]) ≡ false
-    go true = refl
-    go false = ap (λ q. not (foundOn q (t .values))) e
+keccak-off t e = free-off t (ap (λ q. foundOn q (t .values)) e)
 
 -- what the tuples of a padding row's χ ask for
 pub chi-none : (row : List ℕ) → word row MU ≡ 0 → Nowhere ≡ placeOf (firstAt (unmatched (chiPart row)) 408)

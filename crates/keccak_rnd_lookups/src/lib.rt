@@ -1,4 +1,5 @@
 // tables/keccak_rnd.rs, bus_interactions: the first lookup of a round row that finds nothing.
+use keccak_rnd::MU;
 use lists::Place;
 use rc::rc_failure;
 use round_chi_scan::ands_failure;
@@ -6,7 +7,6 @@ use round_chi_scan::chi_failure;
 use round_chi_scan::iota_failure;
 use round_chi_scan::put_pi;
 use round_chi_scan::rot_failure;
-use round_scan::columns::MU;
 use round_scan::theta::d_failure;
 use round_scan::theta::left_failure;
 use round_scan::theta::parity_failure;
@@ -16,9 +16,10 @@ use scan::or_after;
 ghost use mathlib.Core.Path.{_≡_};
 ghost use mathlib.Core.Bool.{not};
 ghost use Rattle.lists.specs.First.{firstAt, placeOf};
+ghost use Rattle.field.specs.Elements.{ElementRow};
 ghost use Rattle.matching.specs.Matching.{matched};
+ghost use Rattle.keccak_rnd.specs.Columns.{NUM-COLUMNS};
 ghost use Rattle.keccak_rnd.specs.Tuples.{NUM-TUPLES, roundTuple};
-ghost use Rattle.round_value.specs.Readable.{Readable};
 ghost use Rattle.scan.specs.Scan.{unmatched};
 ghost use Rattle.round_scan.specs.Parts.{chiPart, thetaPart, parityPart};
 
@@ -26,7 +27,7 @@ pub mod rc;
 
 // χ and ι, which active rows alone look up.
 fn chi_part(row: &[u64]) -> Place
-    requires { ⌜ Readable (now row) ⌝ }
+    requires { ⌜ ElementRow NUM-COLUMNS (now row) ⌝ }
     ensures { λ r. ⌜ r ≡ placeOf (firstAt (unmatched (chiPart (now (row .entry)))) 408) ⌝ }
 {
     if row[MU] == 0 {
@@ -43,7 +44,7 @@ fn chi_part(row: &[u64]) -> Place
 
 // From D on.
 fn theta_part(row: &[u64]) -> Place
-    requires { ⌜ Readable (now row) ⌝ }
+    requires { ⌜ ElementRow NUM-COLUMNS (now row) ⌝ }
     ensures { λ r. ⌜ r ≡ placeOf (firstAt (unmatched (thetaPart (now (row .entry)))) 848) ⌝ }
 {
     let d = d_failure(row);
@@ -57,7 +58,7 @@ fn theta_part(row: &[u64]) -> Place
 
 // From the column parities on.
 fn parity_part(row: &[u64]) -> Place
-    requires { ⌜ Readable (now row) ⌝ }
+    requires { ⌜ ElementRow NUM-COLUMNS (now row) ⌝ }
     ensures { λ r. ⌜ r ≡ placeOf (firstAt (unmatched (parityPart (now (row .entry)))) 1028) ⌝ }
 {
     let parity = parity_failure(row);
@@ -71,7 +72,7 @@ fn parity_part(row: &[u64]) -> Place
 
 // The first tuple of a row that needs a match and has none. The two of the bus between the tables need none.
 pub fn round_lookup_failure(row: &[u64]) -> Place
-    requires { ⌜ Readable (now row) ⌝ }
+    requires { ⌜ ElementRow NUM-COLUMNS (now row) ⌝ }
     ensures { λ r. ⌜ r ≡ placeOf (firstAt (λ i. not (matched (roundTuple (now (row .entry)) i))) NUM-TUPLES) ⌝ }
 {
     let constant = rc_failure(row);

@@ -1,9 +1,9 @@
 // The lookup of the round's constant.
 use fips202::round_constant;
+use keccak_rnd::MU;
+use keccak_rnd::RC;
+use keccak_rnd::ROUND;
 use lists::Place;
-use round_scan::columns::MU;
-use round_scan::columns::RC;
-use round_scan::columns::ROUND;
 ghost use mathlib.Core.Path.{_≡_};
 ghost use mathlib.Core.Bool.{not};
 ghost use Prim.Native.Nat.{_+_};
@@ -11,14 +11,15 @@ ghost use lib.Dec.{eqb};
 ghost use Rattle.lists.specs.Tab.{word};
 ghost use Rattle.lists.specs.First.{firstAt, placeOf};
 ghost use Rattle.lists.specs.Sum.{all};
+ghost use Rattle.field.specs.Elements.{ElementRow};
 ghost use Rattle.bits.specs.Bits.{byteAt};
-ghost use Rattle.round_value.specs.Readable.{Readable};
+ghost use Rattle.keccak_rnd.specs.Columns.{NUM-COLUMNS};
 ghost use Rattle.scan.specs.Scan.{unmatched};
 ghost use Rattle.round_scan.specs.Parts.{rcTuples};
 
 // The eight bytes in RC are not those of the constant.
 fn constant_off(row: &[u64], constant: u64) -> bool
-    requires { ⌜ Readable (now row) ⌝ }
+    requires { ⌜ ElementRow NUM-COLUMNS (now row) ⌝ }
     ensures { λ r. ⌜ r ≡ not (all 8 (λ b. eqb (word (now (row .entry)) (1463 + b)) (byteAt constant b))) ⌝ }
 {
     let mut b: usize = 0;
@@ -33,7 +34,7 @@ fn constant_off(row: &[u64], constant: u64) -> bool
 
 // ROUND and its constant stand in the table of constants, whose rows are 0 to 31.
 pub fn rc_failure(row: &[u64]) -> Place
-    requires { ⌜ Readable (now row) ⌝ }
+    requires { ⌜ ElementRow NUM-COLUMNS (now row) ⌝ }
     ensures { λ r. ⌜ r ≡ placeOf (firstAt (unmatched (rcTuples (now (row .entry)))) 1) ⌝ }
 {
     if row[MU] == 0 {

@@ -1,7 +1,13 @@
 // tables/keccak_rnd.rs, bus_interactions: the 1,031 tuples of a round row by index.
 use answer::Answer;
 use field::Fe;
+use keccak_rnd::CHI;
+use keccak_rnd::IOTA;
+use keccak_rnd::MU;
 use keccak_rnd::NUM_COLUMNS;
+use keccak_rnd::RC;
+use keccak_rnd::ROUND;
+use keccak_rnd::START;
 use keccak_rnd_lookup_tuples::lookup_tuple;
 use lookup::Bus;
 use lookup::BusInteraction;
@@ -15,13 +21,13 @@ ghost use lib.ListN.{length};
 ghost use lib.Seq.{sets};
 ghost use Rattle.lists.specs.Tab.{tab, word};
 ghost use Rattle.field.specs.Field.{p};
+ghost use Rattle.field.specs.Elements.{ElementRow};
 ghost use Rattle.answer.specs.Refusal.{overwrite};
 ghost use Rattle.lookup.specs.Call.{interactionOf, tupleAnswerOf, tupleAfter};
 ghost use Rattle.keccak.specs.Columns.{byXYB};
 ghost use Rattle.keccak.specs.Tuples.{keccakValues};
 ghost use Rattle.keccak_rnd.specs.Columns.{NUM-COLUMNS};
 ghost use Rattle.keccak_rnd.specs.Tuples.{NUM-TUPLES, roundTuple, rcTuple};
-ghost use Rattle.keccak_rnd_lookup_tuples.specs.Elements.{Elements};
 ghost use Rattle.keccak_rnd_tuples.specs.States.{laneWord, columnWord, stateWord};
 
 pub const NUM_TUPLES: usize = 1031;
@@ -34,18 +40,6 @@ pub const KECCAK_RC_VALUES: usize = 9;
 pub const BYTE_ALU_VALUES: usize = 4;
 
 pub const ARE_BYTES_VALUES: usize = 2;
-
-const ROUND: usize = 2;
-
-const START: usize = 3;
-
-const CHI: usize = 1263;
-
-const RC: usize = 1463;
-
-const IOTA: usize = 1471;
-
-const MU: usize = 1479;
 
 // n columns from `from` on, stored from `at` on.
 fn copy_words(row: &[u64], from: usize, n: usize, out: &mut [u64], at: usize)
@@ -187,7 +181,7 @@ fn tuple_length(index: usize) -> usize
 
 // Tuple `index` of a row that the checks passed.
 pub fn row_tuple(row: &[u64], index: usize, out: &mut [u64]) -> BusInteraction
-    requires { ⌜ (1480 ≤ length (now row)) × Elements (now row) × (index < 1031) × (length (roundTuple (now row) index .values) ≤ length (now out)) ⌝ }
+    requires { ⌜ ElementRow NUM-COLUMNS (now row) × (index < 1031) × (length (roundTuple (now row) index .values) ≤ length (now out)) ⌝ }
     ensures answer { λ r. ⌜ r ≡ interactionOf (roundTuple (now (row .entry)) index) ⌝ }
     ensures words { λ _. ⌜ now (out .exit) ≡ overwrite (roundTuple (now (row .entry)) index .values) (now (out .entry)) ⌝ }
 {

@@ -1,18 +1,14 @@
 -- The values by their parts: a turn that stores the four values of a column or lane, or the twenty of an x; and the groups
 -- one after the other. Assumes nothing.
-use mathlib.Core.Path.{_≡_, sym, ap, _∙_}
-use mathlib.Core.List.{List, _++_}
+use mathlib.Core.Path.{_≡_, ap, _∙_}
+use mathlib.Core.List.{List}
 use Prim.Native.Nat.{ℕ, _+_, _*_, _/_, _%_, _≤_, _<_}
 use native.Mathlib.Omega.{arith}
-use lib.Dec.{eqb}
-use lib.ListN.{length, set, drop, List·getD-append}
+use lib.ListN.{set}
 use lib.Seq.{sets}
-use mathlib.Core.Bool.{not}
 use Rattle.lists.specs.Tab.{tab, then, word}
-use Rattle.lists.specs.First.{when, atIndex, firstAt}
-use Rattle.lists.proofs.Laws.{Filled, filled-add, tab-same, tab-add, length-tab, getD-tab, sets-append, sets-cell, sets-front}
-use Rattle.lists.proofs.First.{first-same}
-use Rattle.lists.proofs.Then.{then-lt, then-ge, at-two, at-three}
+use Rattle.lists.proofs.Laws.{Filled, filled-block, sets-then, sets-cell}
+use Rattle.lists.proofs.Then.{at-two, at-three}
 use Rattle.templates.specs.Templates.{isBit}
 use Rattle.keccak_rnd.specs.Columns.{MU}
 use Rattle.keccak_rnd.specs.Values.{carryValue, thetaValue, rhoValue, roundValue}
@@ -20,11 +16,8 @@ use Rattle.keccak_rnd.specs.Values.{carryValue, thetaValue, rhoValue, roundValu
 -- four more
 pub filled-four : {l : List ℕ} {at n : ℕ} {row row′ : List ℕ} (x : ℕ) (f : ℕ → ℕ → ℕ) → Filled l at n (λ i. f (i / 4) (i % 4)) row (4 * x)
     → 4 * (x + 1) ≤ n → row′ ≡ sets row (at + 4 * x) (tab 4 (f x)) → Filled l at n (λ i. f (i / 4) (i % 4)) row′ (4 * (x + 1))
-filled-four x f h b e = filled-add 4 (f x) h (next x) b e (λ j l. at-two f (part j l) (rest j l))
+filled-four x f h b e = filled-block 4 x (f x) h b e (λ j l. at-two f (part j l) (rest j l))
   where
-    next : (x : ℕ) → 4 * (x + 1) ≡ 4 * x + 4
-    next x = omega arith
-
     part : (j : ℕ) → j < 4 → (4 * x + j) / 4 ≡ x
     part j l = omega arith
 
@@ -35,11 +28,8 @@ filled-four x f h b e = filled-add 4 (f x) h (next x) b e (λ j l. at-two f (par
 pub filled-twenty : {l : List ℕ} {at n : ℕ} {row row′ : List ℕ} (x : ℕ) (f : ℕ → ℕ → ℕ → ℕ) → Filled l at n (λ i. f (i / 20) (i / 4 % 5) (i % 4)) row (20 * x)
     → 20 * (x + 1) ≤ n → row′ ≡ sets row (at + 20 * x) (tab 20 (λ i. f x (i / 4) (i % 4)))
     → Filled l at n (λ i. f (i / 20) (i / 4 % 5) (i % 4)) row′ (20 * (x + 1))
-filled-twenty x f h b e = filled-add 20 (λ i. f x (i / 4) (i % 4)) h (next x) b e (λ j l. at-three f (part j l) (mid j l) (rest j l))
+filled-twenty x f h b e = filled-block 20 x (λ i. f x (i / 4) (i % 4)) h b e (λ j l. at-three f (part j l) (mid j l) (rest j l))
   where
-    next : (x : ℕ) → 20 * (x + 1) ≡ 20 * x + 20
-    next x = omega arith
-
     part : (j : ℕ) → j < 20 → (20 * x + j) / 20 ≡ x
     part j l = omega arith
 
@@ -48,18 +38,6 @@ filled-twenty x f h b e = filled-add 20 (λ i. f x (i / 4) (i % 4)) h (next x) b
 
     rest : (j : ℕ) → j < 20 → (20 * x + j) % 4 ≡ j % 4
     rest j l = omega arith
-
--- a table of two parts, one stored behind the other
-pub tab-then : (n m : ℕ) (f g : ℕ → ℕ) → tab n f ++ tab m g ≡ tab (n + m) (then n f g)
-tab-then n m f g =
-    ap (λ (r : List ℕ). r ++ tab m g) (sym (tab-same n (then n f g) f (λ k l. then-lt n k f g l)))
-    ∙ sym (tab-add n m (then n f g) g (λ k l. then-ge n k f g))
-
-pub sets-then : (l : List ℕ) (at n m : ℕ) (f g : ℕ → ℕ) → sets (sets l at (tab n f)) (at + n) (tab m g) ≡ sets l at (tab (n + m) (then n f g))
-sets-then l at n m f g =
-    ap (λ (k : ℕ). sets (sets l at (tab n f)) (at + k) (tab m g)) (sym (length-tab n f))
-    ∙ sets-append l at (tab n f) (tab m g)
-    ∙ ap (sets l at) (tab-then n m f g)
 
 -- the four groups, stored one behind the other
 module _ (row : List ℕ) where
@@ -89,14 +67,3 @@ module _ (row : List ℕ) where
       ∙ sets-then a 20 20 101 thetas (then 100 rhos last)
       ∙ ap (λ (t : List ℕ). sets t 20 (tab 121 (then 20 thetas (then 100 rhos last)))) p
       ∙ sets-then l 0 20 121 carries (then 20 thetas (then 100 rhos last))
-
--- a scan of stored values is a scan of their definition
-pub first-stored : (l vs : List ℕ) (f : ℕ → ℕ) (n : ℕ) → n ≤ length l → vs ≡ sets l 0 (tab n f)
-    → firstAt (λ k. not (eqb (word vs k) 0)) n ≡ firstAt (λ k. not (eqb (f k) 0)) n
-unfolding atIndex
-first-stored l vs f n h e =
-    first-same (atIndex (λ k. not (eqb (word vs k) 0))) (atIndex (λ k. not (eqb (f k) 0))) n
-    (λ k b. ap (λ (v : ℕ). when (not (eqb v 0)) k) (ap (λ (t : List ℕ). word t k) (e ∙ sets-front l (tab n f) n (length-tab n f) h) ∙ at k b))
-  where
-    at : (k : ℕ) → k < n → word (tab n f ++ drop n l) k ≡ f k
-    at k b = let d : k < length (tab n f) = omega (arith, length-tab n f) in List·getD-append (tab n f) (drop n l) 0 k d ∙ getD-tab n f k 0 b

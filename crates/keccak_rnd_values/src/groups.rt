@@ -8,11 +8,12 @@ ghost use Prim.Native.Nat.{_+_, _*_, _/_, _%_, _≤_, _<_};
 ghost use lib.ListN.{length};
 ghost use lib.Seq.{sets};
 ghost use Rattle.lists.specs.Tab.{tab};
+ghost use Rattle.field.specs.Elements.{ElementRow};
+ghost use Rattle.keccak_rnd.specs.Columns.{NUM-COLUMNS};
 ghost use Rattle.keccak_rnd.specs.Values.{carryValue, thetaValue, rhoValue};
-ghost use Rattle.round_value.specs.Readable.{Readable};
 
 pub fn put_carry_values(row: &[u64], out: &mut [u64])
-    requires { ⌜ Readable (now row) × (20 ≤ length (now out)) ⌝ }
+    requires { ⌜ ElementRow NUM-COLUMNS (now row) × (20 ≤ length (now out)) ⌝ }
     ensures { λ _. ⌜ now (out .exit) ≡ sets (now (out .entry)) 0 (tab 20 (λ i. carryValue (now (row .entry)) (i / 4) (i % 4))) ⌝ }
 {
     let mut i: usize = 0;
@@ -25,7 +26,7 @@ pub fn put_carry_values(row: &[u64], out: &mut [u64])
 
 // The four values of C[x], from `at`.
 fn put_theta_column(row: &[u64], x: usize, out: &mut [u64], at: usize)
-    requires { ⌜ Readable (now row) × (x < 5) × (at + 4 ≤ length (now out)) ⌝ }
+    requires { ⌜ ElementRow NUM-COLUMNS (now row) × (x < 5) × (at + 4 ≤ length (now out)) ⌝ }
     ensures { λ _. ⌜ now (out .exit) ≡ sets (now (out .entry)) at (tab 4 (thetaValue (now (row .entry)) x)) ⌝ }
 {
     let mut hw: usize = 0;
@@ -37,7 +38,7 @@ fn put_theta_column(row: &[u64], x: usize, out: &mut [u64], at: usize)
 }
 
 pub fn put_theta_values(row: &[u64], out: &mut [u64])
-    requires { ⌜ Readable (now row) × (40 ≤ length (now out)) ⌝ }
+    requires { ⌜ ElementRow NUM-COLUMNS (now row) × (40 ≤ length (now out)) ⌝ }
     ensures { λ _. ⌜ now (out .exit) ≡ sets (now (out .entry)) 20 (tab 20 (λ i. thetaValue (now (row .entry)) (i / 4) (i % 4))) ⌝ }
 {
     let mut x: usize = 0;
@@ -49,7 +50,7 @@ pub fn put_theta_values(row: &[u64], out: &mut [u64])
 
 // The four values of lane (x, y), from `at`.
 fn put_rho_lane(row: &[u64], x: usize, y: usize, out: &mut [u64], at: usize)
-    requires { ⌜ Readable (now row) × (x < 5) × (y < 5) × (at + 4 ≤ length (now out)) ⌝ }
+    requires { ⌜ ElementRow NUM-COLUMNS (now row) × (x < 5) × (y < 5) × (at + 4 ≤ length (now out)) ⌝ }
     ensures { λ _. ⌜ now (out .exit) ≡ sets (now (out .entry)) at (tab 4 (rhoValue (now (row .entry)) x y)) ⌝ }
 {
     let power = rho_offset(x, y) % 16;
@@ -63,7 +64,7 @@ fn put_rho_lane(row: &[u64], x: usize, y: usize, out: &mut [u64], at: usize)
 
 // The lanes of one x, from `at`.
 fn put_rho_lanes(row: &[u64], x: usize, out: &mut [u64], at: usize)
-    requires { ⌜ Readable (now row) × (x < 5) × (at + 20 ≤ length (now out)) ⌝ }
+    requires { ⌜ ElementRow NUM-COLUMNS (now row) × (x < 5) × (at + 20 ≤ length (now out)) ⌝ }
     ensures { λ _. ⌜ now (out .exit) ≡ sets (now (out .entry)) at (tab 20 (λ i. rhoValue (now (row .entry)) x (i / 4) (i % 4))) ⌝ }
 {
     let mut y: usize = 0;
@@ -74,7 +75,7 @@ fn put_rho_lanes(row: &[u64], x: usize, out: &mut [u64], at: usize)
 }
 
 pub fn put_rho_values(row: &[u64], out: &mut [u64])
-    requires { ⌜ Readable (now row) × (140 ≤ length (now out)) ⌝ }
+    requires { ⌜ ElementRow NUM-COLUMNS (now row) × (140 ≤ length (now out)) ⌝ }
     ensures { λ _. ⌜ now (out .exit) ≡ sets (now (out .entry)) 40 (tab 100 (λ i. rhoValue (now (row .entry)) (i / 20) (i / 4 % 5) (i % 4))) ⌝ }
 {
     let mut x: usize = 0;

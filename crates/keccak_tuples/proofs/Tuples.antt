@@ -14,7 +14,8 @@ use Rattle.lookup.specs.declared.Bus.{Bus}
 use Rattle.lookup.specs.declared.Side.{Side}
 use Rattle.lookup.specs.declared.Side.the-variants.{Sender, Receiver}
 use Rattle.lookup.specs.declared.Bus.the-variants.{Memw, Keccak, IsWh, IsHalfword}
-use Rattle.is_wh.proofs.Tuples.{pair-sent, low-sent, fits}
+use Rattle.lookup.proofs.Call.{fits}
+use Rattle.is_wh.proofs.Tuples.{pair-sent, low-sent}
 use Rattle.keccak.specs.Columns.{MU, byXYB, state-ptr}
 use Rattle.keccak.specs.Tuples.{ecallTuple, addrMemw, coreSent, coreReceived, keccakValues, pointerTuple, alignTuple, addrBytesTuple, laneMemw, coreTuple}
 

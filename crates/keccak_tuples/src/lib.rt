@@ -3,7 +3,10 @@ pub mod memw;
 pub mod state;
 
 use answer::Answer;
+use keccak::ADDR;
+use keccak::MU;
 use keccak::NUM_COLUMNS;
+use keccak::STATE_PTR;
 use lookup::Bus;
 use lookup::BusInteraction;
 use lookup::Side;
@@ -17,8 +20,7 @@ ghost use mathlib.Core.Path.{_≡_};
 ghost use mathlib.Core.List.{List};
 ghost use Prim.Native.Nat.{ℕ, _+_, _<_, _≤_};
 ghost use lib.ListN.{length};
-ghost use Rattle.lists.specs.Tab.{word};
-ghost use Rattle.field.specs.Field.{p};
+ghost use Rattle.field.specs.Elements.{ElementRow};
 ghost use Rattle.answer.specs.Refusal.{overwrite};
 ghost use Rattle.lookup.specs.Call.{interactionOf, tupleAnswerOf, tupleAfter};
 ghost use Rattle.lookup.specs.declared.Side.the-variants.{Sender};
@@ -26,12 +28,6 @@ ghost use Rattle.keccak.specs.Columns.{NUM-COLUMNS};
 ghost use Rattle.keccak.specs.Tuples.{NUM-TUPLES, ecallTuple, pointerTuple, alignTuple, addrBytesTuple, coreTuple};
 
 pub const NUM_TUPLES: usize = 84;
-
-const ADDR: usize = 2;
-
-const STATE_PTR: usize = 410;
-
-const MU: usize = 485;
 
 // 0: the call itself, received.
 fn ecall_tuple(row: &[u64], syscall: u64, out: &mut [u64]) -> BusInteraction
@@ -53,7 +49,7 @@ fn ecall_tuple(row: &[u64], syscall: u64, out: &mut [u64]) -> BusInteraction
 
 // 0 to 3.
 fn head_tuple(row: &[u64], index: usize, syscall: u64, out: &mut [u64]) -> BusInteraction
-    requires { ⌜ (NUM-COLUMNS ≤ length (now row)) × ((k : ℕ) → k < NUM-COLUMNS → word (now row) k < p) × (index < 4) × (length (coreTuple 24 syscall (now row) index .values) ≤ length (now out)) ⌝ }
+    requires { ⌜ ElementRow NUM-COLUMNS (now row) × (index < 4) × (length (coreTuple 24 syscall (now row) index .values) ≤ length (now out)) ⌝ }
     ensures answer { λ r. ⌜ r ≡ interactionOf (coreTuple 24 syscall (now (row .entry)) index) ⌝ }
     ensures words { λ _. ⌜ now (out .exit) ≡ overwrite (coreTuple 24 syscall (now (row .entry)) index .values) (now (out .entry)) ⌝ }
 {
@@ -124,7 +120,7 @@ fn addr_bytes_tuple(row: &[u64], i: usize, out: &mut [u64]) -> BusInteraction
 
 // 54 to 83.
 fn tail_tuple(row: &[u64], index: usize, syscall: u64, out: &mut [u64]) -> BusInteraction
-    requires { ⌜ (NUM-COLUMNS ≤ length (now row)) × ((k : ℕ) → k < NUM-COLUMNS → word (now row) k < p) × (54 ≤ index) × (index < NUM-TUPLES) × (length (coreTuple 24 syscall (now row) index .values) ≤ length (now out)) ⌝ }
+    requires { ⌜ ElementRow NUM-COLUMNS (now row) × (54 ≤ index) × (index < NUM-TUPLES) × (length (coreTuple 24 syscall (now row) index .values) ≤ length (now out)) ⌝ }
     ensures answer { λ r. ⌜ r ≡ interactionOf (coreTuple 24 syscall (now (row .entry)) index) ⌝ }
     ensures words { λ _. ⌜ now (out .exit) ≡ overwrite (coreTuple 24 syscall (now (row .entry)) index .values) (now (out .entry)) ⌝ }
 {
@@ -139,7 +135,7 @@ fn tail_tuple(row: &[u64], index: usize, syscall: u64, out: &mut [u64]) -> BusIn
 
 // Tuple `index` of a row that the checks passed.
 pub fn row_tuple(row: &[u64], index: usize, syscall: u64, out: &mut [u64]) -> BusInteraction
-    requires { ⌜ (NUM-COLUMNS ≤ length (now row)) × ((k : ℕ) → k < NUM-COLUMNS → word (now row) k < p) × (index < NUM-TUPLES) × (length (coreTuple 24 syscall (now row) index .values) ≤ length (now out)) ⌝ }
+    requires { ⌜ ElementRow NUM-COLUMNS (now row) × (index < NUM-TUPLES) × (length (coreTuple 24 syscall (now row) index .values) ≤ length (now out)) ⌝ }
     ensures answer { λ r. ⌜ r ≡ interactionOf (coreTuple 24 syscall (now (row .entry)) index) ⌝ }
     ensures words { λ _. ⌜ now (out .exit) ≡ overwrite (coreTuple 24 syscall (now (row .entry)) index .values) (now (out .entry)) ⌝ }
 {

@@ -1,5 +1,10 @@
 // The Memw tuples of a core row: old value (8), is_register, address (2), new value (8), timestamp (2), three flags.
 use super::state::put_columns;
+use keccak::ADDR;
+use keccak::INPUT_STATE;
+use keccak::MU;
+use keccak::OUTPUT_STATE;
+use keccak::STATE_PTR;
 use keccak_values::word_of_bytes;
 use keccak_values::word_of_halves;
 use lists::put_words;
@@ -8,25 +13,15 @@ use lookup::BusInteraction;
 use lookup::Side;
 ghost use mathlib.Core.Path.{_≡_};
 ghost use mathlib.Core.List.{[], _∷_};
-ghost use Prim.Native.Nat.{ℕ, _+_, _<_, _≤_};
+ghost use Prim.Native.Nat.{_+_, _<_, _≤_};
 ghost use lib.ListN.{length};
 ghost use lib.Seq.{sets};
-ghost use Rattle.lists.specs.Tab.{tab, word};
-ghost use Rattle.field.specs.Field.{p};
+ghost use Rattle.lists.specs.Tab.{word};
+ghost use Rattle.field.specs.Elements.{ElementRow};
 ghost use Rattle.answer.specs.Refusal.{overwrite};
 ghost use Rattle.lookup.specs.Call.{interactionOf};
 ghost use Rattle.keccak.specs.Columns.{NUM-COLUMNS};
 ghost use Rattle.keccak.specs.Tuples.{addrMemw, laneMemw};
-
-const ADDR: usize = 2;
-
-const INPUT_STATE: usize = 10;
-
-const OUTPUT_STATE: usize = 210;
-
-const STATE_PTR: usize = 410;
-
-const MU: usize = 485;
 
 // A register's value, from `at`: two words and six zeros.
 fn put_register(out: &mut [u64], at: usize, lo: u64, hi: u64)
@@ -61,7 +56,7 @@ fn put_access(out: &mut [u64], row: &[u64], write2: u64, write8: u64)
 
 // 1: register x10 is read; it holds the address.
 pub fn addr_memw(row: &[u64], out: &mut [u64]) -> BusInteraction
-    requires { ⌜ (NUM-COLUMNS ≤ length (now row)) × ((k : ℕ) → k < NUM-COLUMNS → word (now row) k < p) × (24 ≤ length (now out)) ⌝ }
+    requires { ⌜ ElementRow NUM-COLUMNS (now row) × (24 ≤ length (now out)) ⌝ }
     ensures answer { λ r. ⌜ r ≡ interactionOf (addrMemw (now (row .entry))) ⌝ }
     ensures words { λ _. ⌜ now (out .exit) ≡ overwrite (addrMemw (now (row .entry)) .values) (now (out .entry)) ⌝ }
 {
@@ -81,7 +76,7 @@ pub fn addr_memw(row: &[u64], out: &mut [u64]) -> BusInteraction
 
 // 59 to 83: lane i is INPUT's before and OUTPUT's after, at the address that pointer i holds.
 pub fn lane_memw(row: &[u64], i: usize, out: &mut [u64]) -> BusInteraction
-    requires { ⌜ (NUM-COLUMNS ≤ length (now row)) × ((k : ℕ) → k < NUM-COLUMNS → word (now row) k < p) × (i < 25) × (24 ≤ length (now out)) ⌝ }
+    requires { ⌜ ElementRow NUM-COLUMNS (now row) × (i < 25) × (24 ≤ length (now out)) ⌝ }
     ensures answer { λ r. ⌜ r ≡ interactionOf (laneMemw (now (row .entry)) i) ⌝ }
     ensures words { λ _. ⌜ now (out .exit) ≡ overwrite (laneMemw (now (row .entry)) i .values) (now (out .entry)) ⌝ }
 {

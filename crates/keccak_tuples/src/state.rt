@@ -1,4 +1,7 @@
 // The Keccak tuples of a core row: timestamp, round and the 200 words of a state, x outermost.
+use keccak::INPUT_STATE;
+use keccak::MU;
+use keccak::OUTPUT_STATE;
 use lookup::Bus;
 use lookup::BusInteraction;
 use lookup::Side;
@@ -14,12 +17,6 @@ ghost use Rattle.lookup.specs.declared.Bus.the-variants.{Keccak};
 ghost use Rattle.keccak.specs.Columns.{NUM-COLUMNS, MU, byXYB, laneColumn};
 ghost use Rattle.keccak.specs.Tuples.{keccakValues, coreSent, coreReceived};
 ghost use Rattle.keccak_tuples.specs.Parts.{sheetWord};
-
-const INPUT_STATE: usize = 10;
-
-const OUTPUT_STATE: usize = 210;
-
-const MU: usize = 485;
 
 // n columns from `from` on, stored from `at`.
 pub fn put_columns(out: &mut [u64], at: usize, row: &[u64], from: usize, n: usize)

@@ -13,7 +13,7 @@ use Rattle.lists.proofs.Then.{then-lt, then-past, at-two}
 use Rattle.field.specs.Field.{p, fadd, fsub, fmul, INV-SHIFT-32}
 use Rattle.field.proofs.Field.{mod-p}
 use Rattle.templates.specs.Templates.{constant, from-dword-bl, from-dword-whh, carry0, add-pair-carry-hi, emit-add-pair, add-terms-expr, add-operand-lo, add-operand-hi, isBit, isBitIf}
-use Rattle.templates.proofs.Operand.{constant-lo, constant-hi}
+use Rattle.templates.proofs.Operand.{constant-lo, constant-hi, whh-hi}
 use Rattle.keccak.specs.Columns.{ADDR, MU, addr, state-ptr}
 use Rattle.keccak.specs.Values.{pointerValue, topValue, coreValue, wordOfBytes, wordOfHalves}
 use Rattle.keccak_values.specs.Carries.{lowCarry, highCarry}
@@ -45,14 +45,6 @@ module _ (row : List ℕ) where
         ∙ ap (λ (x : ℕ). fadd x 0) (no-term (wordOfHalves row k) (mod-p _))
         ∙ no-term (wordOfHalves row k) (mod-p _)
 
-    halves-hi : word row (k + 2) < p → add-operand-hi row (from-dword-whh k) ≡ word row (k + 2)
-    unfolding add-terms-expr
-    halves-hi h =
-        ap (λ (x : ℕ). fadd (fadd (fadd x 0) 0) 0) (first-term (word row (k + 2)) h)
-        ∙ ap (λ (x : ℕ). fadd (fadd x 0) 0) (no-term (word row (k + 2)) h)
-        ∙ ap (λ (x : ℕ). fadd x 0) (no-term (word row (k + 2)) h)
-        ∙ no-term (word row (k + 2)) h
-
   module _ (below : (k : ℕ) → k < 486 → word row k < p) where
     low-is : (i : ℕ) → i < 25 → carry0 row (from-dword-bl ADDR) (constant (pos (i * 8))) (from-dword-whh (state-ptr i 0)) ≡ lowCarry row i
     unfolding carry0 lowCarry
@@ -72,7 +64,7 @@ module _ (row : List ℕ) where
     high-is i h =
         ap₂ (λ (a b : ℕ). fmul (fsub a b) INV-SHIFT-32)
         (ap₂ fadd (ap₂ fadd (bytes-hi (below 6 (omega arith))) (constant-hi row (pos (i * 8))) ∙ no-term (wordOfBytes row (addr 4)) (mod-p _)) (low-is i h))
-        (halves-hi (state-ptr i 0) (below (state-ptr i 0 + 2) (omega arith)) ∙ ap (word row) (limb i))
+        (whh-hi row (state-ptr i 0) (below (state-ptr i 0 + 2) (omega arith)) ∙ ap (word row) (limb i))
       where
         limb : (i : ℕ) → state-ptr i 0 + 2 ≡ state-ptr i 2
         limb i = omega arith

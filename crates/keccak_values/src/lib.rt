@@ -6,29 +6,23 @@ use add_template::is_bit_if;
 use answer::Answer;
 use evaluation::check_values;
 use field::Fe;
+use keccak::ADDR;
+use keccak::MU;
 use keccak::NUM_COLUMNS;
-use lists::Place;
+use keccak::STATE_PTR;
 ghost use mathlib.Core.Path.{_≡_};
-ghost use mathlib.Core.Bool.{not};
-ghost use Prim.Native.Nat.{ℕ, _+_, _*_, _<_, _≤_};
-ghost use lib.Dec.{eqb};
+ghost use Prim.Native.Nat.{_+_, _*_, _<_, _≤_};
 ghost use lib.ListN.{length};
 ghost use lib.Seq.{sets};
 ghost use Rattle.lists.specs.Tab.{tab, word};
-ghost use Rattle.lists.specs.First.{firstAt, placeOf};
 ghost use Rattle.field.specs.Field.{p, fmul, fsub, INV-SHIFT-32};
+ghost use Rattle.field.specs.Elements.{ElementRow};
 ghost use Rattle.evaluation.specs.Call.{valuesAnswer, valuesAfter};
 ghost use Rattle.keccak.specs.Columns.{ADDR, addr, MU, NUM-COLUMNS};
 ghost use Rattle.keccak.specs.Values.{NUM-VALUES, wordOfBytes, wordOfHalves, topValue, coreValue};
-ghost use Rattle.keccak_values.specs.Carries.{lowCarry, highCarry, valueFails};
+ghost use Rattle.keccak_values.specs.Carries.{lowCarry, highCarry};
 
 pub const NUM_VALUES: usize = 52;
-
-const ADDR: usize = 2;
-
-const STATE_PTR: usize = 410;
-
-const MU: usize = 485;
 
 // Two numbers: the carries of a lane, or its two values.
 struct Pair {
@@ -79,7 +73,7 @@ pub fn word_of_bytes(row: &[u64], at: usize) -> Fe
 
 // The carries of lane i, addr + 8i = state_ptr[i], out of the low and the high words. `lo` and `hi` are addr's.
 fn carries(row: &[u64], i: usize, lo: Fe, hi: Fe) -> Pair
-    requires { ⌜ (NUM-COLUMNS ≤ length (now row)) × ((k : ℕ) → k < NUM-COLUMNS → word (now row) k < p) × (i < 25) × (lo .value ≡ wordOfBytes (now row) ADDR) × (hi .value ≡ wordOfBytes (now row) (addr 4)) ⌝ }
+    requires { ⌜ ElementRow NUM-COLUMNS (now row) × (i < 25) × (lo .value ≡ wordOfBytes (now row) ADDR) × (hi .value ≡ wordOfBytes (now row) (addr 4)) ⌝ }
     ensures low { λ r. ⌜ (r .low ≡ lowCarry (now (row .entry)) i) × (r .low < p) ⌝ }
     ensures high { λ r. ⌜ (r .high ≡ highCarry (now (row .entry)) i) × (r .high < p) ⌝ }
 {
@@ -97,7 +91,7 @@ fn carries(row: &[u64], i: usize, lo: Fe, hi: Fe) -> Pair
 
 // The two values of lane i: MU times 'its carries are bits'.
 fn lane_values(row: &[u64], i: usize, lo: Fe, hi: Fe) -> Pair
-    requires { ⌜ (NUM-COLUMNS ≤ length (now row)) × ((k : ℕ) → k < NUM-COLUMNS → word (now row) k < p) × (i < 25) × (lo .value ≡ wordOfBytes (now row) ADDR) × (hi .value ≡ wordOfBytes (now row) (addr 4)) ⌝ }
+    requires { ⌜ ElementRow NUM-COLUMNS (now row) × (i < 25) × (lo .value ≡ wordOfBytes (now row) ADDR) × (hi .value ≡ wordOfBytes (now row) (addr 4)) ⌝ }
     ensures { λ r. ⌜ (r .low ≡ coreValue (now (row .entry)) (2 * i)) × (r .high ≡ coreValue (now (row .entry)) (2 * i + 1)) ⌝ }
 {
     let mu = row[MU];
@@ -110,7 +104,7 @@ fn lane_values(row: &[u64], i: usize, lo: Fe, hi: Fe) -> Pair
 
 // Value 50: MU times the high carry of the last lane.
 fn top_value(row: &[u64], lo: Fe, hi: Fe) -> u64
-    requires { ⌜ (NUM-COLUMNS ≤ length (now row)) × ((k : ℕ) → k < NUM-COLUMNS → word (now row) k < p) × (lo .value ≡ wordOfBytes (now row) ADDR) × (hi .value ≡ wordOfBytes (now row) (addr 4)) ⌝ }
+    requires { ⌜ ElementRow NUM-COLUMNS (now row) × (lo .value ≡ wordOfBytes (now row) ADDR) × (hi .value ≡ wordOfBytes (now row) (addr 4)) ⌝ }
     ensures { λ r. ⌜ r ≡ topValue (now (row .entry)) ⌝ }
 {
     let c = carries(row, 24, lo, hi);
@@ -119,7 +113,7 @@ fn top_value(row: &[u64], lo: Fe, hi: Fe) -> u64
 
 // The values of the 25 lanes.
 fn put_lane_values(row: &[u64], lo: Fe, hi: Fe, out: &mut [u64])
-    requires { ⌜ (NUM-COLUMNS ≤ length (now row)) × ((k : ℕ) → k < NUM-COLUMNS → word (now row) k < p) × (50 ≤ length (now out)) × (lo .value ≡ wordOfBytes (now row) ADDR) × (hi .value ≡ wordOfBytes (now row) (addr 4)) ⌝ }
+    requires { ⌜ ElementRow NUM-COLUMNS (now row) × (50 ≤ length (now out)) × (lo .value ≡ wordOfBytes (now row) ADDR) × (hi .value ≡ wordOfBytes (now row) (addr 4)) ⌝ }
     ensures { λ _. ⌜ now (out .exit) ≡ sets (now (out .entry)) 0 (tab 50 (coreValue (now (row .entry)))) ⌝ }
 {
     let mut i: usize = 0;
@@ -133,7 +127,7 @@ fn put_lane_values(row: &[u64], lo: Fe, hi: Fe, out: &mut [u64])
 
 // The 52 values of a row that the checks passed.
 pub fn put_core_values(row: &[u64], out: &mut [u64])
-    requires { ⌜ (NUM-COLUMNS ≤ length (now row)) × ((k : ℕ) → k < NUM-COLUMNS → word (now row) k < p) × (NUM-VALUES ≤ length (now out)) ⌝ }
+    requires { ⌜ ElementRow NUM-COLUMNS (now row) × (NUM-VALUES ≤ length (now out)) ⌝ }
     ensures { λ _. ⌜ now (out .exit) ≡ sets (now (out .entry)) 0 (tab NUM-VALUES (coreValue (now (row .entry)))) ⌝ }
 {
     let lo = word_of_bytes(row, ADDR);
@@ -156,42 +150,4 @@ pub fn core_values(row: &[u64], out: &mut [u64]) -> Answer
     }
     put_core_values(row, out);
     Answer::Done
-}
-
-// The first of the 50 values of the lanes that is not 0.
-fn first_lane_failure(row: &[u64], lo: Fe, hi: Fe) -> Place
-    requires { ⌜ (NUM-COLUMNS ≤ length (now row)) × ((k : ℕ) → k < NUM-COLUMNS → word (now row) k < p) × (lo .value ≡ wordOfBytes (now row) ADDR) × (hi .value ≡ wordOfBytes (now row) (addr 4)) ⌝ }
-    ensures { λ r. ⌜ r ≡ placeOf (firstAt (valueFails (now (row .entry))) 50) ⌝ }
-{
-    let mut i: usize = 0;
-    while i < 25 {
-        let v = lane_values(row, i, lo, hi);
-        if v.low != 0 {
-            return Place::At(2 * i);
-        }
-        if v.high != 0 {
-            return Place::At(2 * i + 1);
-        }
-        i += 1;
-    }
-    Place::Nowhere
-}
-
-// The first value of a row that is not 0.
-pub fn core_value_failure(row: &[u64]) -> Place
-    requires { ⌜ (NUM-COLUMNS ≤ length (now row)) × ((k : ℕ) → k < NUM-COLUMNS → word (now row) k < p) ⌝ }
-    ensures { λ r. ⌜ r ≡ placeOf (firstAt (λ i. not (eqb (coreValue (now (row .entry)) i) 0)) NUM-VALUES) ⌝ }
-{
-    let lo = word_of_bytes(row, ADDR);
-    let hi = word_of_bytes(row, ADDR + 4);
-    if let Place::At(k) = first_lane_failure(row, lo, hi) {
-        return Place::At(k);
-    }
-    if top_value(row, lo, hi) != 0 {
-        return Place::At(50);
-    }
-    if is_bit(row[MU]) != 0 {
-        return Place::At(51);
-    }
-    Place::Nowhere
 }

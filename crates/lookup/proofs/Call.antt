@@ -1,7 +1,7 @@
 -- Laws of a call for a tuple: what an accepted call knows of its arguments, and the two clauses of its contract.
 -- Assumes nothing.
 use Prim.Native.Nat.{ℕ, _≤_, _<_}
-use mathlib.Core.Path.{_≡_}
+use mathlib.Core.Path.{_≡_, sym, ap, subst, _∙_}
 use mathlib.Core.Option.{Option, none, some}
 use mathlib.Core.List.{List}
 use borrow.Author.Tests.{leb-false, ltb-false}
@@ -10,10 +10,11 @@ use Rattle.lists.specs.Tab.{word}
 use Rattle.lists.proofs.First.{at-clear}
 use Rattle.field.specs.Field.{p}
 use Rattle.field.specs.Elements.{notElement, firstNotElement}
-use Rattle.answer.specs.Refusal.{afterwards}
+use Rattle.answer.specs.Refusal.{overwrite, afterwards}
 use Rattle.answer.specs.declared.Refusal.{Refusal}
 use Rattle.answer.proofs.Laws.{passed-if, passed-at, kept, written}
 use Rattle.lookup.specs.Tuple.{Tuple}
+use Rattle.lookup.specs.declared.BusInteraction.{BusInteraction}
 use Rattle.lookup.specs.declared.TupleAnswer.the-variants.{Is, Refused}
 use Rattle.lookup.specs.Call.{interactionOf, sizedRefusal, tupleAnswer}
 
@@ -52,3 +53,11 @@ pub tuple-given : {o : Option Refusal} {new out : List ℕ} (t : Tuple) (old : L
     → (Is (interactionOf t) ≡ tupleAnswer t o) × (out ≡ afterwards o new old)
 unfolding tupleAnswer
 tuple-given t old e q = (rw e, written old e q)
+
+-- ---- a tuple by its index: the one that stands there
+pub fits : {s t : Tuple} (n : ℕ) → s ≡ t → length (s .values) ≤ n → length (t .values) ≤ n
+fits n e h = subst (λ (t : Tuple). length (t .values) ≤ n) e h
+
+pub as-tuple : {s t : Tuple} {r : BusInteraction} {new : List ℕ} (old : List ℕ) → s ≡ t → r ≡ interactionOf t
+    → new ≡ overwrite (t .values) old → (r ≡ interactionOf s) × (new ≡ overwrite (s .values) old)
+as-tuple old e a w = (a ∙ ap interactionOf (sym e), w ∙ ap (λ (t : Tuple). overwrite (t .values) old) (sym e))

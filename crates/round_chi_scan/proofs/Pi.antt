@@ -3,23 +3,22 @@ use mathlib.Core.Path.{_≡_, sym, ap, ap₂, _∙_}
 use mathlib.Core.Bool.{Bool}
 use mathlib.Core.List.{List}
 use Prim.Native.Nat.{ℕ, _+_, _-_, _*_, _/_, _%_, _≤_, _<_}
-use native.Mathlib.Nat.{mod-add-mod, add-mod-right}
 use native.Mathlib.Omega.{arith}
 use lib.ListN.{length}
 use lib.Seq.{sets}
 use Rattle.lists.specs.Tab.{tab, word}
-use Rattle.lists.proofs.Then.{by-le}
+use Rattle.lists.proofs.Laws.{stored-at, stored-long}
 use Rattle.field.specs.Field.{p, fadd, fsub}
-use Rattle.field.proofs.Field.{mod-p, fadd-wrap, fadd-small}
+use Rattle.field.specs.Elements.{ElementRow}
+use Rattle.field.proofs.Field.{mod-p, fsub-sum}
 use Rattle.fips202.specs.Fips.{RHO}
 use Rattle.keccak.specs.Columns.{byXYB}
-use Rattle.keccak_rnd.specs.Columns.{MU}
+use Rattle.keccak_rnd.specs.Columns.{NUM-COLUMNS, MU}
 use Rattle.keccak_rnd.specs.Tuples.{piAt, chiAndsTuple, chiTuple}
-use Rattle.round_value.specs.Readable.{Readable}
 use Rattle.scan.specs.Scan.{unmatched, aluOff}
 use Rattle.scan.proofs.Scans.{alu-off}
 use Rattle.round_scan.specs.Parts.{andsTuples, chiTuples, PiOf}
-use Rattle.round_scan.proofs.Tests.{test, xyb, stored-at, stored-long}
+use Rattle.round_scan.proofs.Tests.{test, xyb}
 
 pub pi-of : (row l vs : List ℕ) → 200 ≤ length l → vs ≡ sets l 0 (tab 200 (byXYB (piAt row))) → PiOf row vs
 pi-of row l vs h e = record { long = stored-long l vs (tab 200 (byXYB (piAt row))) 200 h e; is = λ k b. stored-at l vs (byXYB (piAt row)) 200 k h e b }
@@ -46,24 +45,10 @@ pi-word row pi r x y z hx hy hz =
 pub pi-below : (row pi : List ℕ) → PiOf row pi → (k : ℕ) → k < 200 → word pi k < p
 pi-below row pi r k h = let e = r .is k h in rw e (mod-p _)
 
--- 255 - l - r is 255 less the sum
-not-sum : (l r : ℕ) → l < p → r < p → fsub (fsub 255 l) r ≡ fsub 255 (fadd l r)
-not-sum l r hl hr =
-    mod-add-mod (255 + (p - l)) p (p - r)
-    ∙ by-le p (l + r)
-    (λ h. ap (λ (n : ℕ). n % p) (over l r hl hr h) ∙ ap (λ (n : ℕ). fsub 255 n) (sym (fadd-wrap l r hl hr h)))
-    (λ h. ap (λ (n : ℕ). n % p) (under l r h) ∙ add-mod-right (255 + (p - (l + r))) p ∙ ap (λ (n : ℕ). fsub 255 n) (sym (fadd-small l r h)))
-  where
-    over : (l r : ℕ) → l < p → r < p → p ≤ l + r → 255 + (p - l) + (p - r) ≡ 255 + (p - (l + r - p))
-    over l r hl hr h = omega arith
-
-    under : (l r : ℕ) → l + r < p → 255 + (p - l) + (p - r) ≡ 255 + (p - (l + r)) + p
-    under l r h = omega arith
-
 pub of-not : {r : Bool} {n m : ℕ} (b c : ℕ) → r ≡ aluOff 0 n b c → n ≡ m → r ≡ aluOff 0 m b c
 of-not b c e d = e ∙ ap (λ (w : ℕ). aluOff 0 w b c) d
 
-pub ands-same : (row pi : List ℕ) → Readable row → (word row MU ≡ 0 → ⊥) → PiOf row pi → (l z : ℕ) → l < 25 → z < 8
+pub ands-same : (row pi : List ℕ) → ElementRow NUM-COLUMNS row → (word row MU ≡ 0 → ⊥) → PiOf row pi → (l z : ℕ) → l < 25 → z < 8
     → unmatched (andsTuples row) (8 * l + z)
     ≡ aluOff 0 (fsub 255 (word pi (8 * ((l / 5 + 1) % 5 * 5 + l % 5) + z))) (word pi (8 * ((l / 5 + 2) % 5 * 5 + l % 5) + z)) (word row (1063 + (l / 5 + 5 * (l % 5)) * 8 + z))
 unfolding unmatched andsTuples
@@ -71,7 +56,7 @@ ands-same row pi ok active r l z h b =
     test (xyb (chiAndsTuple row) l z b)
     ∙ alu-off (word row MU) 0 _ _ _ active (omega arith)
     ∙ ap₂ (λ (u v : ℕ). aluOff 0 u v (word row (1063 + (l / 5 + 5 * (l % 5)) * 8 + z)))
-    (not-sum _ _ (ok .below _ (omega arith)) (ok .below _ (omega arith)) ∙ ap (fsub 255) (sym (pi-word row pi r ((l / 5 + 1) % 5) (l % 5) z (omega arith) (omega arith) b)))
+    (fsub-sum 255 _ _ (ok .below _ (omega arith)) (ok .below _ (omega arith)) ∙ ap (fsub 255) (sym (pi-word row pi r ((l / 5 + 1) % 5) (l % 5) z (omega arith) (omega arith) b)))
     (sym (pi-word row pi r ((l / 5 + 2) % 5) (l % 5) z (omega arith) (omega arith) b))
 
 pub chi-same : (row pi : List ℕ) → (word row MU ≡ 0 → ⊥) → PiOf row pi → (l z : ℕ) → l < 25 → z < 8

@@ -1,13 +1,13 @@
 // The lookups of a round row from ρ on (tables/keccak_rnd.rs, bus_interactions), group by group: the first that finds nothing.
 use field::Fe;
 use fips202::rho_offset;
+use keccak_rnd::CHI;
+use keccak_rnd::CHI_ANDS;
+use keccak_rnd::IOTA;
+use keccak_rnd::RC;
+use keccak_rnd::ROT_LEFT;
+use keccak_rnd::ROT_RIGHT;
 use lists::Place;
-use round_scan::columns::CHI;
-use round_scan::columns::CHI_ANDS;
-use round_scan::columns::IOTA;
-use round_scan::columns::RC;
-use round_scan::columns::ROT_LEFT;
-use round_scan::columns::ROT_RIGHT;
 use scan::and_off;
 use scan::bytes_lane;
 use scan::xor_lane;
@@ -18,16 +18,16 @@ ghost use lib.Seq.{sets};
 ghost use Rattle.lists.specs.Tab.{tab, word};
 ghost use Rattle.lists.specs.First.{firstAt, placeOf};
 ghost use Rattle.field.specs.Field.{p, fadd, fsub};
+ghost use Rattle.field.specs.Elements.{ElementRow};
 ghost use Rattle.keccak.specs.Columns.{byXYB};
-ghost use Rattle.keccak_rnd.specs.Columns.{MU};
+ghost use Rattle.keccak_rnd.specs.Columns.{NUM-COLUMNS, MU};
 ghost use Rattle.keccak_rnd.specs.Tuples.{piAt};
-ghost use Rattle.round_value.specs.Readable.{Readable};
 ghost use Rattle.scan.specs.Scan.{unmatched, aluOff};
 ghost use Rattle.round_scan.specs.Parts.{rotTuples, andsTuples, chiTuples, iotaTuples, PiOf};
 
 // ρ's shifted halfwords and carries are bytes, in padding rows too: lane l is lane (l / 5, l % 5).
 pub fn rot_failure(row: &[u64]) -> Place
-    requires { ⌜ Readable (now row) ⌝ }
+    requires { ⌜ ElementRow NUM-COLUMNS (now row) ⌝ }
     ensures { λ r. ⌜ r ≡ placeOf (firstAt (unmatched (rotTuples (now (row .entry)))) 200) ⌝ }
 {
     let mut l: usize = 0;
@@ -53,7 +53,7 @@ fn put_pi_lane(
     out: &mut [u64],
     at: usize,
 )
-    requires { ⌜ Readable (now row) × (left + 8 ≤ 1480) × (right + 8 ≤ 1480) × («turn_left» ≤ 8) × («turn_right» ≤ 14) × (at + 8 ≤ length (now out)) ⌝ }
+    requires { ⌜ ElementRow NUM-COLUMNS (now row) × (left + 8 ≤ 1480) × (right + 8 ≤ 1480) × («turn_left» ≤ 8) × («turn_right» ≤ 14) × (at + 8 ≤ length (now out)) ⌝ }
     ensures { λ _. ⌜ now (out .exit) ≡ sets (now (out .entry)) at (tab 8 (λ z. fadd (word (now (row .entry)) (left + (z + «turn_left») % 8)) (word (now (row .entry)) (right + (z + «turn_right») % 8)))) ⌝ }
 {
     let mut z: usize = 0;
@@ -72,7 +72,7 @@ fn put_pi_lane(
 
 // The bytes of π, x outermost: lane (x, y) comes from ρ's lane (x + 3y, x).
 pub fn put_pi(row: &[u64], out: &mut [u64])
-    requires { ⌜ Readable (now row) × (200 ≤ length (now out)) ⌝ }
+    requires { ⌜ ElementRow NUM-COLUMNS (now row) × (200 ≤ length (now out)) ⌝ }
     ensures { λ _. ⌜ now (out .exit) ≡ sets (now (out .entry)) 0 (tab 200 (byXYB (piAt (now (row .entry))))) ⌝ }
 {
     let mut l: usize = 0;
@@ -121,7 +121,7 @@ fn ands_lane(pi: &[u64], a: usize, b: usize, row: &[u64], c: usize) -> Place
 
 // χ's ands of an active row: not (x + 1, y), and (x + 2, y).
 pub fn ands_failure(row: &[u64], pi: &[u64]) -> Place
-    requires { ⌜ Readable (now row) × PiOf (now row) (now pi) × (word (now row) MU ≡ 0 → ⊥) ⌝ }
+    requires { ⌜ ElementRow NUM-COLUMNS (now row) × PiOf (now row) (now pi) × (word (now row) MU ≡ 0 → ⊥) ⌝ }
     ensures { λ r. ⌜ r ≡ placeOf (firstAt (unmatched (andsTuples (now (row .entry)))) 200) ⌝ }
 {
     let mut l: usize = 0;
@@ -145,7 +145,7 @@ pub fn ands_failure(row: &[u64], pi: &[u64]) -> Place
 
 // The state after χ, of an active row.
 pub fn chi_failure(row: &[u64], pi: &[u64]) -> Place
-    requires { ⌜ Readable (now row) × PiOf (now row) (now pi) × (word (now row) MU ≡ 0 → ⊥) ⌝ }
+    requires { ⌜ ElementRow NUM-COLUMNS (now row) × PiOf (now row) (now pi) × (word (now row) MU ≡ 0 → ⊥) ⌝ }
     ensures { λ r. ⌜ r ≡ placeOf (firstAt (unmatched (chiTuples (now (row .entry)))) 200) ⌝ }
 {
     let mut l: usize = 0;
@@ -170,7 +170,7 @@ pub fn chi_failure(row: &[u64], pi: &[u64]) -> Place
 
 // ι of an active row.
 pub fn iota_failure(row: &[u64]) -> Place
-    requires { ⌜ Readable (now row) × (word (now row) MU ≡ 0 → ⊥) ⌝ }
+    requires { ⌜ ElementRow NUM-COLUMNS (now row) × (word (now row) MU ≡ 0 → ⊥) ⌝ }
     ensures { λ r. ⌜ r ≡ placeOf (firstAt (unmatched (iotaTuples (now (row .entry)))) 8) ⌝ }
 {
     xor_lane(row, CHI, row, RC, row, IOTA)

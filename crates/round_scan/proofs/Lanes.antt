@@ -4,10 +4,10 @@ use mathlib.Core.Bool.{Bool}
 use mathlib.Core.Option.{none}
 use Prim.Native.Nat.{ℕ, _+_, _*_, _≤_, _<_}
 use native.Mathlib.Omega.{arith}
-use Rattle.lists.specs.First.{when, atIndex, firstAt, placeOf}
+use Rattle.lists.specs.First.{atIndex, firstAt, placeOf}
 use Rattle.lists.specs.declared.Place.{Place}
 use Rattle.lists.specs.declared.Place.the-variants.{At, Nowhere}
-use Rattle.lists.proofs.First.{first-start, first-same, at-found, at-none, place-at, place-nowhere}
+use Rattle.lists.proofs.First.{first-start, at-found, at-none, place-at, place-nowhere}
 use Rattle.scan.proofs.Scans.{block-clear, block-hit}
 
 module _ (t s : ℕ → Bool) (x : ℕ) (same : (z : ℕ) → z < 8 → t (8 * x + z) ≡ s z) (before : firstAt t (8 * x) ≡ none) where
@@ -28,8 +28,3 @@ lane-end t x n l g e = sym (ap placeOf (at-none t (8 * x) (8 * n) (omega arith) 
 
 pub lane-lt : {q : Place} {z : ℕ} (s : ℕ → Bool) → q ≡ placeOf (firstAt s 8) → q ≡ At z → z < 8
 lane-lt {z = z} s e d = at-found s 8 z (place-at (firstAt s 8) (sym d ∙ e)) .0
-
--- two tests that agree
-pub first-agree : (t s : ℕ → Bool) (n : ℕ) → ((k : ℕ) → k < n → t k ≡ s k) → firstAt t n ≡ firstAt s n
-unfolding atIndex
-first-agree t s n h = first-same (atIndex t) (atIndex s) n (λ k l. ap (λ (b : Bool). when b k) (h k l))

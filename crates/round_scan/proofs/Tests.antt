@@ -1,18 +1,15 @@
 -- What a scan tests of a round row's tuples: each group's, lane by lane, by the columns or the bytes computed first.
 -- Assumes nothing.
 use mathlib.Core.Path.{_≡_, sym, ap, ap₂, _∙_}
-use mathlib.Core.Bool.{Bool, not}
+use mathlib.Core.Bool.{not}
 use mathlib.Core.List.{List}
 use Prim.Native.Nat.{ℕ, _+_, _*_, _/_, _%_, _≤_, _<_}
-use native.Mathlib.Nat.{zero-add}
 use native.Mathlib.Omega.{arith}
-use lib.ListN.{length, drop, List·getD-append}
-use lib.Seq.{sets, length-sets}
-use borrow.Author.Tests.{eq-eqb, ne-eqb}
-use Rattle.lists.specs.Tab.{pick, tab, word}
-use Rattle.lists.proofs.Laws.{Filled, filled-add, sets-front, length-tab, getD-tab}
+use lib.ListN.{length}
+use lib.Seq.{sets}
+use Rattle.lists.specs.Tab.{tab, word}
+use Rattle.lists.proofs.Laws.{stored-at, stored-long}
 use Rattle.lists.proofs.Then.{at-two, at-three}
-use Rattle.field.specs.Field.{fadd}
 use Rattle.lookup.specs.Tuple.{Tuple}
 use Rattle.matching.specs.Matching.{matched}
 use Rattle.keccak.specs.Columns.{byXYB}
@@ -95,36 +92,9 @@ pub rot-same : (row : List ℕ) (l z : ℕ) → z < 8
 unfolding unmatched rotTuples
 rot-same row l z b = test (xyb (rotTuple row) l z b) ∙ bytes-off _ _
 
--- ---- words stored from the front
-pub stored-at : (l vs : List ℕ) (f : ℕ → ℕ) (n k : ℕ) → n ≤ length l → vs ≡ sets l 0 (tab n f) → k < n → word vs k ≡ f k
-stored-at l vs f n k h e b =
-    let d : k < length (tab n f) = omega (arith, length-tab n f) in
-    ap (λ (t : List ℕ). word t k) (e ∙ sets-front l (tab n f) n (length-tab n f) h)
-    ∙ List·getD-append (tab n f) (drop n l) 0 k d ∙ getD-tab n f k 0 b
-
-pub stored-long : (l vs ws : List ℕ) (n : ℕ) → n ≤ length l → vs ≡ sets l 0 ws → n ≤ length vs
-stored-long l vs ws n h e = omega (arith, ap length e ∙ length-sets l 0 ws)
-
--- a turn that stores a lane of eight
-pub filled-lane : {l row row′ : List ℕ} {n : ℕ} (x : ℕ) (f g : ℕ → ℕ) → Filled l 0 n f row (8 * x) → 8 * (x + 1) ≤ n → row′ ≡ sets row (8 * x) (tab 8 g)
-    → ((j : ℕ) → j < 8 → f (8 * x + j) ≡ g j) → Filled l 0 n f row′ (8 * (x + 1))
-filled-lane {row = row} x f g h b e same =
-    filled-add 8 g h (next x) b (e ∙ ap (λ (k : ℕ). sets row k (tab 8 g)) (sym (zero-add (8 * x)))) same
-  where
-    next : (x : ℕ) → 8 * (x + 1) ≡ 8 * x + 8
-    next x = omega arith
-
 -- ---- C rotated by one
 pub rotated-of : (row l vs : List ℕ) → 40 ≤ length l → vs ≡ sets l 0 (tab 40 (λ k. rotatedCAt row (k / 8) (k % 8))) → RotatedOf row vs
 rotated-of row l vs h e = record { long = stored-long l vs (tab 40 (λ k. rotatedCAt row (k / 8) (k % 8))) 40 h e; is = λ k b. stored-at l vs (λ k. rotatedCAt row (k / 8) (k % 8)) 40 k h e b }
-
-pub rotated-even : (row : List ℕ) (x b : ℕ) → b % 2 ≡ 0 → rotatedCAt row x b ≡ fadd (word row (363 + x * 8 + b)) (word row (403 + x * 4 + (b / 2 + 3) % 4))
-rotated-even row x b e =
-    ap (λ (q : Bool). pick q (fadd (word row (363 + x * 8 + b)) (word row (403 + x * 4 + (b / 2 + 3) % 4))) (word row (363 + x * 8 + b))) (eq-eqb (b % 2) 0 e)
-
-pub rotated-odd : (row : List ℕ) (x b : ℕ) → (b % 2 ≡ 0 → ⊥) → rotatedCAt row x b ≡ word row (363 + x * 8 + b)
-rotated-odd row x b e =
-    ap (λ (q : Bool). pick q (fadd (word row (363 + x * 8 + b)) (word row (403 + x * 4 + (b / 2 + 3) % 4))) (word row (363 + x * 8 + b))) (ne-eqb (b % 2) 0 e)
 
 pub rotated-same : (row rotated : List ℕ) → (word row MU ≡ 0 → ⊥) → RotatedOf row rotated → (x z : ℕ) → x < 5 → z < 8
     → unmatched (dTuples row) (8 * x + z)

@@ -1,13 +1,12 @@
 // The lookups of θ: the parities in their stages, C rotated by one, D, and the state after θ.
-use super::columns::CXZ;
-use super::columns::CXZ_LEFT;
-use super::columns::CXZ_RIGHT;
-use super::columns::DXZ;
-use super::columns::MU;
-use super::columns::START;
-use super::columns::THETA;
-use field::Fe;
+use keccak_rnd::CXZ;
+use keccak_rnd::CXZ_LEFT;
+use keccak_rnd::DXZ;
+use keccak_rnd::MU;
+use keccak_rnd::START;
+use keccak_rnd::THETA;
 use lists::Place;
+use round_value::rotated_c;
 use scan::bytes_off;
 use scan::xor_lane;
 ghost use mathlib.Core.Path.{_≡_};
@@ -16,15 +15,15 @@ ghost use lib.ListN.{length};
 ghost use lib.Seq.{sets};
 ghost use Rattle.lists.specs.Tab.{tab, word};
 ghost use Rattle.lists.specs.First.{firstAt, placeOf};
-ghost use Rattle.keccak_rnd.specs.Columns.{MU};
+ghost use Rattle.field.specs.Elements.{ElementRow};
+ghost use Rattle.keccak_rnd.specs.Columns.{NUM-COLUMNS, MU};
 ghost use Rattle.keccak_rnd.specs.Tuples.{rotatedCAt};
-ghost use Rattle.round_value.specs.Readable.{Readable};
 ghost use Rattle.scan.specs.Scan.{unmatched};
 ghost use Rattle.round_scan.specs.Parts.{parityTuples, stageTuples, leftTuples, dTuples, thetaTuples, RotatedOf};
 
 // Stage 0 of the column parities.
 pub fn parity_failure(row: &[u64]) -> Place
-    requires { ⌜ Readable (now row) ⌝ }
+    requires { ⌜ ElementRow NUM-COLUMNS (now row) ⌝ }
     ensures { λ r. ⌜ r ≡ placeOf (firstAt (unmatched (parityTuples (now (row .entry)))) 40) ⌝ }
 {
     if row[MU] == 0 {
@@ -50,7 +49,7 @@ pub fn parity_failure(row: &[u64]) -> Place
 
 // Stages 1 to 3, each from the one before it: lane l is stage l % 3 + 1 of column l / 3.
 pub fn stage_failure(row: &[u64]) -> Place
-    requires { ⌜ Readable (now row) ⌝ }
+    requires { ⌜ ElementRow NUM-COLUMNS (now row) ⌝ }
     ensures { λ r. ⌜ r ≡ placeOf (firstAt (unmatched (stageTuples (now (row .entry)))) 120) ⌝ }
 {
     if row[MU] == 0 {
@@ -78,7 +77,7 @@ pub fn stage_failure(row: &[u64]) -> Place
 
 // C's shifted halfwords are bytes, in padding rows too.
 pub fn left_failure(row: &[u64]) -> Place
-    requires { ⌜ Readable (now row) ⌝ }
+    requires { ⌜ ElementRow NUM-COLUMNS (now row) ⌝ }
     ensures { λ r. ⌜ r ≡ placeOf (firstAt (unmatched (leftTuples (now (row .entry)))) 20) ⌝ }
 {
     let mut i: usize = 0;
@@ -91,34 +90,21 @@ pub fn left_failure(row: &[u64]) -> Place
     Place::Nowhere
 }
 
-// Byte b of C[x] rotated by one: an even byte takes a carry.
-fn rotated_byte(row: &[u64], x: usize, b: usize) -> u64
-    requires { ⌜ Readable (now row) × (x < 5) × (b < 8) ⌝ }
-    ensures { λ r. ⌜ r ≡ rotatedCAt (now (row .entry)) x b ⌝ }
-{
-    let left = row[CXZ_LEFT + x * 8 + b];
-    if b % 2 == 0 {
-        let carry = row[CXZ_RIGHT + x * 4 + (b / 2 + 3) % 4];
-        let sum = Fe { value: left }.add(Fe { value: carry });
-        return sum.value;
-    }
-    left
-}
-
+// C rotated by one, its 40 bytes.
 fn put_rotated(row: &[u64], out: &mut [u64])
-    requires { ⌜ Readable (now row) × (40 ≤ length (now out)) ⌝ }
+    requires { ⌜ ElementRow NUM-COLUMNS (now row) × (40 ≤ length (now out)) ⌝ }
     ensures { λ _. ⌜ now (out .exit) ≡ sets (now (out .entry)) 0 (tab 40 (λ k. rotatedCAt (now (row .entry)) (k / 8) (k % 8))) ⌝ }
 {
     let mut k: usize = 0;
     while k < 40 {
-        out[k] = rotated_byte(row, k / 8, k % 8);
+        out[k] = rotated_c(row, k / 8, k % 8);
         k += 1;
     }
 }
 
 // D, of an active row: C of the column before, and the rotated C of the column after.
 fn d_lanes(row: &[u64], rotated: &[u64]) -> Place
-    requires { ⌜ Readable (now row) × RotatedOf (now row) (now rotated) × (word (now row) MU ≡ 0 → ⊥) ⌝ }
+    requires { ⌜ ElementRow NUM-COLUMNS (now row) × RotatedOf (now row) (now rotated) × (word (now row) MU ≡ 0 → ⊥) ⌝ }
     ensures { λ r. ⌜ r ≡ placeOf (firstAt (unmatched (dTuples (now (row .entry)))) 40) ⌝ }
 {
     let mut x: usize = 0;
@@ -140,7 +126,7 @@ fn d_lanes(row: &[u64], rotated: &[u64]) -> Place
 }
 
 pub fn d_failure(row: &[u64]) -> Place
-    requires { ⌜ Readable (now row) ⌝ }
+    requires { ⌜ ElementRow NUM-COLUMNS (now row) ⌝ }
     ensures { λ r. ⌜ r ≡ placeOf (firstAt (unmatched (dTuples (now (row .entry)))) 40) ⌝ }
 {
     if row[MU] == 0 {
@@ -153,7 +139,7 @@ pub fn d_failure(row: &[u64]) -> Place
 
 // The state after θ: lane l is lane (l / 5, l % 5).
 pub fn theta_failure(row: &[u64]) -> Place
-    requires { ⌜ Readable (now row) ⌝ }
+    requires { ⌜ ElementRow NUM-COLUMNS (now row) ⌝ }
     ensures { λ r. ⌜ r ≡ placeOf (firstAt (unmatched (thetaTuples (now (row .entry)))) 200) ⌝ }
 {
     if row[MU] == 0 {

@@ -1,36 +1,29 @@
 // tables/keccak_rnd.rs, eval: the values of a round row, one by one.
+use add_template::is_bit;
 use field::Fe;
+use keccak_rnd::CXZ;
+use keccak_rnd::CXZ_LEFT;
+use keccak_rnd::CXZ_RIGHT;
+use keccak_rnd::MU;
+use keccak_rnd::ROT_LEFT;
+use keccak_rnd::ROT_RIGHT;
+use keccak_rnd::THETA;
 use shift::times_power;
 ghost use mathlib.Core.Path.{_≡_};
 ghost use Prim.Native.Nat.{_+_, _/_, _%_, _^_, _≤_, _<_};
 ghost use Rattle.lists.specs.Tab.{word};
 ghost use Rattle.field.specs.Field.{p, fmul};
-ghost use Rattle.templates.specs.Templates.{isBit};
+ghost use Rattle.field.specs.Elements.{ElementRow};
 ghost use Rattle.keccak_rnd.specs.Columns.{NUM-COLUMNS, MU};
 ghost use Rattle.keccak_rnd.specs.Row.{rnc};
+ghost use Rattle.keccak_rnd.specs.Tuples.{rotatedCAt};
 ghost use Rattle.keccak_rnd.specs.Values.{halfwordAt, identity, carryValue, thetaValue, rhoValue};
-ghost use Rattle.round_value.specs.Readable.{Readable};
-
-// The columns, by their names in the Rust.
-const CXZ: usize = 203;
-
-const CXZ_LEFT: usize = 363;
-
-const CXZ_RIGHT: usize = 403;
-
-const THETA: usize = 463;
-
-const ROT_LEFT: usize = 663;
-
-const ROT_RIGHT: usize = 863;
-
-pub const MU: usize = 1479;
 
 pub mod shift;
 
 // Column k.
 pub fn element(row: &[u64], k: usize) -> Fe
-    requires { ⌜ Readable (now row) × (k < NUM-COLUMNS) ⌝ }
+    requires { ⌜ ElementRow NUM-COLUMNS (now row) × (k < NUM-COLUMNS) ⌝ }
     ensures is { λ r. ⌜ r .value ≡ word (now (row .entry)) k ⌝ }
     ensures below { λ r. ⌜ r .value < p ⌝ }
 {
@@ -39,7 +32,7 @@ pub fn element(row: &[u64], k: usize) -> Fe
 
 // The bytes in columns k and k + 1, as a halfword.
 pub fn halfword_at(row: &[u64], k: usize) -> Fe
-    requires { ⌜ Readable (now row) × (k + 1 < NUM-COLUMNS) ⌝ }
+    requires { ⌜ ElementRow NUM-COLUMNS (now row) × (k + 1 < NUM-COLUMNS) ⌝ }
     ensures is { λ r. ⌜ r .value ≡ halfwordAt (now (row .entry)) k ⌝ }
     ensures below { λ r. ⌜ r .value < p ⌝ }
 {
@@ -47,6 +40,20 @@ pub fn halfword_at(row: &[u64], k: usize) -> Fe
     let high = element(row, k + 1);
     let shifted = times_power(high, 8);
     low.add(shifted)
+}
+
+// Byte b of C[x] rotated by one: an even byte takes the carry of the halfword below it.
+pub fn rotated_c(row: &[u64], x: usize, b: usize) -> u64
+    requires { ⌜ ElementRow NUM-COLUMNS (now row) × (x < 5) × (b < 8) ⌝ }
+    ensures { λ r. ⌜ r ≡ rotatedCAt (now (row .entry)) x b ⌝ }
+{
+    let left = row[CXZ_LEFT + x * 8 + b];
+    if b % 2 == 1 {
+        return left;
+    }
+    let carry = row[CXZ_RIGHT + x * 4 + (b / 2 + 3) % 4];
+    let sum = Fe { value: left }.add(Fe { value: carry });
+    sum.value
 }
 
 // half * 2^power - right * 2^16 - left.
@@ -61,18 +68,9 @@ pub fn identity(half: Fe, power: u32, left: Fe, right: Fe) -> Fe
     rest.sub(left)
 }
 
-// x (1 - x).
-pub fn is_bit(x: Fe) -> Fe
-    requires { ⌜ x .value < p ⌝ }
-    ensures { λ r. ⌜ r .value ≡ isBit (x .value) ⌝ }
-{
-    let rest = Fe::ONE.sub(x);
-    x.mul(rest)
-}
-
 // MU times a value; in the rows of rounds MU is 1.
 pub fn gated(row: &[u64], value: Fe) -> Fe
-    requires { ⌜ Readable (now row) × (value .value < p) ⌝ }
+    requires { ⌜ ElementRow NUM-COLUMNS (now row) × (value .value < p) ⌝ }
     ensures { λ r. ⌜ r .value ≡ fmul (word (now (row .entry)) MU) (value .value) ⌝ }
 {
     let mu = row[MU];
@@ -84,16 +82,18 @@ pub fn gated(row: &[u64], value: Fe) -> Fe
 
 // 0 to 19: the carry i of C rotated by one is a bit, in padding rows too.
 pub fn carry_value(row: &[u64], i: usize) -> Fe
-    requires { ⌜ Readable (now row) × (i < 20) ⌝ }
+    requires { ⌜ ElementRow NUM-COLUMNS (now row) × (i < 20) ⌝ }
     ensures { λ r. ⌜ r .value ≡ carryValue (now (row .entry)) (i / 4) (i % 4) ⌝ }
 {
     let carry = element(row, CXZ_RIGHT + i);
-    is_bit(carry)
+    Fe {
+        value: is_bit(carry.value),
+    }
 }
 
 // 20 to 39: halfword hw of C[x], shifted by one.
 pub fn theta_value(row: &[u64], x: usize, hw: usize) -> Fe
-    requires { ⌜ Readable (now row) × (x < 5) × (hw < 4) ⌝ }
+    requires { ⌜ ElementRow NUM-COLUMNS (now row) × (x < 5) × (hw < 4) ⌝ }
     ensures { λ r. ⌜ r .value ≡ thetaValue (now (row .entry)) x hw ⌝ }
 {
     let half = halfword_at(row, CXZ + (x * 4 + 3) * 8 + hw * 2);
@@ -105,7 +105,7 @@ pub fn theta_value(row: &[u64], x: usize, hw: usize) -> Fe
 
 // 40 to 139: halfword hw of θ's lane (x, y), shifted by its offset mod 16.
 pub fn rho_value(row: &[u64], x: usize, y: usize, power: u32, hw: usize) -> Fe
-    requires { ⌜ Readable (now row) × (x < 5) × (y < 5) × (power ≡ rnc x y) × (hw < 4) ⌝ }
+    requires { ⌜ ElementRow NUM-COLUMNS (now row) × (x < 5) × (y < 5) × (power ≡ rnc x y) × (hw < 4) ⌝ }
     ensures { λ r. ⌜ r .value ≡ rhoValue (now (row .entry)) x y hw ⌝ }
 {
     let lane = (x + 5 * y) * 8;

@@ -3,7 +3,8 @@
 --     first-then               the scan of a list of two parts
 --     within                   where a scan of m finds something, it is below m
 --     alu-off, bytes-off       a tuple that is sent is unmatched exactly where the test on its values passes
---     none-off                 a tuple that is not sent needs no match
+--     idle-off, none-off       a tuple that is not sent needs no match
+--     sent-off, free-off       one that is sent needs one, unless nothing is asked of it
 use mathlib.Core.Path.{_≡_, refl, sym, ap, ap₂, _∙_, subst}
 use mathlib.Core.Bool.{Bool, true, false, not, _&&_}
 use mathlib.Core.List.{List, [], _∷_}
@@ -18,11 +19,11 @@ use Rattle.lists.specs.declared.Place.{Place}
 use Rattle.lists.specs.declared.Place.the-variants.{At, Nowhere}
 use Rattle.lists.proofs.First.{at-hit, at-clear, at-nothing, at-found, place-at}
 use Rattle.lists.proofs.Then.{by-le, then-lt, then-ge}
-use Rattle.lookup.specs.Tuple.{sender}
+use Rattle.lookup.specs.Tuple.{Tuple, sender}
 use Rattle.lookup.specs.declared.Bus.{Bus}
 use Rattle.lookup.specs.declared.Bus.the-variants.{ByteAlu, AreBytes}
 use Rattle.bitwise.specs.Found.{aluOp, aluFound, areBytesFound}
-use Rattle.matching.specs.Matching.{foundOn, matched}
+use Rattle.matching.specs.Matching.{foundOn, found, matched}
 use Rattle.scan.specs.Scan.{aluOff, bytesOff, afterPlace, Within}
 
 -- ---- by blocks: s is the test t from a on
@@ -70,22 +71,31 @@ within t m (At j) e = at-found t m j (place-at (firstAt t m) e) .0
 within t m Nowhere e = tt
 
 -- ---- the tests on values
--- a tuple that is sent
-sent : (m : ℕ) (b : Bool) → (m ≡ 0 → ⊥) → elim (eqb m 0) as (λ _. Bool) [ true ↦ true | false ↦ b ] ≡ b
-sent m b h = ap (λ (q : Bool). elim q as (λ _. Bool) [ true ↦ true | false ↦ b ]) (ne-eqb m 0 h)
+-- a tuple that is not sent, one that is, and one of which nothing is asked
+pub idle-off : (t : Tuple) → t .multiplicity ≡ 0 → not (matched t) ≡ false
+idle-off t e = ap (λ (q : Bool). not (elim q as (λ _. Bool) [ true ↦ true | false ↦ found t ])) (eq-eqb (t .multiplicity) 0 e)
+
+pub sent-off : (t : Tuple) → (t .multiplicity ≡ 0 → ⊥) → not (matched t) ≡ not (found t)
+sent-off t h = ap (λ (q : Bool). not (elim q as (λ _. Bool) [ true ↦ true | false ↦ found t ])) (ne-eqb (t .multiplicity) 0 h)
+
+pub free-off : (t : Tuple) → found t ≡ true → not (matched t) ≡ false
+free-off t e = go (eqb (t .multiplicity) 0)
+  where
+    go : (b : Bool) → not (elim b as (λ _. Bool) [ true ↦ true | false ↦ found t ]) ≡ false
+    go true = refl
+    go false = ap not e
 
 pub alu-off : (m op a b c : ℕ) → (m ≡ 0 → ⊥) → op < 3 → not (matched (sender ByteAlu m (op ∷ a ∷ b ∷ c ∷ []))) ≡ aluOff op a b c
 unfolding foundOn aluFound aluOff
 alu-off m op a b c h l =
-    ap not (sent m (foundOn ByteAlu (op ∷ a ∷ b ∷ c ∷ [])) h ∙ ap (λ (q : Bool). q && (ltb a 256 && (ltb b 256 && eqb c (aluOp op a b)))) (lt-ltb op 3 l))
+    sent-off (sender ByteAlu m (op ∷ a ∷ b ∷ c ∷ [])) h ∙ ap (λ (q : Bool). not (q && (ltb a 256 && (ltb b 256 && eqb c (aluOp op a b))))) (lt-ltb op 3 l)
 
 pub bytes-off : (a b : ℕ) → not (matched (sender AreBytes 1 (a ∷ b ∷ []))) ≡ bytesOff a b
 unfolding foundOn areBytesFound bytesOff
 bytes-off a b = refl
 
 pub none-off : (bus : Bus) (m : ℕ) (vs : List ℕ) → m ≡ 0 → not (matched (sender bus m vs)) ≡ false
-none-off bus m vs h =
-    ap not (ap (λ (q : Bool). elim q as (λ _. Bool) [ true ↦ true | false ↦ foundOn bus vs ]) (eq-eqb m 0 h))
+none-off bus m vs h = idle-off (sender bus m vs) h
 
 -- one test of three after the other
 module _ (op a b c : ℕ) where

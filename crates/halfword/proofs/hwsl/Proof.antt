@@ -6,7 +6,7 @@ use lib.ListN.{length, getD, length-set}
 use borrow.Author.Needs.{needs}
 use Prim.Native.Nat.{_/_, _%_}
 use lib.Pow.{shl-exact}
-use Rattle.keccak_rnd.proofs.Tables.{split-half, carry-half}
+use Rattle.bits.proofs.Halves.{split-half, carry-half}
 use Rattle.halfword.proofs.hwsl.Statement.{statement}
 use Rattle.halfword.proofs.hwsl.Tie as tie
 

@@ -4,7 +4,7 @@ use Prim.Native.Nat.{ℕ, _+_, _-_, _*_, _≤_, _<_}
 use native.Mathlib.Omega.{arith}
 use lib.ListN.{length, getD, length-set}
 use borrow.Author.Needs.{needs}
-use Rattle.keccak_rnd.proofs.Tables.{low-lane, carry-lane}
+use Rattle.bits.proofs.Halves.{low-lane, carry-lane}
 use Rattle.halfword.proofs.shift_lane.Statement.{statement}
 use Rattle.halfword.proofs.shift_lane.Tie as tie
 

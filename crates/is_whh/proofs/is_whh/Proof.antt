@@ -1,5 +1,6 @@
 -- `is_whh` meets its contract: one of the template's two tuples. Assumes nothing.
-use Rattle.is_wh.proofs.Tuples.{pair-sent, low-sent, as-tuple}
+use Rattle.lookup.proofs.Call.{as-tuple}
+use Rattle.is_wh.proofs.Tuples.{pair-sent, low-sent}
 use borrow.Author.Needs.{needs}
 use Rattle.is_whh.proofs.is_whh.Statement.{statement}
 use Rattle.is_whh.proofs.is_whh.Tie as tie

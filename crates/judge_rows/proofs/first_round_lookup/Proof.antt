@@ -10,7 +10,7 @@ use Rattle.verdict.specs.Verdict.{badLookup}
 use Rattle.verdict.specs.CoreAndRound.{roundKind}
 use Rattle.judge_scan.specs.Spot.{spotOf}
 use Rattle.judge_scan.specs.declared.Spot.the-variants.{Nowhere}
-use Rattle.judge_scan.proofs.Scan.{at-none-row, at-some-row, part-long, part-words}
+use Rattle.judge_scan.proofs.Scan.{at-none-row, at-some-row, part-row}
 use Rattle.judge_rows.proofs.Rows.{round-lookup-some, round-lookup-none}
 use Rattle.judge_rows.proofs.first_round_lookup.Statement.{statement}
 use Rattle.judge_rows.proofs.first_round_lookup.Tie as tie
@@ -43,7 +43,7 @@ part-round-lookup-failure-end : tie.Need-part-round-lookup-failure-end Inv-rows 
 part-round-lookup-failure-end c = omega arith
 
 round-lookup-failure-requires : tie.Need-round-lookup-failure-requires Inv-rows μ-rows
-round-lookup-failure-requires c κs = record { long = part-long 1480 _ _ (c .before .rows-test .taken); below = part-words 1480 _ _ (c .before .rows-test .taken) (c .before .before .before .before .pre) }
+round-lookup-failure-requires c κs = part-row 1480 _ _ (c .before .rows-test .taken) (c .before .before .before .before .pre)
 
 enum-known-index : tie.Need-enum-known-index Inv-rows μ-rows
 enum-known-index c = search needs

@@ -5,13 +5,14 @@ use native.Mathlib.Omega.{arith}
 use mathlib.Core.Option.{none}
 use Rattle.lists.specs.First.{first, atIndex, placeOf}
 use Rattle.lists.proofs.First.{at-hit, at-none}
-use Rattle.keccak_lookups.specs.Lookups.{lookupFails}
+use Rattle.scan.specs.Scan.{unmatched}
+use Rattle.keccak.specs.Tuples.{coreTuple}
 use Rattle.keccak_lookups.proofs.Lookups.{tail-none, first-fails, second-fails, bytes-hold, byte-next}
 use Rattle.keccak_lookups.proofs.first_byte_failure.Statement.{statement}
 use Rattle.keccak_lookups.proofs.first_byte_failure.Tie as tie
 
 abbrev Inv-loop : tie.InvT-loop
-Inv-loop row i₀ i = (i ≤ 4) × (first (atIndex (lookupFails row)) (55 + i) ≡ none)
+Inv-loop row i₀ i = (i ≤ 4) × (first (atIndex (unmatched (coreTuple 24 0 row))) (55 + i) ≡ none)
 
 abbrev μ-loop : tie.MeasureT-loop
 μ-loop row i₀ i = 4 - i

@@ -5,13 +5,14 @@ use native.Mathlib.Omega.{arith}
 use mathlib.Core.Option.{none}
 use Rattle.lists.specs.First.{first, atIndex, placeOf}
 use Rattle.lists.proofs.First.{at-hit, at-none}
-use Rattle.keccak_lookups.specs.Lookups.{lookupFails}
+use Rattle.scan.specs.Scan.{unmatched}
+use Rattle.keccak.specs.Tuples.{coreTuple}
 use Rattle.keccak_lookups.proofs.Lookups.{head-none, word-fails, half-fails, pair-holds, low-fails, low-holds, low-next, pair-next}
 use Rattle.keccak_lookups.proofs.first_pointer_failure.Statement.{statement}
 use Rattle.keccak_lookups.proofs.first_pointer_failure.Tie as tie
 
 abbrev Inv-loop : tie.InvT-loop
-Inv-loop row i₀ i = (i ≤ 25) × (first (atIndex (lookupFails row)) (4 + 2 * i) ≡ none)
+Inv-loop row i₀ i = (i ≤ 25) × (first (atIndex (unmatched (coreTuple 24 0 row))) (4 + 2 * i) ≡ none)
 
 abbrev μ-loop : tie.MeasureT-loop
 μ-loop row i₀ i = 25 - i

@@ -1,6 +1,7 @@
 -- `keccak_rnd_lookup_tuples::lookup_tuple` meets its contract: the index in three cases. Assumes nothing.
 use native.Mathlib.Omega.{arith}
-use Rattle.keccak_rnd_lookup_tuples.proofs.Tuples.{at-iota, fits, as-tuple}
+use Rattle.lookup.proofs.Call.{fits, as-tuple}
+use Rattle.keccak_rnd_lookup_tuples.proofs.Tuples.{at-iota}
 use borrow.Author.Needs.{needs}
 use Rattle.keccak_rnd_lookup_tuples.proofs.lookup_tuple.Statement.{statement}
 use Rattle.keccak_rnd_lookup_tuples.proofs.lookup_tuple.Tie as tie
@@ -24,7 +25,7 @@ returns-2 : tie.Need-returns-2
 returns-2 c = search needs
 
 iota-tuple-requires : tie.Need-iota-tuple-requires
-iota-tuple-requires c κs = (c .before .before .before .before .before .pre .0, omega arith, fits _ (at-iota _ _ (c .before .if2 .left)) (c .before .before .before .before .before .pre .4))
+iota-tuple-requires c κs = (c .before .before .before .before .before .pre .0 .long, omega arith, fits _ (at-iota _ _ (c .before .if2 .left)) (c .before .before .before .before .before .pre .3))
 
 same-length-3 : tie.Need-same-length-3
 same-length-3 c = search needs

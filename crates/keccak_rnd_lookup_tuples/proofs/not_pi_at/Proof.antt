@@ -15,14 +15,14 @@ sub-requires c κs =
     let a = c .before .before .args in
     let q = c .before .before .pre in
     let w = c .pi-parts .ensures in
-    (omega arith, left-element (a .row .now) (a .x) (a .y) (a .b) (q .1) (q .2) (w .0))
+    (omega arith, left-element (a .row .now) (a .x) (a .y) (a .b) (q .0) (q .1) (w .0))
 
 sub-requires-2 : tie.Need-sub-requires-2
 sub-requires-2 c κs =
     let a = c .before .before .before .args in
     let q = c .before .before .before .pre in
     let w = c .before .pi-parts .ensures in
-    (c .sub .ensures .1, right-element (a .row .now) (a .x) (a .y) (a .b) (q .1) (q .2) (w .1))
+    (c .sub .ensures .1, right-element (a .row .now) (a .x) (a .y) (a .b) (q .0) (q .1) (w .1))
 
 returns : tie.Need-returns
 returns c = let w = c .before .before .pi-parts .ensures in c .sub2 .ensures .0 ∙ ap₂ fsub (c .before .sub .ensures .0 ∙ ap (fsub 255) (w .0)) (w .1)

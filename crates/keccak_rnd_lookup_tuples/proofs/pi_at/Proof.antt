@@ -12,7 +12,7 @@ add-requires c κs =
     let a = c .before .before .args in
     let q = c .before .before .pre in
     let w = c .pi-parts .ensures in
-    (left-element (a .row .now) (a .x) (a .y) (a .b) (q .1) (q .2) (w .0), right-element (a .row .now) (a .x) (a .y) (a .b) (q .1) (q .2) (w .1))
+    (left-element (a .row .now) (a .x) (a .y) (a .b) (q .0) (q .1) (w .0), right-element (a .row .now) (a .x) (a .y) (a .b) (q .0) (q .1) (w .1))
 
 returns : tie.Need-returns
 returns c = search needs

@@ -2,7 +2,7 @@
 use mathlib.Core.Path.{ap}
 use native.Mathlib.Omega.{arith}
 use Rattle.keccak_rnd.specs.Tuples.{roundTuple}
-use Rattle.keccak_rnd_lookup_tuples.proofs.Tuples.{as-tuple}
+use Rattle.lookup.proofs.Call.{as-tuple}
 use Rattle.keccak_rnd_tuples.proofs.Tuples.{at-rc, keccak-size, rc-size}
 use borrow.Author.Needs.{needs}
 use Rattle.keccak_rnd_tuples.proofs.row_tuple.Statement.{statement}
@@ -20,7 +20,7 @@ returns c = search needs
 received-requires : tie.Need-received-requires
 received-requires c κs =
     let a = c .before .before .before .before .before .args in
-    (c .before .before .before .before .before .pre .0, omega (arith, keccak-size (a .row .now) (a .index) (omega arith), c .before .before .before .before .before .pre .3))
+    (c .before .before .before .before .before .pre .0 .long, omega (arith, keccak-size (a .row .now) (a .index) (omega arith), c .before .before .before .before .before .pre .2))
 
 same-length-2 : tie.Need-same-length-2
 same-length-2 c = search needs
@@ -31,7 +31,7 @@ returns-2 c = as-tuple _ (ap (roundTuple (c .before .before .before .before .bef
 sent-requires : tie.Need-sent-requires
 sent-requires c κs =
     let a = c .before .before .before .before .before .before .args in
-    (c .before .before .before .before .before .before .pre .0, c .before .before .before .before .before .before .pre .1 2 (omega arith), omega (arith, keccak-size (a .row .now) (a .index) (omega arith), c .before .before .before .before .before .before .pre .3))
+    (c .before .before .before .before .before .before .pre .0 .long, c .before .before .before .before .before .before .pre .0 .below 2 (omega arith), omega (arith, keccak-size (a .row .now) (a .index) (omega arith), c .before .before .before .before .before .before .pre .2))
 
 same-length-3 : tie.Need-same-length-3
 same-length-3 c = search needs
@@ -42,7 +42,7 @@ returns-3 c = as-tuple _ (ap (roundTuple (c .before .before .before .before .bef
 constant-requires : tie.Need-constant-requires
 constant-requires c κs =
     let a = c .before .before .before .before .before .before .args in
-    (c .before .before .before .before .before .before .pre .0, omega (arith, rc-size (a .row .now) (a .index) (omega arith), c .before .before .before .before .before .before .pre .3))
+    (c .before .before .before .before .before .before .pre .0 .long, omega (arith, rc-size (a .row .now) (a .index) (omega arith), c .before .before .before .before .before .before .pre .2))
 
 same-length-4 : tie.Need-same-length-4
 same-length-4 c = search needs

@@ -4,7 +4,7 @@ use Prim.Native.Nat.{ℕ}
 use Rattle.lists.specs.Tab.{word}
 use Rattle.answer.specs.Refusal.{overwrite}
 use Rattle.keccak.specs.Tuples.{keccakValues}
-use Rattle.keccak_rnd_lookup_tuples.proofs.Tuples.{as-tuple}
+use Rattle.lookup.proofs.Call.{as-tuple}
 use Rattle.keccak_rnd_tuples.specs.States.{stateWord}
 use Rattle.keccak_rnd_tuples.proofs.Tuples.{at-sent, sent-interaction}
 use borrow.Author.Needs.{needs}

@@ -5,7 +5,7 @@ use borrow.Author.Needs.{needs}
 use Rattle.lists.specs.Tab.{word}
 use Rattle.lookup.specs.Tuple.{sender, receiver}
 use Rattle.lookup.specs.declared.Bus.the-variants.{Keccak}
-use Rattle.is_wh.proofs.Tuples.{as-tuple}
+use Rattle.lookup.proofs.Call.{as-tuple}
 use Rattle.keccak.specs.Columns.{MU}
 use Rattle.keccak.specs.Tuples.{coreTuple, ecallTuple, addrMemw, coreSent, coreReceived}
 use Rattle.keccak_tuples.proofs.Tuples.{room, is-ecall, is-addr, is-sent, is-received, ecall-length, addr-length, sent-length, received-length}
@@ -28,7 +28,7 @@ received : (c : tie.Else3) → let s = c .before .before .before .before .before
 received c = is-received 24 _ _ _ (omega arith)
 
 ecall-tuple-requires : tie.Need-ecall-tuple-requires
-ecall-tuple-requires c κs = let s = c .before .before .before .before in (s .pre .0, room (ecall (c .before)) (ecall-length _ _) (s .pre .3))
+ecall-tuple-requires c κs = let s = c .before .before .before .before in (s .pre .0 .long, room (ecall (c .before)) (ecall-length _ _) (s .pre .2))
 
 same-length : tie.Need-same-length
 same-length c = search needs
@@ -37,7 +37,7 @@ returns : tie.Need-returns
 returns c = as-tuple _ (ecall (c .before .before .before .before)) (c .before .before .ecall-tuple .ensures .0) (c .before .before .ecall-tuple .ensures .1)
 
 addr-memw-requires : tie.Need-addr-memw-requires
-addr-memw-requires c κs = let s = c .before .before .before .before .before in (s .pre .0, s .pre .1, room (address (c .before)) (addr-length _) (s .pre .3))
+addr-memw-requires c κs = let s = c .before .before .before .before .before in (s .pre .0, room (address (c .before)) (addr-length _) (s .pre .2))
 
 same-length-2 : tie.Need-same-length-2
 same-length-2 c = search needs
@@ -46,7 +46,7 @@ returns-2 : tie.Need-returns-2
 returns-2 c = as-tuple _ (address (c .before .before .before .before)) (c .before .before .addr-memw .ensures .0) (c .before .before .addr-memw .ensures .1)
 
 keccak-sent-requires : tie.Need-keccak-sent-requires
-keccak-sent-requires c κs = let s = c .before .before .before .before .before .before in (s .pre .0, room (sent (c .before)) (sent-length _ 24) (s .pre .3))
+keccak-sent-requires c κs = let s = c .before .before .before .before .before .before in (s .pre .0 .long, room (sent (c .before)) (sent-length _ 24) (s .pre .2))
 
 same-length-3 : tie.Need-same-length-3
 same-length-3 c = search needs
@@ -55,7 +55,7 @@ returns-3 : tie.Need-returns-3
 returns-3 c = as-tuple _ (sent (c .before .before .before .before)) (c .before .before .keccak-sent .ensures .0) (c .before .before .keccak-sent .ensures .1)
 
 keccak-received-requires : tie.Need-keccak-received-requires
-keccak-received-requires c κs = let s = c .before .before .before .before .before .before in (s .pre .0, room (received (c .before)) (received-length _) (s .pre .3))
+keccak-received-requires c κs = let s = c .before .before .before .before .before .before in (s .pre .0 .long, room (received (c .before)) (received-length _) (s .pre .2))
 
 same-length-4 : tie.Need-same-length-4
 same-length-4 c = search needs

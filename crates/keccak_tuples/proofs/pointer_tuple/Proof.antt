@@ -5,7 +5,7 @@ use borrow.Author.Needs.{needs}
 use mathlib.Core.List.{[], _∷_}
 use Rattle.answer.proofs.Laws.{sets-overwrite}
 use lib.ListN.{length-set}
-use Rattle.is_wh.proofs.Tuples.{as-tuple}
+use Rattle.lookup.proofs.Call.{as-tuple}
 use Rattle.keccak_tuples.proofs.Tuples.{room, pointer-pair, pointer-low}
 use Rattle.keccak_tuples.proofs.pointer_tuple.Statement.{statement}
 use Rattle.keccak_tuples.proofs.pointer_tuple.Tie as tie

@@ -3,7 +3,7 @@ use mathlib.Core.Path.{_≡_}
 use Prim.Native.Nat.{_-_}
 use native.Mathlib.Omega.{arith}
 use borrow.Author.Needs.{needs}
-use Rattle.is_wh.proofs.Tuples.{as-tuple}
+use Rattle.lookup.proofs.Call.{as-tuple}
 use Rattle.keccak.specs.Tuples.{coreTuple, alignTuple, addrBytesTuple, laneMemw}
 use Rattle.keccak_tuples.proofs.Tuples.{room, is-align, is-bytes, is-lane, align-length, bytes-length, lane-length}
 use Rattle.keccak_tuples.proofs.tail_tuple.Statement.{statement}
@@ -20,7 +20,7 @@ lane : (c : tie.Else2) → let s = c .before .before .before .before in coreTupl
 lane c = is-lane 24 _ _ _ (c .if2 .left)
 
 align-tuple-requires : tie.Need-align-tuple-requires
-align-tuple-requires c κs = let s = c .before .before .before .before in (s .pre .0, room (align (c .before)) (align-length _) (s .pre .4))
+align-tuple-requires c κs = let s = c .before .before .before .before in (s .pre .0 .long, room (align (c .before)) (align-length _) (s .pre .3))
 
 same-length : tie.Need-same-length
 same-length c = search needs
@@ -32,7 +32,7 @@ sub-addr-bytes-tuple : tie.Need-sub-addr-bytes-tuple
 sub-addr-bytes-tuple c = search needs
 
 addr-bytes-tuple-requires : tie.Need-addr-bytes-tuple-requires
-addr-bytes-tuple-requires c κs = let s = c .before .before .before .before .before in (s .pre .0, omega arith, room (bytes (c .before)) (bytes-length _ _) (s .pre .4))
+addr-bytes-tuple-requires c κs = let s = c .before .before .before .before .before in (s .pre .0 .long, omega arith, room (bytes (c .before)) (bytes-length _ _) (s .pre .3))
 
 same-length-2 : tie.Need-same-length-2
 same-length-2 c = search needs
@@ -41,7 +41,7 @@ returns-2 : tie.Need-returns-2
 returns-2 c = as-tuple _ (bytes (c .before .before .before .before)) (c .before .before .addr-bytes-tuple .ensures .0) (c .before .before .addr-bytes-tuple .ensures .1)
 
 lane-memw-requires : tie.Need-lane-memw-requires
-lane-memw-requires c κs = let s = c .before .before .before .before .before in (s .pre .0, s .pre .1, omega arith, room (lane (c .before)) (lane-length _ _) (s .pre .4))
+lane-memw-requires c κs = let s = c .before .before .before .before .before in (s .pre .0, omega arith, room (lane (c .before)) (lane-length _ _) (s .pre .3))
 
 same-length-3 : tie.Need-same-length-3
 same-length-3 c = search needs

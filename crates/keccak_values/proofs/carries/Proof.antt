@@ -19,7 +19,7 @@ add-requires : tie.Need-add-requires
 add-requires c κs = search needs
 
 word-of-halves-requires : tie.Need-word-of-halves-requires
-word-of-halves-requires c κs = let s = c .before .before in (omega arith, s .pre .1 (410 + 3 * s .args .i) (omega arith))
+word-of-halves-requires c κs = let s = c .before .before in (omega arith, s .pre .0 .below (410 + 3 * s .args .i) (omega arith))
 
 carry-requires : tie.Need-carry-requires
 carry-requires c κs = search needs
@@ -37,7 +37,7 @@ shared-slice-read-t11 : tie.Need-shared-slice-read-t11
 shared-slice-read-t11 c = search needs
 
 carry-requires-2 : tie.Need-carry-requires-2
-carry-requires-2 c κs = let s = c .before .before .before .before .before .before in (c .before .add2 .ensures .1, s .pre .1 (410 + 3 * s .args .i + 2) (omega arith))
+carry-requires-2 c κs = let s = c .before .before .before .before .before .before in (c .before .add2 .ensures .1, s .pre .0 .below (410 + 3 * s .args .i + 2) (omega arith))
 
 returns : tie.Need-returns
 returns c =
@@ -45,8 +45,8 @@ returns c =
     let first = both .before in
     let halves = first .before in
     let s = halves .before .before .before in
-    let low = low-carried (s .args .row .now) (s .args .i) (s .pre .3) (halves .before .add .ensures .0) (halves .word-of-halves .ensures .0) (first .carry .ensures .0) in
-    ((low, first .carry .ensures .1), (high-carried (s .args .row .now) (s .args .i) (s .pre .4) low (both .add2 .ensures .0) (c .carry2 .ensures .0), c .carry2 .ensures .1))
+    let low = low-carried (s .args .row .now) (s .args .i) (s .pre .2) (halves .before .add .ensures .0) (halves .word-of-halves .ensures .0) (first .carry .ensures .0) in
+    ((low, first .carry .ensures .1), (high-carried (s .args .row .now) (s .args .i) (s .pre .3) low (both .add2 .ensures .0) (c .carry2 .ensures .0), c .carry2 .ensures .1))
 
 pub carries-spec : {M : Type 1} → statement M
 carries-spec =

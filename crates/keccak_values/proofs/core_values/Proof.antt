@@ -38,7 +38,7 @@ enum-told : tie.Need-enum-told
 enum-told c = search needs
 
 put-core-values-requires : tie.Need-put-core-values-requires
-put-core-values-requires c κs = let k = known (c .before) in (k .wide, k .below, k .fits)
+put-core-values-requires c κs = let k = known (c .before) in (record { long = k .wide; below = k .below }, k .fits)
 
 same-length : tie.Need-same-length
 same-length c = search needs

@@ -22,8 +22,8 @@ returns : tie.Need-returns
 returns c =
     let made = c .before .before in
     let s = made .before .before .before in (
-      c .before .is-bit-if .ensures ∙ ap (isBitIf _) (made .carries .ensures .0 .0) ∙ low-value (s .args .row .now) (s .pre .1) (s .args .i) (s .pre .2),
-      c .is-bit-if2 .ensures ∙ ap (isBitIf _) (made .carries .ensures .1 .0) ∙ high-value (s .args .row .now) (s .pre .1) (s .args .i) (s .pre .2),
+      c .before .is-bit-if .ensures ∙ ap (isBitIf _) (made .carries .ensures .0 .0) ∙ low-value (s .args .row .now) (s .pre .0 .below) (s .args .i) (s .pre .1),
+      c .is-bit-if2 .ensures ∙ ap (isBitIf _) (made .carries .ensures .1 .0) ∙ high-value (s .args .row .now) (s .pre .0 .below) (s .args .i) (s .pre .1),
     )
 
 pub lane-values-spec : {M : Type 1} → statement M

@@ -8,13 +8,13 @@ use Rattle.keccak_values.proofs.put_core_values.Statement.{statement}
 use Rattle.keccak_values.proofs.put_core_values.Tie as tie
 
 word-of-bytes-requires : tie.Need-word-of-bytes-requires
-word-of-bytes-requires c κs = (omega arith, c .before .before .pre .1 2 (omega arith))
+word-of-bytes-requires c κs = (omega arith, c .before .before .pre .0 .below 2 (omega arith))
 
 add-word-of-bytes : tie.Need-add-word-of-bytes
 add-word-of-bytes c = search needs
 
 word-of-bytes-requires-2 : tie.Need-word-of-bytes-requires-2
-word-of-bytes-requires-2 c κs = (omega arith, c .before .before .before .pre .1 6 (omega arith))
+word-of-bytes-requires-2 c κs = (omega arith, c .before .before .before .pre .0 .below 6 (omega arith))
 
 top-value-requires : tie.Need-top-value-requires
 top-value-requires c κs = search needs
@@ -23,13 +23,13 @@ shared-slice-read-is-bit : tie.Need-shared-slice-read-is-bit
 shared-slice-read-is-bit c = search needs
 
 is-bit-requires : tie.Need-is-bit-requires
-is-bit-requires c κs = c .before .before .before .before .before .before .pre .1 485 (omega arith)
+is-bit-requires c κs = c .before .before .before .before .before .before .pre .0 .below 485 (omega arith)
 
 put-lane-values-requires : tie.Need-put-lane-values-requires
 put-lane-values-requires c κs =
     let high = c .before .before .before .before in
     let s = high .before .before .before .before in
-    (s .pre .0, s .pre .1, omega arith, high .before .word-of-bytes .ensures .0, high .word-of-bytes2 .ensures .0)
+    (s .pre .0, omega arith, high .before .word-of-bytes .ensures .0, high .word-of-bytes2 .ensures .0)
 
 slice-write-out : tie.Need-slice-write-out
 slice-write-out c = search needs

@@ -18,7 +18,7 @@ loop-holds : tie.Need-loop-holds Inv-loop μ-loop
 loop-holds c = filled-none _ _ _ _
 
 lane-values-requires : tie.Need-lane-values-requires Inv-loop μ-loop
-lane-values-requires c κs = let s = c .before .before .before .before in (s .pre .0, s .pre .1, c .loop-test .taken, s .pre .3, s .pre .4)
+lane-values-requires c κs = let s = c .before .before .before .before in (s .pre .0, c .loop-test .taken, s .pre .2, s .pre .3)
 
 mul-out : tie.Need-mul-out Inv-loop μ-loop
 mul-out c = omega arith

@@ -2,7 +2,7 @@
 use mathlib.Core.Path.{sym, ap, _∙_}
 use borrow.Author.Needs.{needs}
 use Rattle.lists.specs.First.{placeOf}
-use Rattle.round_scan.proofs.Lanes.{first-agree}
+use Rattle.lists.proofs.First.{at-same}
 use Rattle.round_scan.proofs.Tests.{iota-same}
 use Rattle.round_chi_scan.proofs.iota_failure.Statement.{statement}
 use Rattle.round_chi_scan.proofs.iota_failure.Tie as tie
@@ -11,7 +11,7 @@ xor-lane-requires : tie.Need-xor-lane-requires
 xor-lane-requires c κs = search needs
 
 returns : tie.Need-returns
-returns c = c .xor-lane .ensures ∙ ap placeOf (sym (first-agree _ _ 8 (iota-same _ (c .before .before .pre .1))))
+returns c = c .xor-lane .ensures ∙ ap placeOf (sym (at-same _ _ 8 (iota-same _ (c .before .before .pre .1))))
 
 pub iota-failure-spec : {M : Type 1} → statement M
 iota-failure-spec = tie.close (tie.spec xor-lane-requires returns)

@@ -1,10 +1,9 @@
 -- `round_chi_scan::put_pi` meets its contract: after l turns the first l lanes are stored. Assumes nothing.
 use Prim.Native.Nat.{_-_, _*_}
 use native.Mathlib.Omega.{arith}
-use Rattle.lists.proofs.Laws.{Filled, filled-none, filled-all}
+use Rattle.lists.proofs.Laws.{Filled, filled-none, filled-front, filled-all}
 use Rattle.keccak.specs.Columns.{byXYB}
 use Rattle.keccak_rnd.specs.Tuples.{piAt}
-use Rattle.round_scan.proofs.Tests.{filled-lane}
 use Rattle.round_chi_scan.proofs.Pi.{pi-lane}
 use Rattle.round_chi_scan.proofs.put_pi.Statement.{statement}
 use Rattle.round_chi_scan.proofs.put_pi.Tie as tie
@@ -74,7 +73,7 @@ loop-again c =
     let put = c .before .before in
     let rho = put .before .before in
     let l = rho .before .before in
-    filled-lane (l .loop .l) _ _ (l .loop .inv) (omega arith) (put .put-pi-lane .ensures) (pi-lane (l .before .before .before .args .row .now) (l .loop .l) _ (rho .rho-offset .ensures))
+    filled-front 8 (l .loop .l) _ (l .loop .inv) (omega arith) (put .put-pi-lane .ensures) (pi-lane (l .before .before .before .args .row .now) (l .loop .l) _ (rho .rho-offset .ensures))
 
 same-length : tie.Need-same-length Inv-loop μ-loop
 same-length c = omega arith

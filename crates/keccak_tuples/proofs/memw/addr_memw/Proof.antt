@@ -10,13 +10,13 @@ use Rattle.keccak_tuples.proofs.memw.addr_memw.Statement.{statement}
 use Rattle.keccak_tuples.proofs.memw.addr_memw.Tie as tie
 
 word-of-bytes-requires : tie.Need-word-of-bytes-requires
-word-of-bytes-requires c κs = (omega arith, c .before .before .pre .1 2 (omega arith))
+word-of-bytes-requires c κs = (omega arith, c .before .before .pre .0 .below 2 (omega arith))
 
 add-word-of-bytes : tie.Need-add-word-of-bytes
 add-word-of-bytes c = search needs
 
 word-of-bytes-requires-2 : tie.Need-word-of-bytes-requires-2
-word-of-bytes-requires-2 c κs = (omega arith, c .before .before .before .pre .1 6 (omega arith))
+word-of-bytes-requires-2 c κs = (omega arith, c .before .before .before .pre .0 .below 6 (omega arith))
 
 put-register-requires : tie.Need-put-register-requires
 put-register-requires c κs = search needs
@@ -47,7 +47,7 @@ returns c =
     let row = s .args .row .now in
     let value = register (high .before .word-of-bytes .result .value) (high .word-of-bytes2 .result .value) in (
       addr-answer row,
-      addr-stored row (s .args .out .now) (s .pre .2) (high .before .word-of-bytes .ensures .0) (high .word-of-bytes2 .ensures .0)
+      addr-stored row (s .args .out .now) (s .pre .1) (high .before .word-of-bytes .ensures .0) (high .word-of-bytes2 .ensures .0)
           (memw-parts (s .args .out .now) _ _ _ value value (word row 0 ∷ word row 1 ∷ 1 ∷ 0 ∷ 0 ∷ []) 1 20 0 refl refl (old .put-register .ensures) (place .put-place .ensures) (new .put-register2 .ensures) (access .put-access .ensures)),
     )
 

@@ -17,7 +17,7 @@ add-at : tie.Need-add-at
 add-at c = search needs
 
 word-of-halves-requires : tie.Need-word-of-halves-requires
-word-of-halves-requires c κs = let s = c .before .before in (omega arith, s .pre .1 (410 + 3 * s .args .i) (omega arith))
+word-of-halves-requires c κs = let s = c .before .before in (omega arith, s .pre .0 .below (410 + 3 * s .args .i) (omega arith))
 
 mul-put-columns : tie.Need-mul-put-columns
 mul-put-columns c = search needs
@@ -69,7 +69,7 @@ returns c =
     let row = s .args .row .now in
     let i = s .args .i in (
       lane-answer row i,
-      lane-stored row (s .args .out .now) i (s .pre .3) (low .word-of-halves .ensures .0)
+      lane-stored row (s .args .out .now) i (s .pre .2) (low .word-of-halves .ensures .0)
           (memw-parts (s .args .out .now) _ _ _ (tab 8 (λ k. word row (10 + 8 * i + k))) (tab 8 (λ k. word row (210 + 8 * i + k))) (word row 0 ∷ word row 1 ∷ 0 ∷ 0 ∷ 1 ∷ []) 0
           (low .word-of-halves .result .value) (word row (410 + 3 * i + 2)) (length-tab 8 _) (length-tab 8 _) (old .put-columns .ensures) (place .put-place .ensures)
           (new .put-columns2 .ensures) (access .put-access .ensures)),

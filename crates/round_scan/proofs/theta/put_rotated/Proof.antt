@@ -15,8 +15,8 @@ abbrev μ-loop : tie.MeasureT-loop
 loop-holds : tie.Need-loop-holds Inv-loop μ-loop
 loop-holds c = filled-none _ _ _ _
 
-rotated-byte-requires : tie.Need-rotated-byte-requires Inv-loop μ-loop
-rotated-byte-requires c κs = let s = c .before .before .before .before in (s .pre .0, omega arith, omega arith)
+rotated-c-requires : tie.Need-rotated-c-requires Inv-loop μ-loop
+rotated-c-requires c κs = let s = c .before .before .before .before in (s .pre .0, omega arith, omega arith)
 
 mul-out : tie.Need-mul-out Inv-loop μ-loop
 mul-out c = omega arith
@@ -31,7 +31,7 @@ loop-less : tie.Need-loop-less Inv-loop μ-loop
 loop-less c = omega arith
 
 loop-again : tie.Need-loop-again Inv-loop μ-loop
-loop-again c = filled-next _ (c .before .before .loop .inv) (c .before .loop-test .taken) (c .rotated-byte .ensures)
+loop-again c = filled-next _ (c .before .before .loop .inv) (c .before .loop-test .taken) (c .rotated-c .ensures)
 
 same-length : tie.Need-same-length Inv-loop μ-loop
 same-length c = omega arith
@@ -46,7 +46,7 @@ put-rotated-spec =
     Inv-loop
     μ-loop
     loop-holds
-    rotated-byte-requires
+    rotated-c-requires
     mul-out
     slice-write-out
     add-k

@@ -1,9 +1,8 @@
--- `keccak_rnd_lookup_tuples::rotated_c` meets its contract: odd bytes take no carry. Assumes nothing.
-use Prim.Native.Nat.{_+_, _*_, _/_, _%_}
+-- `round_value::rotated_c` meets its contract: odd bytes take no carry. Assumes nothing.
 use native.Mathlib.Omega.{arith}
-use Rattle.keccak_rnd_lookup_tuples.proofs.Tuples.{odd-byte, even-byte}
-use Rattle.keccak_rnd_lookup_tuples.proofs.rotated_c.Statement.{statement}
-use Rattle.keccak_rnd_lookup_tuples.proofs.rotated_c.Tie as tie
+use Rattle.round_value.proofs.Rotated.{odd-byte, even-byte}
+use Rattle.round_value.proofs.rotated_c.Statement.{statement}
+use Rattle.round_value.proofs.rotated_c.Tie as tie
 
 mul-left : tie.Need-mul-left
 mul-left c = omega arith
@@ -42,10 +41,7 @@ shared-slice-read-carry : tie.Need-shared-slice-read-carry
 shared-slice-read-carry c = omega arith
 
 add-requires : tie.Need-add-requires
-add-requires c κs =
-    let a = c .before .before .before .before .args in
-    let h = c .before .before .before .before .pre .1 in
-    (h (363 + a .x * 8 + a .b) (omega arith), h (403 + a .x * 4 + (a .b / 2 + 3) % 4) (omega arith))
+add-requires c κs = let h = c .before .before .before .before .pre .0 in (h .below _ (omega arith), h .below _ (omega arith))
 
 returns-2 : tie.Need-returns-2
 returns-2 c = let a = c .before .before .before .before .before .args in even-byte (a .row .now) (a .x) (a .b) (c .before .before .if1 .left) (c .add .ensures .0)
