@@ -6,11 +6,10 @@ use keccak_tuples::NUM_TUPLES;
 use keccak_tuples::row_tuple;
 use lookup::header::put_header;
 ghost use mathlib.Core.Path.{_≡_};
-ghost use Prim.Native.Nat.{ℕ, _+_, _<_, _≤_};
+ghost use Prim.Native.Nat.{_+_, _<_, _≤_};
 ghost use lib.ListN.{length};
 ghost use lib.Seq.{sets};
-ghost use Rattle.lists.specs.Tab.{word};
-ghost use Rattle.field.specs.Field.{p};
+ghost use Rattle.field.specs.Elements.{ElementRow};
 ghost use Rattle.lookup.specs.Words.{tupleWords, tuplesWords};
 ghost use Rattle.evaluation.specs.Call.{valuesAnswer};
 ghost use Rattle.keccak.specs.Columns.{NUM-COLUMNS};
@@ -22,7 +21,7 @@ pub const NUM_WORDS: usize = 1457;
 
 // Tuple `index`, from `at`; where the next one goes.
 fn put_tuple(row: &[u64], index: usize, syscall: u64, out: &mut [u64], at: usize) -> usize
-    requires { ⌜ (NUM-COLUMNS ≤ length (now row)) × ((k : ℕ) → k < NUM-COLUMNS → word (now row) k < p) × (index < NUM-TUPLES) × (at + length (tupleWords (coreTuple 24 syscall (now row) index)) ≤ length (now out)) ⌝ }
+    requires { ⌜ ElementRow NUM-COLUMNS (now row) × (index < NUM-TUPLES) × (at + length (tupleWords (coreTuple 24 syscall (now row) index)) ≤ length (now out)) ⌝ }
     ensures next { λ r. ⌜ r ≡ at + length (tupleWords (coreTuple 24 syscall (now (row .entry)) index)) ⌝ }
     ensures words { λ _. ⌜ now (out .exit) ≡ sets (now (out .entry)) at (tupleWords (coreTuple 24 syscall (now (row .entry)) index)) ⌝ }
 {
@@ -34,7 +33,7 @@ fn put_tuple(row: &[u64], index: usize, syscall: u64, out: &mut [u64], at: usize
 
 // The tuples of a row that the checks passed, from the front of `out`.
 fn put_tuples(row: &[u64], syscall: u64, out: &mut [u64])
-    requires { ⌜ (NUM-COLUMNS ≤ length (now row)) × ((k : ℕ) → k < NUM-COLUMNS → word (now row) k < p) × (NUM-WORDS ≤ length (now out)) ⌝ }
+    requires { ⌜ ElementRow NUM-COLUMNS (now row) × (NUM-WORDS ≤ length (now out)) ⌝ }
     ensures { λ _. ⌜ now (out .exit) ≡ sets (now (out .entry)) 0 (tuplesWords (coreTuple 24 syscall (now (row .entry))) NUM-TUPLES) ⌝ }
 {
     let mut at: usize = 0;

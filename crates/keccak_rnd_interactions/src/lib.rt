@@ -9,11 +9,11 @@ ghost use mathlib.Core.Path.{_≡_};
 ghost use Prim.Native.Nat.{_+_, _<_, _≤_};
 ghost use lib.ListN.{length};
 ghost use lib.Seq.{sets};
+ghost use Rattle.field.specs.Elements.{ElementRow};
 ghost use Rattle.lookup.specs.Words.{tupleWords, tuplesWords};
 ghost use Rattle.evaluation.specs.Call.{valuesAnswer};
 ghost use Rattle.keccak_rnd.specs.Columns.{NUM-COLUMNS};
 ghost use Rattle.keccak_rnd.specs.Tuples.{NUM-TUPLES, roundTuple};
-ghost use Rattle.keccak_rnd_lookup_tuples.specs.Elements.{Elements};
 ghost use Rattle.keccak_rnd_interactions.specs.Words.{NUM-WORDS, roundTuplesAfter};
 
 // Four words for each tuple, and its values.
@@ -21,7 +21,7 @@ pub const NUM_WORDS: usize = 8211;
 
 // Tuple `index`, from `at`; where the next one goes.
 fn put_tuple(row: &[u64], index: usize, out: &mut [u64], at: usize) -> usize
-    requires { ⌜ (NUM-COLUMNS ≤ length (now row)) × Elements (now row) × (index < NUM-TUPLES) × (at + length (tupleWords (roundTuple (now row) index)) ≤ length (now out)) ⌝ }
+    requires { ⌜ ElementRow NUM-COLUMNS (now row) × (index < NUM-TUPLES) × (at + length (tupleWords (roundTuple (now row) index)) ≤ length (now out)) ⌝ }
     ensures next { λ r. ⌜ r ≡ at + length (tupleWords (roundTuple (now (row .entry)) index)) ⌝ }
     ensures words { λ _. ⌜ now (out .exit) ≡ sets (now (out .entry)) at (tupleWords (roundTuple (now (row .entry)) index)) ⌝ }
 {
@@ -33,7 +33,7 @@ fn put_tuple(row: &[u64], index: usize, out: &mut [u64], at: usize) -> usize
 
 // The tuples of a row that the checks passed, from the front of `out`.
 fn put_tuples(row: &[u64], out: &mut [u64])
-    requires { ⌜ (NUM-COLUMNS ≤ length (now row)) × Elements (now row) × (NUM-WORDS ≤ length (now out)) ⌝ }
+    requires { ⌜ ElementRow NUM-COLUMNS (now row) × (NUM-WORDS ≤ length (now out)) ⌝ }
     ensures { λ _. ⌜ now (out .exit) ≡ sets (now (out .entry)) 0 (tuplesWords (roundTuple (now (row .entry))) NUM-TUPLES) ⌝ }
 {
     let mut at: usize = 0;
