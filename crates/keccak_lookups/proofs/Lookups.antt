@@ -21,6 +21,7 @@ use Rattle.matching.specs.Matching.{foundOn, found, matched}
 use Rattle.keccak.specs.Columns.{MU}
 use Rattle.keccak.specs.Tuples.{coreTuple, ecallTuple, addrMemw, coreSent, coreReceived, pointerTuple, alignTuple, addrBytesTuple, laneMemw}
 use Rattle.keccak_tuples.proofs.Tuples.{is-ecall, is-addr, is-sent, is-received, is-pointer, is-align, is-bytes, is-lane, pointer-pair, pointer-low}
+use Rattle.scan.specs.Scan.{unmatched}
 use Rattle.keccak_lookups.specs.Lookups.{lookupFails}
 
 -- a tuple whose multiplicity is 0, one that is looked up, and one that is asked nothing
@@ -40,7 +41,7 @@ free-match t e = go (eqb (t .multiplicity) 0)
 module _ (row : List ℕ) where
   -- tuples that are asked nothing
   free : (i : ℕ) {t : Tuple} → coreTuple 24 0 row i ≡ t → found t ≡ true → lookupFails row i ≡ false
-  unfolding lookupFails
+  unfolding lookupFails unmatched
   free i {t} e f = ap (λ (u : Tuple). not (matched u)) e ∙ ap not (free-match t f)
 
   ecall-free : found (ecallTuple 0 row) ≡ true
@@ -83,7 +84,7 @@ module _ (row : List ℕ) where
 
   module _ (active : word row MU ≡ 0 → ⊥) where
     asked : (i : ℕ) {t : Tuple} → coreTuple 24 0 row i ≡ t → t .multiplicity ≡ word row MU → lookupFails row i ≡ not (found t)
-    unfolding lookupFails
+    unfolding lookupFails unmatched
     asked i {t} e m = ap (λ (u : Tuple). not (matched u)) e ∙ ap not (looked-up t (λ z. active (sym m ∙ z)))
 
     -- the pointers
@@ -156,7 +157,7 @@ module _ (row : List ℕ) where
 -- a row that sends nothing
 module _ (row : List ℕ) (idle : word row MU ≡ 0) where
   quiet : (k : ℕ) {t : Tuple} → coreTuple 24 0 row k ≡ t → t .multiplicity ≡ word row MU → lookupFails row k ≡ false
-  unfolding lookupFails
+  unfolding lookupFails unmatched
   quiet k {t} e m = ap (λ (u : Tuple). not (matched u)) e ∙ ap not (idle-match t (m ∙ idle))
 
   pointer-mu : (i j : ℕ) → pointerTuple row i j .multiplicity ≡ word row MU
