@@ -7,14 +7,14 @@
  * that a caller has to keep; every number and every word is allowed, and the call answers:
  *
  *   number 0   it did its work: the slice begins with what is asked for, and the words past that are as they were;
- *   number N   it is refused, and every word is as it was. The checks are made in the order of their numbers, those of one
- *              number in the order of the arguments, and the first that refuses is told:
+ *   number N   it is refused, and every word is as it was. Unless said below, the checks are made in the order of their
+ *              numbers, those of one number in the order of the arguments, and the first that refuses is told:
  *
  *   N  what is wrong                                                            detail
  *   1  an index, kind, Z, round or number of operations past its end            the least number refused
  *   2  a table or a list that is not whole rows or operations                   0 core, 1 round, 2 list
  *   3  a slice too short                                                        the length needed
- *   4  an address above 2^64 - 193: the 25 lanes would pass 2^64                the first such address
+ *   4  an address above 2^64 - 193: a lane would start past 2^64 - 1            the first such address
  *   5  a column, a word of a judged table or a counter that is not below p      its place in the slice, from 0
  *   6  a wrong mark or a cut record in an operation file                        the byte where the record starts
  *

@@ -12,7 +12,7 @@ use Rattle.answer.specs.declared.Refusal.the-variants.{PastEnd, TooShort, NotEl
 use Rattle.bitwise.specs.Columns.{NUM-LOOKUP-TYPES, NUM-COUNTERS, Z-END}
 use Rattle.bitwise.specs.Row.{row-index}
 
--- Where the counter of a kind stands for X, Y and Z: row · 10 + kind (01-scope.md; the Rust keeps kind · 2^20 + row).
+-- Where the counter of a kind stands for X, Y and Z: row · 10 + kind (the scope; the Rust keeps kind · 2^20 + row).
 abbrev pub counterAt : ℕ → ℕ → ℕ → ℕ → ℕ
 counterAt kind x y z = row-index x y z * NUM-LOOKUP-TYPES + kind
 

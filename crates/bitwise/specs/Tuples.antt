@@ -70,7 +70,7 @@ abbrev pub twenty : List ℕ → ℕ
 twenty row = fadd (half row) (fmul 65536 (word row Z))
 
 -- The values of a kind: what is looked up, then what the row answers. The first value of ByteAlu is 0 for AND, 1 for OR
--- and 2 for XOR (01-scope.md).
+-- and 2 for XOR (the scope).
 abbrev pub kindValues : List ℕ → BitwiseOperationType → List ℕ
 kindValues row kind.Msb8 = word row X ∷ word row MSB8 ∷ []
 kindValues row kind.Msb16 = half row ∷ word row MSB16 ∷ []

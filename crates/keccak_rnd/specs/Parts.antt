@@ -1,14 +1,15 @@
 -- The tables of bytes that a round row is written from, and the row in three parts, as the code writes it.
 -- Assumes nothing.
-use Prim.Native.Nat.{ℕ, _+_, _*_, _/_, _%_, _^_, _-_, _<_}
+use Prim.Native.Nat.{ℕ, _+_, _*_, _/_, _%_, _<_}
 use mathlib.Core.List.{List, [], _∷_}
-use lib.Bits.{bitXor, bitAnd}
+use lib.Bits.{bitXor}
 use lib.Dec.{eqb}
 use lib.ListN.{getD}
 use Rattle.lists.specs.Tab.{pick, tab, word, Group, group}
 use Rattle.bits.specs.Bits.{byteAt, laneByte, wordAt, laneOf, halfword, hwslCarry, leftByte}
 use Rattle.fips202.specs.Lanes.{lane, roundsL}
 use Rattle.fips202.specs.Tables.{roundConstant}
+use Rattle.keccak_rnd.specs.Columns.{cxz-right-bit-for-byte}
 use Rattle.keccak_rnd.specs.Row.{cxzByte, cByte, cxzRightBit, dByte, rotLeftByte, rotRightByte}
 use Rattle.keccak_rnd.specs.Row.{andLanes, byLane, roundRow}
 
@@ -41,7 +42,7 @@ rightBits c = tab 4 (λ h. hwslCarry (halfword (word c) h) 1)
 
 -- the sum of the two parts at a byte: an even byte takes the carry of the halfword below it, byte 0 that of halfword 3
 unfoldable pub joined : List ℕ → List ℕ → ℕ → ℕ
-joined left right b = word left b + pick (eqb (b % 2) 0) (word right ((b / 2 + 3) % 4)) 0
+joined left right b = word left b + pick (eqb (b % 2) 0) (word right (cxz-right-bit-for-byte b)) 0
 
 -- the two parts share no bit, so that each sum is a byte
 abbrev pub Joins : List ℕ → List ℕ → Type 0
@@ -94,15 +95,12 @@ chiGroups r u v =
     ∷ group 1 (λ k. 1)
     ∷ []
 
--- the two parts of ρ of lane (x, y), as lanes; and the ands of χ
+-- the two parts of ρ of lane (x, y), as lanes
 unfoldable pub leftLane : List ℕ → ℕ → ℕ → ℕ
 leftLane t x y = laneOf (rotLeftByte t x y)
 
 unfoldable pub rightLane : List ℕ → ℕ → ℕ → ℕ
 rightLane t x y = laneOf (rotRightByte t x y)
-
-unfoldable pub andAt : List ℕ → ℕ → ℕ → ℕ
-andAt u x y = bitAnd (2 ^ 64 - 1 - lane u ((x + 1) % 5) y) (lane u ((x + 2) % 5) y)
 
 -- ---- the rows of one operation
 -- row j of 24: START is the lanes s after j rounds

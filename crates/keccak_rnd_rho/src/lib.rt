@@ -6,8 +6,8 @@ use permutation::from_planes;
 ghost use mathlib.Core.Path.{_≡_};
 ghost use Prim.Native.Nat.{_<_};
 ghost use Rattle.fips202.specs.Lanes.{grid, plane};
-ghost use Rattle.keccak_rnd.specs.Row.{andLanes};
-ghost use Rattle.keccak_rnd.specs.Parts.{leftLane, rightLane, andAt};
+ghost use Rattle.keccak_rnd.specs.Row.{andAt, andLanes};
+ghost use Rattle.keccak_rnd.specs.Parts.{leftLane, rightLane};
 
 // The low parts of the plane of y, each lane's halfwords shifted by its offset mod 16.
 fn left_plane(t: [u64; 25], y: usize) -> [u64; 5]

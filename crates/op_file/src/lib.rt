@@ -1,6 +1,7 @@
 // The operation file, read in pieces: the sums that `tally` prints, or the first fault.
 use answer::MAX_OPS;
 use answer::Refusal;
+use keccak::LAST_ADDRESS;
 use keccak::MIN_ROWS;
 use operations::table_height;
 ghost use mathlib.Core.Path.{_≡_};
@@ -14,9 +15,6 @@ ghost use Rattle.op_file.specs.Reader.{after, Advanced, wrong, inAddress
 ghost use Rattle.op_file.specs.Reader.{finishOf, start as startOf};
 
 pub const RECORD_BYTES: usize = 418;
-
-// The last address whose 25 lanes end below 2^64.
-const LAST_ADDRESS: u64 = 18446744073709551423;
 
 // Where a reader stands: n whole records and `at` bytes of the next, whose address bytes so far make addr; or the first
 // fault.
@@ -178,7 +176,7 @@ fn advance(n: u64, at: usize, addr: u64, s: &[u8]) -> Part
         if at == 0 {
             if s.len() >= RECORD_BYTES {
                 return Part {
-                    cursor: read_record(n, &s[..418]),
+                    cursor: read_record(n, &s[..RECORD_BYTES]),
                     used: RECORD_BYTES,
                 };
             }

@@ -1,10 +1,11 @@
 -- The statements of the project on one page, each beside the sentence that asks for it. Each is proved in the crate that
 -- it is about and only cited here, so what a reader reads is what the gate has checked. Assumes nothing.
-use mathlib.Core.Path.{_≡_, refl, sym, _∙_}
+use mathlib.Core.Path.{_≡_, refl, sym, ap, _∙_}
 use mathlib.Core.Option.{some}
-use mathlib.Core.Logic.{_⊎_}
+use mathlib.Core.Logic.{_⊎_, _↔_}
 use mathlib.Core.List.{List, [], _∷_, _++_}
 use Prim.Native.Nat.{ℕ, suc, _+_, _*_, _%_, _^_, _≤_, _<_}
+use native.Mathlib.Nat.{zero-div}
 use native.Mathlib.Omega.{arith}
 use lib.ListN.{length, replicate}
 use Rattle.lists.specs.Tab.{word}
@@ -13,7 +14,10 @@ use Rattle.field.proofs.Field.{inv-shift-32}
 use Rattle.answer.specs.Refusal.{accepted}
 use Rattle.answer.specs.declared.Refusal.the-variants.{HighAddress}
 use Rattle.fips202.specs.Fips.{Agree, rnd, keccakF}
+use Rattle.bits.specs.Bits.{byteAt}
 use Rattle.fips202.specs.Lanes.{Lanes, bits}
+use Rattle.fips202.specs.Tables.{roundConstant}
+use Rattle.fips202.proofs.Tables.{constant-past}
 use Rattle.bitwise.specs.Columns.{SLL, SLLC}
 use Rattle.bitwise.specs.Row.{bitwiseRow}
 use Rattle.bitwise.proofs.Cases.{row-0, row-266804, row-1048575}
@@ -21,7 +25,7 @@ use Rattle.keccak.specs.Row.{stateLanes}
 use Rattle.keccak.specs.Refusals.{operationsRefusal}
 use Rattle.keccak.specs.declared.KeccakOperation.{KeccakOperation}
 use Rattle.keccak.proofs.Refusals.{highest-accepted, next-refused}
-use Rattle.keccak_rnd.specs.Columns.{MU, ROUND, START, THETA}
+use Rattle.keccak_rnd.specs.Columns.{MU, ROUND, START, THETA, rc}
 use Rattle.keccak_rnd.specs.Row.{roundRow, opRow, roundHeight, padding-are-bytes}
 use Rattle.keccak_rnd.specs.Tuples.{outLanes}
 use Rattle.keccak_rnd.specs.Passes.{RoundPasses}
@@ -29,17 +33,20 @@ use Rattle.keccak_rnd.specs.Carries.{Carries}
 use Rattle.keccak_rnd.proofs.Carries.{carries}
 use Rattle.keccak_rnd.proofs.Cases.{heights, paddings, row-zero-0, row-zero-23, row-ones-0, row-one-theta}
 use Rattle.keccak_rnd.proofs.Cells.{written-cells}
+use Rattle.keccak_rnd.proofs.Completeness.{round-written}
 use Rattle.keccak_rnd.proofs.Soundness.{round-unique}
 use Rattle.keccak_rnd.proofs.Step.{round-fips, op-start, op-step, op-fips}
-use Rattle.verdict.specs.Kind.{Active, SameTimestamp, row}
+use Rattle.verdict.specs.Kind.{Active, SameTimestamp, row, actives}
 use Rattle.verdict.specs.CoreAndRound.{coreLayout, roundLayout, coreKind, roundKind, verdictOf}
-use Rattle.verdict.specs.Claims.{Supposed, Claims}
+use Rattle.verdict.specs.Claims.{Supposed, Claims, Answers, EachActive, Computed, operations, ourRounds}
 use Rattle.verdict.specs.Failures.{ToRepeat, ToCoreBalance}
 use Rattle.verdict.specs.declared.Table.the-variants.{Core, Round}
-use Rattle.verdict.specs.declared.Verdict.the-variants.{Repeated, Unbalanced}
+use Rattle.verdict.specs.declared.Verdict.{Verdict}
+use Rattle.verdict.specs.declared.Verdict.the-variants.{Holds, Repeated, Unbalanced}
 use Rattle.verdict.proofs.Demand3.{demand3}
 use Rattle.verdict.proofs.Failures.{timestamp-twice}
 use Rattle.verdict.proofs.Late.{late-row}
+use Rattle.judge.proofs.Tied.{Answered, Wrote, holds-answered, ours-written, written-answers}
 
 -- ---- demand 3: "Suppose a core table, whoever filled it, passes its constraints and lookups .." (verdict/specs/Claims.antt)
 pub the-demand : (core : List ℕ) → Supposed core → Claims core
@@ -127,8 +134,34 @@ pub case-timestamp : (core round : List ℕ) → ToRepeat (coreKind 24) roundKin
     (s : ℕ) × (s ≤ r) × (verdictOf core round ≡ Repeated s)
 case-timestamp = timestamp-twice (coreKind 24) roundKind
 
--- "A row with ROUND 24, zero constant and MU 1 passes its values and lookups, and the bus is unbalanced."
+-- "A row with ROUND 24, zero constant and MU 1 passes its values and lookups, ..": that of any START
+pub case-late-passes : (stamp : ℕ → ℕ) (s : List ℕ) → Lanes s →
+    RoundPasses (roundRow stamp 24 s)
+    × (word (roundRow stamp 24 s) ROUND ≡ 24)
+    × ((b : ℕ) → b < 8 → word (roundRow stamp 24 s) (rc b) ≡ 0)
+    × (word (roundRow stamp 24 s) MU ≡ 1)
+case-late-passes stamp s h =
+    let w = written-cells stamp 24 s in
+    let none : (b : ℕ) → byteAt (roundConstant 24) b ≡ 0 = λ b. ap (λ (c : ℕ). byteAt c b) (constant-past 24 (omega arith)) ∙ ap (λ (n : ℕ). n % 256) (zero-div (2 ^ (8 * b))) in
+    (round-written stamp 24 s h (omega arith), w .round-is, (λ b l. w .rc-is b l ∙ none b), w .mu-is)
+
+-- ".. and the bus is unbalanced.": in tables whose earlier checks find nothing
 pub case-late : (core round : List ℕ) → ToCoreBalance (coreKind 24) roundKind core round → (q : ℕ) → Active roundLayout round q →
     24 ≤ word (row roundLayout round q) ROUND →
     (r i : ℕ) × ((verdictOf core round ≡ Unbalanced Core r i) ⊎ (verdictOf core round ≡ Unbalanced Round r i))
 case-late = late-row 24
+
+-- ---- the code's tie to demand 3 (judge/proofs/Tied.antt: `Answered` and `Wrote` are the two contracts' words)
+-- "exactly for such a round table the verdict is 'holds' with the number of active core rows": of what `verdict` answers
+module _ (core : List ℕ) (supposed : Supposed core) where
+  pub code-holds : (round : List ℕ) (v : Verdict) → Answered core round v → (v ≡ Holds (actives coreLayout core)) ↔ Answers 24 core round
+  code-holds = holds-answered core supposed
+
+  -- "the table our writer makes from the active core rows is one of them": of what `generate_keccak_rnd_trace` writes
+  pub code-writes : (before after : List ℕ) → length before ≡ length (ourRounds 24 4 core) → Wrote (operations core) before after →
+      after ≡ ourRounds 24 4 core
+  code-writes = ours-written core supposed
+
+  pub code-answers : EachActive (Computed 24) core → (before after : List ℕ) → length before ≡ length (ourRounds 24 4 core) →
+      Wrote (operations core) before after → (v : Verdict) → Answered core after v → Answers 24 core after × (v ≡ Holds (actives coreLayout core))
+  code-answers = written-answers core supposed

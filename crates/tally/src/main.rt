@@ -4,26 +4,39 @@ use libc::STDOUT_FILENO;
 use op_file::Cursor;
 use op_file::Tally;
 use tally_text::put_tally;
-ghost use Prim.Native.Nat.{_≤_};
-ghost use lib.ListN.{length};
+ghost use Prim.Native.Nat.{ℕ, _≤_};
+ghost use mathlib.Core.Path.{_≡_};
+ghost use mathlib.Core.List.{List};
+ghost use lib.ListN.{length, take};
+ghost use lib.Seq.{sets};
+ghost use Rattle.op_file.specs.Reader.{feedOf, start};
+ghost use Rattle.tally_text.specs.Output.{textOf};
 
+// Where the reader stands after a read, how many bytes came, and whether the read failed.
 struct Turn {
     cursor: Cursor,
     got: usize,
+    failed: bool,
 }
 
-// Reads once, and feeds what came.
-fn read_some(c: Cursor, buf: &mut [u8]) -> Turn {
+// Reads once, and feeds what came. What came is what the buffer then holds: no contract says what a file holds.
+fn read_some(c: Cursor, buf: &mut [u8]) -> Turn
+    ensures { λ r. ⌜ (r .cursor ≡ feedOf c (take (r .got) (now (buf .exit)))) × (r .got ≤ length (now (buf .exit))) ⌝ }
+{
     let got = libc::read(STDIN_FILENO, buf);
     let n = io::count(got, buf);
     Turn {
         cursor: op_file::feed(c, &buf[..n]),
         got: n,
+        failed: got < 0,
     }
 }
 
-// Reads to the end, a fault, or past the most bytes that a file may have.
-fn read_all() -> Cursor {
+// Reads to the end, a failed read, a fault, or past the most bytes that a file may have. The reader stands where the
+// bytes that came take it.
+fn read_all() -> Turn
+    ensures { λ r. ⌜ ((file : List ℕ) × (r .cursor ≡ feedOf start file)) ⌝ }
+{
     let mut space = io::large_buffer();
     let buf: &mut [u8] = &mut space;
     let mut c = op_file::start();
@@ -32,28 +45,41 @@ fn read_all() -> Cursor {
         let t = read_some(c, buf);
         c = t.cursor;
         if t.got == 0 {
-            return c;
+            return t;
         }
         if op_file::is_refused(c) {
-            return c;
+            return t;
         }
         if left <= t.got {
-            return c;
+            return t;
         }
         left -= t.got;
     }
-    c
+    Turn {
+        cursor: c,
+        got: 0,
+        failed: false,
+    }
 }
 
-// Writes the lines.
+// Writes the lines, which it first puts in the lent bytes; what reaches the file no contract says.
 fn write_tally(tally: Tally, out: &mut [u8])
     requires { ⌜ 512 ≤ length (now out) ⌝ }
+    ensures { λ _. ⌜ now (out .exit) ≡ sets (now (out .entry)) 0 (textOf tally) ⌝ }
 {
     let n = put_tally(tally, out);
     io::write_all(STDOUT_FILENO, &out[..n]);
 }
 
+// Without an `ensures`: it takes and answers nothing, and of the two files no contract speaks. A failed read is told on
+// standard error, and no line is written.
 fn main() {
     let mut space = [0u8; 512];
-    write_tally(op_file::finish(read_all()), &mut space);
+    let t = read_all();
+    if t.failed {
+        os::fail(b"standard input");
+        return;
+    }
+    let c = t.cursor;
+    write_tally(op_file::finish(c), &mut space);
 }

@@ -1,5 +1,6 @@
 // Prints what `tally` says of files that are built here: a line with the file's name, then its lines. The file `stdout` has
 // the same lines from elsewhere.
+use keccak::LAST_ADDRESS;
 use libc::STDOUT_FILENO;
 use op_file::Cursor;
 use op_file::feed;
@@ -8,9 +9,7 @@ use op_file::start;
 use tally_text::put_tally;
 ghost use Prim.Native.Nat.{_≤_};
 
-// The highest address whose 25 lanes end below 2^64, and the next.
-const LAST: u64 = 18446744073709551423;
-
+// The first address that is refused.
 const HIGH: u64 = 18446744073709551424;
 
 // Byte k of a number, lowest first.
@@ -113,7 +112,7 @@ fn wrong_marks() {
 }
 
 fn high_addresses() {
-    let file = records(LAST, HIGH);
+    let file = records(LAST_ADDRESS, HIGH);
     print_first(b"highest address\n", &file, 418);
     print_first(b"high address in record 2\n", &file, 836);
     print_bytes(b"high address in record 2, byte by byte\n", &file);

@@ -6,20 +6,19 @@ use native.Mathlib.Nat.{pow-suc}
 use native.Mathlib.Numerals.{add-one}
 use native.Mathlib.Omega.{arith}
 use lib.ListN.{length, getD, take, drop, set, length-append, length-drop, length-set}
-use lib.Seq.{take-suc, take-suc-set, drop-cons, getD-set-same, drop-set-lt, take-all}
+use lib.Seq.{take-suc, drop-cons, getD-set-same, drop-set-lt, take-all, take-at, length-take-le, sets, length-sets}
 use borrow.Author.Tests.{lt-ltb, le-ltb}
+use Rattle.lists.proofs.Laws.{sets-append, sets-front}
 use Rattle.text.specs.Text.{digitsOf, Puts}
 
 -- one more byte
-pub put-more : (out s base : List ℕ) (at i : ℕ) → at + i < length out → i < length s → take (at + i) out ≡ base ++ take i s → take (at + (i + 1)) (set out (at + i) (getD s i 0)) ≡ base ++ take (i + 1) s
-put-more out s base at i l h e =
+pub put-more : (a s : List ℕ) (at i : ℕ) → i < length s → set (sets a at (take i s)) (at + i) (getD s i 0) ≡ sets a at (take (i + 1) s)
+put-more a s at i h =
     let x = getD s i 0 in
-    let n : at + (i + 1) ≡ suc (at + i) = omega arith in
-    ap (λ (k : ℕ). take k (set out (at + i) x)) n
-    ∙ take-suc-set out (at + i) x l
-    ∙ ap (λ (t : List ℕ). t ++ (x ∷ [])) e
-    ∙ append-assoc base (take i s) (x ∷ [])
-    ∙ ap (λ (t : List ℕ). base ++ t) (sym (take-suc s i 0 h) ∙ ap (λ (k : ℕ). take k s) (sym (add-one i)))
+    let l : i ≤ length s = omega arith in
+    ap (λ (k : ℕ). set (sets a at (take i s)) (at + k) x) (sym (length-take-le i s l))
+    ∙ sets-append a at (take i s) (x ∷ [])
+    ∙ ap (sets a at) (sym (take-suc s i 0 h) ∙ ap (λ (k : ℕ). take k s) (sym (add-one i)))
 
 -- after a store at i, what stands from i on
 drop-set : (b : List ℕ) (i x : ℕ) → i < length b → drop i (set b i x) ≡ x ∷ drop (i + 1) b
@@ -62,25 +61,32 @@ digit-last d b i rest x l h f e =
 
 module _ {a s b : List ℕ} {at r : ℕ} where
   pub puts-as : {t : List ℕ} → Puts a at s b r → s ≡ t → Puts a at t b r
-  puts-as p e = record { ends = p .ends ∙ ap (λ (x : List ℕ). at + length x) e; stands = p .stands ∙ ap (λ (x : List ℕ). take at a ++ x) e; long = p .long }
+  puts-as p e = record { ends = p .ends ∙ ap (λ (x : List ℕ). at + length x) e; is = p .is ∙ ap (sets a at) e }
 
   -- one text after another
   pub puts-then : {t d : List ℕ} {q : ℕ} → Puts a at s b r → Puts b r t d q → Puts a at (s ++ t) d q
   puts-then {t} p n =
       record {
         ends = omega (arith, p .ends, n .ends, length-append s t);
-        stands = n .stands ∙ ap (λ (x : List ℕ). x ++ t) (p .stands) ∙ append-assoc (take at a) s t;
-        long = n .long ∙ p .long;
+        is =
+            n .is
+            ∙ ap (λ (x : List ℕ). sets x r t) (p .is)
+            ∙ ap (λ (k : ℕ). sets (sets a at s) k t) (p .ends)
+            ∙ sets-append a at s t;
       }
 
+  pub puts-long : Puts a at s b r → length b ≡ length a
+  puts-long p = ap length (p .is) ∙ length-sets a at s
+
+-- a text from the front on is what the first r bytes are
+pub puts-front : {a s b : List ℕ} {r : ℕ} → Puts a 0 s b r → r ≤ length a → take r b ≡ s
+puts-front {a} {s} {b} {r} p l =
+    let e : length s ≡ r = omega (arith, p .ends) in
+    ap (take r) (p .is ∙ sets-front a s r e l) ∙ take-at s (drop r a) r e
+
 -- one byte
-pub puts-byte : (a : List ℕ) (at x : ℕ) → at < length a → Puts a at (x ∷ []) (set a at x) (at + 1)
-puts-byte a at x l =
-    record {
-      ends = refl;
-      stands = ap (λ (k : ℕ). take k (set a at x)) (add-one at) ∙ take-suc-set a at x l;
-      long = length-set a at x;
-    }
+pub puts-byte : (a : List ℕ) (at x : ℕ) → Puts a at (x ∷ []) (set a at x) (at + 1)
+puts-byte a at x = record { ends = refl; is = refl }
 
 -- what is left of an array from a place on
 pub rest-of : (b : List ℕ) (i k : ℕ) → length b ≤ k + i → take k (drop i b) ≡ drop i b

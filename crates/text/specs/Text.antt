@@ -2,7 +2,8 @@
 use Prim.Native.Nat.{ℕ, zero, suc, _+_, _/_, _%_}
 use mathlib.Core.Path.{_≡_}
 use mathlib.Core.List.{List, [], _∷_, _++_}
-use lib.ListN.{length, take}
+use lib.ListN.{length}
+use lib.Seq.{sets}
 use lib.Dec.{ltb}
 use Rattle.lists.specs.Tab.{pick}
 
@@ -19,8 +20,7 @@ decimalOf n = digitsOf 20 n
 unfoldable pub lineOf : List ℕ → ℕ → List ℕ
 lineOf name n = name ++ decimalOf n ++ (10 ∷ [])
 
--- text s stands in b up to r, after what stood in a up to at
+-- b is a with text s stored from `at` on, and r is where the text ends
 pub record Puts (a : List ℕ) (at : ℕ) (s b : List ℕ) (r : ℕ) : Type 0 where
   pub ends : r ≡ at + length s
-  pub stands : take r b ≡ take at a ++ s
-  pub long : length b ≡ length a
+  pub is : b ≡ sets a at s

@@ -2,11 +2,11 @@
 use mathlib.Core.List.{List}
 use Prim.Native.Nat.{ℕ}
 use Rattle.keccak.specs.Columns as core
-use Rattle.keccak.specs.Values.{coreValue}
-use Rattle.keccak.specs.Tuples.{coreTuple}
+use Rattle.keccak.specs.Values.{NUM-VALUES as CORE-VALUES, coreValue}
+use Rattle.keccak.specs.Tuples.{NUM-TUPLES as CORE-TUPLES, coreTuple}
 use Rattle.keccak_rnd.specs.Columns as round
-use Rattle.keccak_rnd.specs.Values.{roundValue}
-use Rattle.keccak_rnd.specs.Tuples.{roundTuple}
+use Rattle.keccak_rnd.specs.Values.{NUM-VALUES as ROUND-VALUES, roundValue}
+use Rattle.keccak_rnd.specs.Tuples.{NUM-TUPLES as ROUND-TUPLES, roundTuple}
 use Rattle.verdict.specs.Kind.{Layout, Kind}
 use Rattle.verdict.specs.Verdict.{judged}
 use Rattle.verdict.specs.declared.Verdict.{Verdict}
@@ -22,11 +22,11 @@ roundLayout = record { width = round.NUM-COLUMNS; mu = round.MU }
 -- "52 values per core row", "84 per core row". The syscall number, here 0, stands in the Ecall tuple only, which is
 -- not looked up; nr stands in the Keccak tuple that a core row sends, at round 24 - nr.
 abbrev pub coreKind : ℕ → Kind
-coreKind nr = record { layout = coreLayout; values = 52; value = coreValue; tuples = 84; tuple = coreTuple nr 0 }
+coreKind nr = record { layout = coreLayout; values = CORE-VALUES; value = coreValue; tuples = CORE-TUPLES; tuple = coreTuple nr 0 }
 
 -- "141 per round row", "1,031 per round row"
 abbrev pub roundKind : Kind
-roundKind = record { layout = roundLayout; values = 141; value = roundValue; tuples = 1031; tuple = roundTuple }
+roundKind = record { layout = roundLayout; values = ROUND-VALUES; value = roundValue; tuples = ROUND-TUPLES; tuple = roundTuple }
 
 -- the verdict on a core table and a round table for nr rounds
 abbrev pub verdictAt : ℕ → List ℕ → List ℕ → Verdict

@@ -5,7 +5,7 @@ use native.Mathlib.Omega.{arith}
 use lib.ListN.{length, getD, length-set}
 use Rattle.lists.proofs.Laws.{Filled, filled-none, filled-next, filled-whole}
 use Rattle.fips202.specs.Lanes.{plane}
-use Rattle.keccak_rnd.specs.Parts.{andAt}
+use Rattle.keccak_rnd.specs.Row.{andAt}
 use Rattle.keccak_rnd_rho.proofs.and_plane.Statement.{statement}
 use Rattle.keccak_rnd_rho.proofs.and_plane.Tie as tie
 

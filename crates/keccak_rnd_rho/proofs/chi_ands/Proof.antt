@@ -1,8 +1,7 @@
 -- `chi_ands` meets its contract: it is made of its planes. Assumes nothing.
 use mathlib.Core.Path.{_∙_}
 use borrow.Author.Needs.{needs}
-use Rattle.keccak_rnd.specs.Row.{andLanes}
-use Rattle.keccak_rnd.specs.Parts.{andAt}
+use Rattle.keccak_rnd.specs.Row.{andAt, andLanes}
 use Rattle.fips202.proofs.Steps.{planes-grid}
 use Rattle.keccak_rnd_rho.proofs.chi_ands.Statement.{statement}
 use Rattle.keccak_rnd_rho.proofs.chi_ands.Tie as tie
@@ -26,7 +25,7 @@ from-planes-requires : tie.Need-from-planes-requires
 from-planes-requires c κs = search needs
 
 returns : tie.Need-returns
-unfolding andAt andLanes
+unfolding andLanes
 returns c =
     let c5 = c .before in
     let c4 = c5 .before in

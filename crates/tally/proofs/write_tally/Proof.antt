@@ -1,4 +1,5 @@
 -- `tally::write_tally` meets its contract: the lines fit the lent bytes. Assumes nothing.
+use Rattle.text.proofs.Laws.{puts-long}
 use lib.Seq.{length-take-le}
 use lib.ListN.{length}
 use mathlib.Core.Path.{sym}
@@ -12,12 +13,12 @@ put-tally-requires : tie.Need-put-tally-requires
 put-tally-requires c κs = search needs
 
 slice-reshare-prefix-write-all : tie.Need-slice-reshare-prefix-write-all
-slice-reshare-prefix-write-all c = let p = c .before .before .put-tally .ensures in omega (arith, p .1, p .0 .long, c .before .before .before .before .before .pre)
+slice-reshare-prefix-write-all c = let p = c .before .before .put-tally .ensures in omega (arith, p .1, puts-long (p .0), c .before .before .before .before .before .pre)
 
 slice-aggregate-write-all : tie.Need-slice-aggregate-write-all
 slice-aggregate-write-all c =
     let p = c .before .before .before .put-tally in
-    let l : p .result ≤ length (p .last .1 .0) = omega (arith, p .ensures .1, p .ensures .0 .long, c .before .before .before .before .before .before .pre) in
+    let l : p .result ≤ length (p .last .1 .0) = omega (arith, p .ensures .1, puts-long (p .ensures .0), c .before .before .before .before .before .before .pre) in
     sym (length-take-le (p .result) (p .last .1 .0) l)
 
 write-all-requires : tie.Need-write-all-requires
@@ -27,7 +28,7 @@ same-length : tie.Need-same-length
 same-length c = search needs
 
 returns : tie.Need-returns
-returns c = search needs
+returns c = c .before .before .before .before .put-tally .ensures .0 .is
 
 pub write-tally-spec : {M : Type 1} → statement M
 write-tally-spec =

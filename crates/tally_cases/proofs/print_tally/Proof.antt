@@ -5,6 +5,7 @@ use native.Mathlib.Omega.{arith}
 use lib.ListN.{length}
 use lib.Seq.{length-take-le}
 use borrow.Author.Needs.{needs}
+use Rattle.text.proofs.Laws.{puts-long}
 use Rattle.tally_cases.proofs.print_tally.Statement.{statement}
 use Rattle.tally_cases.proofs.print_tally.Tie as tie
 
@@ -23,7 +24,7 @@ array-share-prefix-space c = search needs
 slice-aggregate-write-all : tie.Need-slice-aggregate-write-all
 slice-aggregate-write-all c =
     let p = c .before .before .put-tally in
-    let l : p .result ≤ length (p .last .1 .0) = omega (arith, p .ensures .1, p .ensures .0 .long) in
+    let l : p .result ≤ length (p .last .1 .0) = omega (arith, p .ensures .1, puts-long (p .ensures .0)) in
     sym (length-take-le (p .result) (p .last .1 .0) l)
 
 write-all-requires : tie.Need-write-all-requires

@@ -1,23 +1,22 @@
 -- `text::put` meets its contract: after i turns i bytes are stored. Assumes nothing.
 use Rattle.text.proofs.Laws.{put-more}
-use lib.Seq.{take-length}
-use lib.ListN.{length, take, length-set}
-use native.Mathlib.Nat.{add-zero}
+use lib.Seq.{sets, take-length}
+use lib.ListN.{length, getD, set, take, length-set}
 use native.Mathlib.Omega.{arith}
-use mathlib.Core.List.{List, [], _++_, append-nil}
-use mathlib.Core.Path.{_≡_, ap, sym, _∙_, refl}
+use mathlib.Core.List.{List}
+use mathlib.Core.Path.{_≡_, ap, _∙_, refl}
 use Prim.Native.Nat.{ℕ, _+_, _-_, _≤_}
 use Rattle.text.proofs.put.Statement.{statement}
 use Rattle.text.proofs.put.Tie as tie
 
 abbrev Inv-loop : tie.InvT-loop
-Inv-loop out₀ at s i₀ out i = (i ≤ length s) × (length out ≡ length out₀) × (take (at + i) out ≡ take at out₀ ++ take i s)
+Inv-loop out₀ at s i₀ out i = (i ≤ length s) × (length out ≡ length out₀) × (out ≡ sets out₀ at (take i s))
 
 abbrev μ-loop : tie.MeasureT-loop
 μ-loop out₀ at s i₀ out i = length s - i
 
 loop-holds : tie.Need-loop-holds Inv-loop μ-loop
-loop-holds c = (omega arith, refl, ap (λ (k : ℕ). take k (c .args .out .now)) (add-zero (c .args .at)) ∙ sym (append-nil _))
+loop-holds c = (omega arith, refl, refl)
 
 shared-slice-read-out : tie.Need-shared-slice-read-out Inv-loop μ-loop
 shared-slice-read-out c = omega arith
@@ -38,7 +37,7 @@ loop-again : tie.Need-loop-again Inv-loop μ-loop
 loop-again c =
     let lp = c .before .before .loop in
     let a = c .before .before .before .args in
-    (omega arith, simp length-set (lp .inv .1), put-more (lp .out) (a .s .now) (take (a .at) (a .out .now)) (a .at) (lp .i) (omega arith) (omega arith) (lp .inv .2))
+    (omega arith, simp length-set (lp .inv .1), ap (λ (t : List ℕ). set t (a .at + lp .i) (getD (a .s .now) (lp .i) 0)) (lp .inv .2) ∙ put-more (a .out .now) (a .s .now) (a .at) (lp .i) (omega arith))
 
 add-result : tie.Need-add-result Inv-loop μ-loop
 add-result c = omega arith
@@ -49,9 +48,9 @@ same-length c = c .before .loop .inv .1
 returns : tie.Need-returns Inv-loop μ-loop
 returns c =
     let lp = c .before .loop in
-    let s = c .before .before .args .s .now in
-    let e : lp .i ≡ length s = omega arith in
-    record { ends = omega arith; stands = lp .inv .2 ∙ ap (λ (k : ℕ). take (c .before .before .args .at) (c .before .before .args .out .now) ++ take k s) e ∙ ap (λ (t : List ℕ). take (c .before .before .args .at) (c .before .before .args .out .now) ++ t) (take-length s); long = lp .inv .1 }
+    let a = c .before .before .args in
+    let e : lp .i ≡ length (a .s .now) = omega arith in
+    record { ends = omega arith; is = lp .inv .2 ∙ ap (sets (a .out .now) (a .at)) (ap (λ (k : ℕ). take k (a .s .now)) e ∙ take-length (a .s .now)) }
 
 pub put-spec : {M : Type 1} → statement M
 put-spec =

@@ -1,5 +1,5 @@
 -- `text::put_line` meets its contract: the name, the number, a line end. Assumes nothing.
-use Rattle.text.proofs.Laws.{puts-then, puts-byte}
+use Rattle.text.proofs.Laws.{puts-then, puts-byte, puts-long}
 use Rattle.text.specs.Text.{lineOf}
 use lib.ListN.{length-set}
 use native.Mathlib.Omega.{arith}
@@ -24,14 +24,14 @@ same-length : tie.Need-same-length
 same-length c =
     let p = c .before .before .before .before .before .before .put .ensures in
     let q = c .before .before .put-decimal .ensures .0 in
-    length-set (c .before .before .put-decimal .last .0) (c .before .before .put-decimal .result) 10 ∙ q .long ∙ p .long
+    length-set (c .before .before .put-decimal .last .0) (c .before .before .put-decimal .result) _ ∙ puts-long q ∙ puts-long p
 
 returns : tie.Need-returns
 unfolding lineOf
 returns c =
     let p = c .before .before .before .before .before .before .put .ensures in
     let q = c .before .before .put-decimal .ensures in
-    (puts-then (puts-then p (q .0)) (puts-byte _ _ 10 (omega (arith, q .0 .long, p .long, q .1, p .ends))), omega (arith, q .1, p .ends))
+    (puts-then (puts-then p (q .0)) (puts-byte _ _ 10), omega (arith, q .1, p .ends))
 
 pub put-line-spec : {M : Type 1} → statement M
 put-line-spec =
