@@ -26,28 +26,25 @@ mu-lt kind.ByteAluOr = omega arith
 mu-lt kind.ByteAluXor = omega arith
 
 module _ (row other : List ℕ) (same : Alike NUM-COLUMNS row other) where
-  at : (k : ℕ) → k < NUM-COLUMNS → word row k ≡ word other k
-  at k h = same k h
-
   half-same : half row ≡ half other
-  half-same = let x = at X (omega arith) in let y = at Y (omega arith) in λ t. fadd (x t) (fmul 256 (y t))
+  half-same = let x = same X (omega arith) in let y = same Y (omega arith) in λ t. fadd (x t) (fmul 256 (y t))
 
   twenty-same : twenty row ≡ twenty other
-  twenty-same = let z = at Z (omega arith) in λ t. fadd (half-same t) (fmul 65536 (z t))
+  twenty-same = let z = same Z (omega arith) in λ t. fadd (half-same t) (fmul 65536 (z t))
 
   -- a ByteAlu tuple whose answer stands in a column
   alu-same : (op k : ℕ) → k < NUM-COLUMNS → (op ∷ word row X ∷ word row Y ∷ word row k ∷ []) ≡ (op ∷ word other X ∷ word other Y ∷ word other k ∷ [])
-  alu-same op k h = let x = at X (omega arith) in let y = at Y (omega arith) in λ t. op ∷ x t ∷ y t ∷ at k h t ∷ []
+  alu-same op k h = let x = same X (omega arith) in let y = same Y (omega arith) in λ t. op ∷ x t ∷ y t ∷ same k h t ∷ []
 
   values-same : (k : BitwiseOperationType) → kindValues row k ≡ kindValues other k
-  values-same kind.Msb8 = let x = at X (omega arith) in let a = at MSB8 (omega arith) in λ t. x t ∷ a t ∷ []
-  values-same kind.Msb16 = let a = at MSB16 (omega arith) in λ t. half-same t ∷ a t ∷ []
-  values-same kind.Zero = let a = at ZERO (omega arith) in λ t. twenty-same t ∷ a t ∷ []
-  values-same kind.AreBytes = let x = at X (omega arith) in let y = at Y (omega arith) in λ t. x t ∷ y t ∷ []
+  values-same kind.Msb8 = let x = same X (omega arith) in let a = same MSB8 (omega arith) in λ t. x t ∷ a t ∷ []
+  values-same kind.Msb16 = let a = same MSB16 (omega arith) in λ t. half-same t ∷ a t ∷ []
+  values-same kind.Zero = let a = same ZERO (omega arith) in λ t. twenty-same t ∷ a t ∷ []
+  values-same kind.AreBytes = let x = same X (omega arith) in let y = same Y (omega arith) in λ t. x t ∷ y t ∷ []
   values-same kind.IsHalf = λ t. half-same t ∷ []
   values-same kind.IsB20 = λ t. twenty-same t ∷ []
   values-same kind.Hwsl =
-      let z = at Z (omega arith) in let a = at SLL (omega arith) in let c = at SLLC (omega arith) in
+      let z = same Z (omega arith) in let a = same SLL (omega arith) in let c = same SLLC (omega arith) in
       λ t. half-same t ∷ z t ∷ a t ∷ c t ∷ []
   values-same kind.ByteAluAnd = alu-same 0 AND (omega arith)
   values-same kind.ByteAluOr = alu-same 1 OR (omega arith)

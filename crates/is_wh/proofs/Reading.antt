@@ -1,10 +1,8 @@
 -- A row's tuples read only its four columns. Assumes nothing.
-use mathlib.Core.Path.{_≡_}
-use mathlib.Core.List.{List, [], _∷_}
-use Prim.Native.Nat.{ℕ, _<_, _^_}
+use mathlib.Core.List.{[], _∷_}
+use Prim.Native.Nat.{_^_}
 use native.Mathlib.Omega.{arith}
-use Rattle.lists.specs.Tab.{word}
-use Rattle.lists.proofs.Reading.{Alike, ReadsFirst, then-same}
+use Rattle.lists.proofs.Reading.{ReadsFirst, then-same}
 use Rattle.field.specs.Field.{fadd, fmul}
 use Rattle.lookup.specs.Tuple.{sender, receiver}
 use Rattle.lookup.specs.declared.Bus.the-variants.{IsWh, IsHalfword, IsB20}

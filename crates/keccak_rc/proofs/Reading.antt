@@ -1,11 +1,9 @@
 -- A row's tuple reads only its ten columns. Assumes nothing.
 use mathlib.Core.Path.{_≡_}
-use mathlib.Core.List.{List}
-use Prim.Native.Nat.{ℕ, _<_}
 use native.Mathlib.Omega.{arith}
 use Rattle.lists.specs.Tab.{tab, word}
 use Rattle.lists.proofs.Laws.{tab-same}
-use Rattle.lists.proofs.Reading.{Alike, ReadsFirst}
+use Rattle.lists.proofs.Reading.{ReadsFirst}
 use Rattle.lookup.specs.Tuple.{receiver}
 use Rattle.lookup.specs.declared.Bus.the-variants.{KeccakRc}
 use Rattle.lookup.proofs.Reading.{RestNotRead, tuple-rest}

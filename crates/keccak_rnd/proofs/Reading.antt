@@ -20,7 +20,7 @@ use Rattle.answer.specs.Limits.{MAX-OPS}
 use Rattle.fips202.specs.Lanes.{roundsL}
 use Rattle.templates.specs.Templates.{isBit}
 use Rattle.lookup.specs.Tuple.{sender, receiver}
-use Rattle.lookup.specs.declared.Bus.the-variants.{ByteAlu, AreBytes, KeccakRc, Keccak}
+use Rattle.lookup.specs.declared.Bus.the-variants.{ByteAlu, KeccakRc, Keccak}
 use Rattle.lookup.proofs.Reading.{RestNotRead, long-enough, tuple-rest}
 use Rattle.keccak.specs.Height.{MIN-ROWS}
 use Rattle.keccak.specs.Row.{OP-WORDS, LAST-ADDRESS, opAt}

@@ -1,9 +1,8 @@
 -- A call for a tuple reads of the lent row its columns only: what it answers, and what it leaves in the lent slice, is the
 -- same for any two rows that are long enough and alike in their columns. Assumes nothing.
-use mathlib.Core.Path.{_≡_, refl, sym, ap, _∙_}
-use mathlib.Core.Bool.{Bool}
+use mathlib.Core.Path.{_≡_, sym, ap, _∙_}
 use mathlib.Core.List.{List}
-use mathlib.Core.Option.{Option, some}
+use mathlib.Core.Option.{some}
 use Prim.Native.Nat.{ℕ, _≤_, _<_}
 use borrow.Author.Tests.{le-leb, le-ltb}
 use lib.Dec.{leb, ltb}
@@ -11,13 +10,11 @@ use lib.ListN.{length, take}
 use Rattle.lists.proofs.Then.{by-le}
 use Rattle.lists.proofs.Reading.{Alike, ReadsFirst, front-same}
 use Rattle.answer.specs.Refusal.{refuseIf, refuseAt, accepted, overwrite, afterwards}
-use Rattle.answer.specs.declared.Refusal.{Refusal}
 use Rattle.answer.specs.declared.Refusal.the-variants.{PastEnd, TooShort, NotElement}
 use Rattle.answer.proofs.Laws.{refuse-yes, kept}
 use Rattle.field.specs.Elements.{firstNotElement}
 use Rattle.field.proofs.Reading.{elements-reads}
 use Rattle.lookup.specs.Tuple.{Tuple}
-use Rattle.lookup.specs.declared.TupleAnswer.the-variants.{Refused}
 use Rattle.lookup.specs.Call.{sizedRefusal, tupleRefusal, tupleAnswer, tupleAnswerOf, tupleAfter}
 
 -- 'A row may be lent longer than its columns; the rest is neither read nor written': not read
