@@ -31,7 +31,7 @@ pub enum Refusal {
         /// The length needed.
         needed: u64,
     },
-    /// 4: an operation's lanes would pass 2^64.
+    /// 4: an operation's last lane would start past 2^64 - 1.
     HighAddress {
         /// The first such address.
         address: u64,
@@ -102,7 +102,10 @@ impl fmt::Display for Refusal {
             Self::NotWhole { which: Lent::Round } => write!(f, "the round table is not whole rows"),
             Self::NotWhole { which: Lent::List } => write!(f, "the list is not whole"),
             Self::TooShort { needed } => write!(f, "a slice has fewer than the {needed} words needed"),
-            Self::HighAddress { address } => write!(f, "the 25 lanes from address {address} would pass 2^64"),
+            Self::HighAddress { address } => write!(
+                f,
+                "the last of the 25 lanes from address {address} would start past 2^64 - 1"
+            ),
             Self::NotElement { place } => write!(f, "the word at {place} is not below p"),
             Self::BadRecord { start } => write!(f, "the record that starts at byte {start} is cut or has a wrong mark"),
         }

@@ -168,7 +168,7 @@ fn show_high_address(ops: &[u64], out: &mut dyn Write) -> io::Result<bool> {
     )?;
     writeln!(
         out,
-        "  Its last lane would pass 2^64: the writer refuses with number and address, and writes nothing.\n"
+        "  Its last lane would start past 2^64 - 1: the writer refuses with number and address, and writes nothing.\n"
     )?;
     Ok(line == format!("refused 4 {}", LAST_ADDRESS + 1))
 }

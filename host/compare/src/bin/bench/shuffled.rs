@@ -44,7 +44,12 @@ pub fn run(calls: usize) {
             Box::new(|| fails(&dropped)),
         ],
     );
-    let names = ["in the writer's order", "shuffled-calls", "shuffled", "shuffled-dropped"];
+    let names = [
+        "in the writer's order",
+        "shuffled-calls",
+        "shuffled",
+        "shuffled-dropped",
+    ];
     for (name, time) in names.into_iter().zip(times) {
         whole(name, time);
         line(name, time, rows);
