@@ -118,6 +118,18 @@ impl BusInteraction {
 /// The tuples that a call for all tuples of a row wrote, each with its values: [`keccak::bus_interactions`] and
 /// [`keccak_rnd::bus_interactions`]. Ends where the words do, or where they are no tuple.
 ///
+/// ```
+/// use keccak_tables::{Bus, Refusal, keccak_rnd, tuples};
+///
+/// let mut row = [0; keccak_rnd::NUM_COLUMNS];
+/// keccak_rnd::keccak_rnd_row(5, &[0; 25], 0, &mut row)?;
+/// let mut words = [0; keccak_rnd::TUPLE_WORDS];
+/// keccak_rnd::bus_interactions(&row, &mut words)?;
+/// let sent = tuples(&words).filter(|(tuple, _)| tuple.bus == Bus::ByteAlu);
+/// assert_eq!(sent.count(), 808);
+/// # Ok::<(), Refusal>(())
+/// ```
+///
 /// [`keccak::bus_interactions`]: crate::keccak::bus_interactions
 /// [`keccak_rnd::bus_interactions`]: crate::keccak_rnd::bus_interactions
 pub fn tuples(words: &[u64]) -> impl Iterator<Item = (BusInteraction, &[u64])> {
