@@ -9,7 +9,10 @@ use crate::dishonest::{Tables, exchange, pairs, shuffle};
 use crate::inputs::Words;
 use crate::judge;
 
-/// The whole area: the named pairs, `n` drawn changes of words, and as many of rows.
+/// The calls of the tables of many calls.
+const CALLS: usize = 30;
+
+/// The whole area: the named pairs, `n` drawn changes of words, as many of rows, and a tenth as many tables of many calls.
 pub fn compare(comparison: &mut Comparison, seed: u64, n: usize) {
     comparison.group("named pairs of tables, against the judge and against thought");
     for pair in pairs(seed) {
@@ -48,6 +51,30 @@ pub fn compare(comparison: &mut Comparison, seed: u64, n: usize) {
         judged(
             comparison,
             &|_| format!("move {change} of seed {seed}:{changes}"),
+            &tables,
+        );
+    }
+
+    comparison.group("tables of 30 calls in a drawn order, of rows or of calls, with up to two rows moved");
+    many_calls(comparison, &mut words, seed, n.div_ceil(10));
+}
+
+/// Tables of many calls whose round rows are in a drawn order, or with whole calls in a drawn order, and up to two rows moved: what the
+/// search for chains and the counts go through.
+fn many_calls(comparison: &mut Comparison, words: &mut Words, seed: u64, n: usize) {
+    let written = Tables::written(CALLS, words);
+    let call = keccak_rnd::ROUNDS * keccak_rnd::NUM_COLUMNS;
+    for table in 0..n {
+        let mut tables = written.clone();
+        let width = [call, keccak_rnd::NUM_COLUMNS][table % 2];
+        shuffle(&mut tables.round[..CALLS * call], width, words);
+        let mut changes = String::new();
+        for _ in 0..words.below(3) {
+            changes += &moved(&mut tables, words);
+        }
+        judged(
+            comparison,
+            &|_| format!("table {table} of many calls of seed {seed}:{changes}"),
             &tables,
         );
     }
