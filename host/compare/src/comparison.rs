@@ -5,12 +5,11 @@ use std::process::ExitCode;
 
 use keccak_tables::Refusal;
 
-/// After so many differences a run ends.
-const ENOUGH: u64 = 20;
-
 /// A differential run.
 #[derive(Default)]
 pub struct Comparison {
+    /// Whether the first difference ends the program.
+    ends: bool,
     group: Option<Group>,
     calls: u64,
     words: u64,
@@ -26,6 +25,14 @@ struct Group {
 }
 
 impl Comparison {
+    /// A run that ends the program, with exit status 1, at the first difference.
+    pub fn to_the_first_difference() -> Self {
+        Self {
+            ends: true,
+            ..Self::default()
+        }
+    }
+
     /// Begins a group of comparisons.
     pub fn group(&mut self, name: impl Into<String>) {
         self.end_group();
@@ -61,12 +68,9 @@ impl Comparison {
             input(place)
         );
         self.differences += 1;
-        if self.differences >= ENOUGH {
+        if self.ends {
             self.end_group();
-            println!(
-                "compared {} words, {} differences or more",
-                self.words, self.differences
-            );
+            self.say_what_was_compared();
             std::process::exit(1);
         }
     }
@@ -112,13 +116,17 @@ impl Comparison {
     /// Ends the run: the last lines say how many calls were tried, and how much was compared.
     pub fn finish(mut self) -> ExitCode {
         self.end_group();
-        println!("tried {} calls", self.calls);
-        println!("compared {} words, {} differences", self.words, self.differences);
+        self.say_what_was_compared();
         if self.differences == 0 {
             ExitCode::SUCCESS
         } else {
             ExitCode::FAILURE
         }
+    }
+
+    fn say_what_was_compared(&self) {
+        println!("tried {} calls", self.calls);
+        println!("compared {} words, {} differences", self.words, self.differences);
     }
 
     fn end_group(&mut self) {
