@@ -15,6 +15,8 @@ use Rattle.answer.specs.declared.Refusal.{Refusal}
 use Rattle.answer.specs.declared.Refusal.the-variants.{PastEnd, HighAddress, BadRecord}
 use Rattle.lookup.specs.declared.Bus.{Bus}
 use Rattle.lookup.specs.declared.Bus.the-variants.{ByteAlu, AreBytes, IsHalfword, IsWh, KeccakRc, Memw, Ecall}
+use Rattle.lookup.specs.declared.Side.{Side}
+use Rattle.lookup.specs.declared.Side.the-variants.{Sender, Receiver}
 use Rattle.keccak.specs.Height.{MIN-ROWS, height}
 use Rattle.keccak.specs.Row.{OP-WORDS, LAST-ADDRESS, opAt}
 use Rattle.keccak.specs.Tuples.{coreTableSum}
@@ -74,10 +76,11 @@ unfoldable pub fileWords : List ℕ → List ℕ
 fileWords file = tableOf (length (recordsOf file)) OP-WORDS (λ i. operationWords (drop (i * RECORD-BYTES) file))
 
 -- ---- the sums
--- the sum of the multiplicities on a bus over both tables of n operations as they are written; an empty file's tables are
--- not shipped. No multiplicity depends on the syscall number.
-unfoldable pub sent : ℕ → Bus → ℕ → (ℕ → KeccakOperation) → ℕ
-sent syscall b n op = pick (eqb n 0) 0 (coreTableSum b 24 syscall MIN-ROWS n op + roundTableSum b 24 MIN-ROWS n op)
+-- "the sum of multiplicities that both tables send (Ecall: receive)" on a bus, of the tables of n operations as they are
+-- written; an empty file's tables are not shipped. No multiplicity depends on the syscall number.
+unfoldable pub total : ℕ → Side → Bus → ℕ → (ℕ → KeccakOperation) → ℕ
+total syscall s b n op =
+    pick (eqb n 0) 0 (coreTableSum s b 24 syscall MIN-ROWS n op + roundTableSum s b 24 MIN-ROWS n op)
 
 unfoldable pub sumsOf : ℕ → ℕ → (ℕ → KeccakOperation) → Sums
 sumsOf syscall n op =
@@ -85,13 +88,13 @@ sumsOf syscall n op =
       ops = n;
       «core_rows» = height MIN-ROWS n;
       «round_rows» = roundHeight 24 MIN-ROWS n;
-      «byte_alu» = sent syscall ByteAlu n op;
-      «are_bytes» = sent syscall AreBytes n op;
-      «keccak_rc» = sent syscall KeccakRc n op;
-      «is_halfword» = sent syscall IsHalfword n op;
-      «is_wh» = sent syscall IsWh n op;
-      memw = sent syscall Memw n op;
-      ecall = sent syscall Ecall n op;
+      «byte_alu» = total syscall Sender ByteAlu n op;
+      «are_bytes» = total syscall Sender AreBytes n op;
+      «keccak_rc» = total syscall Sender KeccakRc n op;
+      «is_halfword» = total syscall Sender IsHalfword n op;
+      «is_wh» = total syscall Sender IsWh n op;
+      memw = total syscall Sender Memw n op;
+      ecall = total syscall Receiver Ecall n op;
     }
 
 -- the first fault, or the sums

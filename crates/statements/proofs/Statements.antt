@@ -1,6 +1,16 @@
 -- The statements of the project on one page, each beside the sentence that asks for it. Each is proved in the crate that
 -- it is about and only cited here, so what a reader reads is what the gate has checked. Assumes nothing.
+-- Not here: demand 1, and "tables, values, tuples, counts and verdict match definitions", are the contracts of the calls
+-- (docs/PROOFS.md).
+--     Lanes s            the 25 words of s are below 2^64
+--     bits s, Agree      their 1,600 bits as FIPS 202's state array; two such arrays have the same bits
+--     roundRow t r s     the row that is written for timestamp words t 0 and t 1, round r and the lanes s of START
+--     roundTable 24 4 n op   the table that is written for the operations op 0 .. op (n - 1)
+--     stateLanes START   the 25 lanes of a row's START columns
+--     outLanes row       the 25 lanes that a round row sends on
+--     RoundPasses row    its 141 values are 0 and its lookups are found
 use mathlib.Core.Path.{_≡_, refl, sym, ap, _∙_}
+use mathlib.Core.Bool.{true}
 use mathlib.Core.Option.{some}
 use mathlib.Core.Logic.{_⊎_, _↔_}
 use mathlib.Core.List.{List, [], _∷_, _++_}
@@ -8,11 +18,12 @@ use Prim.Native.Nat.{ℕ, suc, _+_, _*_, _%_, _^_, _≤_, _<_}
 use native.Mathlib.Nat.{zero-div}
 use native.Mathlib.Omega.{arith}
 use lib.ListN.{length, replicate}
-use Rattle.lists.specs.Tab.{word}
+use Rattle.lists.specs.Tab.{word, rowAt}
 use Rattle.field.specs.Field.{p, INV-SHIFT-32}
 use Rattle.field.proofs.Field.{inv-shift-32}
-use Rattle.answer.specs.Refusal.{accepted}
-use Rattle.answer.specs.declared.Refusal.the-variants.{HighAddress}
+use Rattle.answer.specs.Limits.{MAX-OPS}
+use Rattle.answer.specs.Refusal.{accepted, refusalNumber}
+use Rattle.answer.specs.declared.Refusal.the-variants.{HighAddress, PastEnd}
 use Rattle.fips202.specs.Fips.{Agree, rnd, keccakF}
 use Rattle.bits.specs.Bits.{byteAt}
 use Rattle.fips202.specs.Lanes.{Lanes, bits}
@@ -24,9 +35,9 @@ use Rattle.bitwise.proofs.Cases.{row-0, row-266804, row-1048575}
 use Rattle.keccak.specs.Row.{stateLanes}
 use Rattle.keccak.specs.Refusals.{operationsRefusal}
 use Rattle.keccak.specs.declared.KeccakOperation.{KeccakOperation}
-use Rattle.keccak.proofs.Refusals.{highest-accepted, next-refused}
+use Rattle.keccak.proofs.Refusals.{Acceptable, accepted-is, highest-accepted, next-refused}
 use Rattle.keccak_rnd.specs.Columns.{MU, ROUND, START, THETA, rc}
-use Rattle.keccak_rnd.specs.Row.{roundRow, opRow, roundHeight, padding-are-bytes}
+use Rattle.keccak_rnd.specs.Row.{roundRow, roundTable, roundHeight, padding-are-bytes}
 use Rattle.keccak_rnd.specs.Tuples.{outLanes}
 use Rattle.keccak_rnd.specs.Passes.{RoundPasses}
 use Rattle.keccak_rnd.specs.Carries.{Carries}
@@ -35,36 +46,77 @@ use Rattle.keccak_rnd.proofs.Cases.{heights, paddings, row-zero-0, row-zero-23,
 use Rattle.keccak_rnd.proofs.Cells.{written-cells}
 use Rattle.keccak_rnd.proofs.Completeness.{round-written}
 use Rattle.keccak_rnd.proofs.Soundness.{round-unique}
-use Rattle.keccak_rnd.proofs.Step.{round-fips, op-start, op-step, op-fips}
+use Rattle.keccak_rnd.proofs.Step.{start-state, round-fips}
+use Rattle.keccak_rnd.proofs.Written.{table-start, table-step, table-fips}
 use Rattle.verdict.specs.Kind.{Active, SameTimestamp, row, actives}
 use Rattle.verdict.specs.CoreAndRound.{coreLayout, roundLayout, coreKind, roundKind, verdictOf}
 use Rattle.verdict.specs.Claims.{Supposed, Claims, Answers, EachActive, Computed, operations, ourRounds}
-use Rattle.verdict.specs.Failures.{ToRepeat, ToCoreBalance}
+use Rattle.verdict.specs.Failures.{ToRepeat, ToCoreBalance, RepeatsAt, Says}
+use Rattle.verdict.specs.Honest.{witnessCore, witnessRound}
 use Rattle.verdict.specs.declared.Table.the-variants.{Core, Round}
 use Rattle.verdict.specs.declared.Verdict.{Verdict}
 use Rattle.verdict.specs.declared.Verdict.the-variants.{Holds, Repeated, Unbalanced}
 use Rattle.verdict.proofs.Demand3.{demand3}
-use Rattle.verdict.proofs.Failures.{timestamp-twice}
+use Rattle.verdict.proofs.Failures.{timestamp-twice, verdict-says}
+use Rattle.verdict.proofs.Honest.{witness-supposed, witness-holds}
 use Rattle.verdict.proofs.Late.{late-row}
+use Rattle.op_file.specs.File.{isWhole, addressOf, faultOf, sumsOf, tallyOf}
+use Rattle.op_file.specs.Reader.{start, feedOf, finishOf}
+use Rattle.op_file.proofs.Cases as file
+use Rattle.op_file.proofs.Laws.{reads-pieces}
 use Rattle.judge.proofs.Tied.{Answered, Wrote, holds-answered, ours-written, written-answers}
 
 -- ---- demand 3: "Suppose a core table, whoever filled it, passes its constraints and lookups .." (verdict/specs/Claims.antt)
 pub the-demand : (core : List ℕ) → Supposed core → Claims core
 the-demand = demand3
 
+-- what it supposes is met by a core table with an active row, and the verdict on written tables does hold
+pub some-supposed : Supposed witnessCore
+some-supposed = witness-supposed
+
+pub some-hold : verdictOf witnessCore witnessRound ≡ Holds 1
+some-hold = witness-holds
+
+-- "the first failure in this order .. lowest row, then lowest index": the verdict is an answer exactly where `Says`
+-- (verdict/specs/Failures.antt) has it
+pub each-answer : (core round : List ℕ) (v : Verdict) → (verdictOf core round ≡ v) ↔ Says (coreKind 24) roundKind core round v
+each-answer = verdict-says 24
+
 -- ---- demand 2
--- "a written round row takes START through that round of FIPS 202"
-pub written-round : (stamp : ℕ → ℕ) (r : ℕ) (s : List ℕ) → Lanes s → r < 24 → Agree (bits (outLanes (roundRow stamp r s))) (rnd (bits s) r)
+-- "a written round row takes START through that round of FIPS 202": the lanes that it was written for are its START, and
+-- what it sends on is the round of them
+pub written-start : (stamp : ℕ → ℕ) (r : ℕ) (s : List ℕ) → Lanes s → length s ≡ 25 → stateLanes START (roundRow stamp r s) ≡ s
+written-start stamp r s h = start-state (roundRow stamp r s) r s h (written-cells stamp r s)
+
+pub written-round : (stamp : ℕ → ℕ) (r : ℕ) (s : List ℕ) → Lanes s → r < 24 →
+    Agree (bits (outLanes (roundRow stamp r s))) (rnd (bits s) r)
 written-round stamp r s h l = round-fips (roundRow stamp r s) r s h (written-cells stamp r s) l
 
--- the rows of one operation chain START to START
-pub written-chain : (o : KeccakOperation) → Lanes (o .input) → length (o .input) ≡ 25 → (j : ℕ) → suc j < 24 →
-    stateLanes START (opRow 24 o (suc j)) ≡ outLanes (opRow 24 o j)
-written-chain o h e j l = op-start 24 (omega arith) o h e (suc j) l ∙ sym (op-step 24 (omega arith) o h j (omega arith))
+-- "24 make Keccak-f[1600]": of the rows 24 i .. 24 i + 23 of the written table, which are those of operation i
+module _ (n : ℕ) (op : ℕ → KeccakOperation) (i : ℕ) (below : i < n) (lanes : Lanes ((op i) .input)) (size : length ((op i) .input) ≡ 25) where
+  abbrev row-of : ℕ → List ℕ
+  row-of j = rowAt 1480 (roundTable 24 4 n op) (i * 24 + j)
 
--- "24 make Keccak-f[1600]"
-pub written-operation : (o : KeccakOperation) → Lanes (o .input) → Agree (bits (outLanes (opRow 24 o 23))) (keccakF (bits (o .input)))
-written-operation o h = op-fips 24 (omega arith) o h 23 refl
+  -- START of the first is the operation's input, START of each other is what the one before it sends on
+  pub table-first : stateLanes START (row-of 0) ≡ (op i) .input
+  table-first = table-start n op 4 i below lanes size 0 (omega arith)
+
+  pub table-next : (j : ℕ) → suc j < 24 → stateLanes START (row-of (suc j)) ≡ outLanes (row-of j)
+  table-next j l = table-start n op 4 i below lanes size (suc j) l ∙ sym (table-step n op 4 i below lanes j (omega arith))
+
+  -- and the last sends on Keccak-f[1600] of the input
+  pub table-last : Agree (bits (outLanes (row-of 23))) (keccakF (bits ((op i) .input)))
+  table-last = table-fips n op 4 i below lanes
+
+-- "the sum of multiplicities that both tables send (Ecall: receive)": what `tally` answers when a file is fed to it in pieces and
+-- finished is the first fault, or these sums over the tables as written (`tallyOf`, op_file/specs/File.antt)
+pub tally-sums : (syscall : ℕ) (a b : List ℕ) → finishOf (feedOf (feedOf start a) b) ≡ tallyOf syscall (a ++ b)
+tally-sums = reads-pieces
+
+-- "Each refusal comes on its listed condition only": a call that takes a list and needs so many words is refused by none of its checks
+-- exactly where none of the four conditions is met
+pub none-refused : (room needed : ℕ) (ops : List ℕ) → (operationsRefusal room needed ops ≡ accepted) ↔ Acceptable room needed ops
+none-refused = accepted-is
 
 -- only one way to fill it: an active round row that passes is the written one, in all its words
 pub one-row : (row : List ℕ) → length row ≡ 1480 → ((k : ℕ) → word row k < p) → RoundPasses row → word row MU ≡ 1 →
@@ -128,10 +180,43 @@ module _ (timestamp : ℕ) (input output : List ℕ) (in-size : length input ≡
   pub case-next : operationsRefusal room needed (timestamp ∷ 18446744073709551424 ∷ (input ++ output)) ≡ some (HighAddress 18446744073709551424)
   case-next = next-refused timestamp input output in-size out-size room needed fits
 
--- "Two core rows share a timestamp, outputs exchanged, otherwise honest: the verdict names the timestamp."
+-- the same of a record of an operation file
+module _ (i at : ℕ) (r : List ℕ) (few : i < MAX-OPS) (whole : isWhole r ≡ true) where
+  pub case-highest-record : addressOf r ≡ 18446744073709551423 → faultOf i at r ≡ accepted
+  case-highest-record = file.highest-accepted i at r few whole
+
+  pub case-next-record : addressOf r ≡ 18446744073709551424 → faultOf i at r ≡ some (HighAddress 18446744073709551424)
+  case-next-record = file.next-refused i at r few whole
+
+-- ".. refused by 4"
+pub case-by-4 : refusalNumber (HighAddress 18446744073709551424) ≡ 4
+case-by-4 = refl
+
+-- "For one record with address 4096 it prints all of": its ten numbers, whatever the record's other words are
+pub case-one-record : (syscall : ℕ) (op : ℕ → KeccakOperation) →
+    record {
+      ops = 1;
+      «core_rows» = 4;
+      «round_rows» = 32;
+      «byte_alu» = 19393;
+      «are_bytes» = 7044;
+      «keccak_rc» = 24;
+      «is_halfword» = 25;
+      «is_wh» = 25;
+      memw = 26;
+      ecall = 1;
+    }
+    ≡ sumsOf syscall 1 op
+case-one-record = file.one-record
+
+-- "`tally` gives 1 as soon as any byte follows record 89,478,485"
+pub case-too-many : (at : ℕ) (r : List ℕ) → faultOf 89478485 at r ≡ some (PastEnd 89478486)
+case-too-many = file.one-too-many
+
+-- "Two core rows share a timestamp, outputs exchanged, otherwise honest: the verdict names the timestamp.": a row that repeats one
 pub case-timestamp : (core round : List ℕ) → ToRepeat (coreKind 24) roundKind core round → (q r : ℕ) → q < r →
     Active coreLayout core q → Active coreLayout core r → SameTimestamp (row coreLayout core q) (row coreLayout core r) →
-    (s : ℕ) × (s ≤ r) × (verdictOf core round ≡ Repeated s)
+    (s : ℕ) × (s ≤ r) × RepeatsAt coreLayout core s × (verdictOf core round ≡ Repeated s)
 case-timestamp = timestamp-twice (coreKind 24) roundKind
 
 -- "A row with ROUND 24, zero constant and MU 1 passes its values and lookups, ..": that of any START

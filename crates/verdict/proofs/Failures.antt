@@ -308,18 +308,19 @@ module _ (K L : Kind) (core round : List ℕ) where
   says-one v w h g = sym (said v h) ∙ said w g
 
   -- ---- cases
-  -- a timestamp stands twice in a core table that passes: the verdict names it, whatever the outputs are and whatever the round table holds
+  -- a timestamp stands twice in a core table that passes: the verdict names a row that repeats one, whatever the outputs are and
+  -- whatever the round table holds
   pub timestamp-twice : ToRepeat K L core round → (q r : ℕ) → q < r → Active (K .layout) core q → Active (K .layout) core r →
       SameTimestamp (row (K .layout) core q) (row (K .layout) core r) →
-      (s : ℕ) × (s ≤ r) × (judged K L core round ≡ Repeated s)
+      (s : ℕ) × (s ≤ r) × RepeatsAt (K .layout) core s × (judged K L core round ≡ Repeated s)
   unfolding DistinctTimestamps
   timestamp-twice h q r l a b e = go (firstRepeat (K .layout) core) refl
     where
-      go : (o : Option ℕ) → firstRepeat (K .layout) core ≡ o → (s : ℕ) × (s ≤ r) × (judged K L core round ≡ Repeated s)
+      go : (o : Option ℕ) → firstRepeat (K .layout) core ≡ o → (s : ℕ) × (s ≤ r) × RepeatsAt (K .layout) core s × (judged K L core round ≡ Repeated s)
       go none n = absurd (no-repeat K core .0 n q r l a b e)
       go (some s) n =
           let f = a-repeat K core s .0 n in
-          elim (lt-or-ge r s) [ inl k ↦ absurd (f .lower r k b q l a e) | inr k ↦ (s, k, said (Repeated s) (h, f)) ]
+          elim (lt-or-ge r s) [ inl k ↦ absurd (f .lower r k b q l a e) | inr k ↦ (s, k, f .fails, said (Repeated s) (h, f)) ]
 
   -- both tables pass and the timestamps differ, but the bus is not balanced: the verdict names an unbalanced tuple
   pub out-of-balance : ToCoreBalance K L core round → (Balanced K L core round → ⊥) →

@@ -1,6 +1,6 @@
 -- What each answer of the verdict says, with no search in it. proofs/Failures.antt: the verdict on two tables is an
 -- answer exactly where `Says` has it. So the order of the failures, and the table, row and index of each, are those of
--- the paper. Assumes nothing.
+-- the scope. Assumes nothing.
 use mathlib.Core.Path.{_≡_}
 use mathlib.Core.Logic.{_⊎_}
 use mathlib.Core.List.{List}
@@ -136,7 +136,7 @@ module _ (K L : Kind) (core round : List ℕ) where
   Says (Refused (NotElement k)) =
       Whole (K .layout) core × Whole (L .layout) round
       × (FirstNotElement core k ⊎ (Elements core × FirstNotElement round k))
-  -- the failures, each after those before it in the paper's order
+  -- the failures, each after those before it in the scope's order
   Says (Value Core r i) = ToCoreValue × FirstValue K core r i
   Says (Lookup Core r i) = ToCoreLookup × FirstLookup K core r i
   Says (Repeated r) = ToRepeat × FirstRepeat (K .layout) core r
