@@ -1,6 +1,8 @@
 -- What the refusal of a list of operations says, what an operation's words say, and the highest address. Assumes nothing.
 --     many-refused, ragged-refused, short-refused, high-refused   each refusal with its detail, where no earlier one comes
 --     accepted-is                       the call is accepted exactly where none of the four conditions holds
+--     row-accepted, index-past          the same of `keccak_row`, which takes an index too
+--     count-accepted, count-refused     the same of a call that takes a number of operations
 --     op-words                          operation i of a list is what its 52 words say
 --     highest-accepted, next-refused    P: address 18446744073709551423 is accepted, the next is refused by 4
 use mathlib.Core.Path.{_≡_, refl, sym, ap, subst, _∙_}
@@ -10,7 +12,7 @@ use mathlib.Core.Option.{Option, none, some}
 use mathlib.Core.List.{List, _∷_, _++_}
 use Prim.Native.Nat.{ℕ, suc, _+_, _*_, _%_, _^_, _≤_, _<_}
 use native.Mathlib.Omega.{arith}
-use borrow.Author.Tests.{ltb-false, lt-ltb, le-ltb, eqb-true, eq-eqb, ne-eqb, not-false}
+use borrow.Author.Tests.{leb-false, ltb-false, le-leb, lt-leb, lt-ltb, le-ltb, eqb-true, eq-eqb, ne-eqb, not-false}
 use lib.ListN.{length, getD, length-append, List·getD-append}
 use lib.Seq.{getD-append-add}
 use Rattle.lists.specs.Tab.{tab}
@@ -22,12 +24,9 @@ use Rattle.answer.specs.declared.Refusal.{Refusal}
 use Rattle.answer.proofs.Laws.{refuse-yes, refuse-no, at-yes, at-no, passed-if, passed-at}
 use Rattle.answer.specs.declared.Refusal.the-variants.{PastEnd, NotWhole, TooShort, HighAddress}
 use Rattle.keccak.specs.Row.{OP-WORDS, opAt, LAST-ADDRESS}
-use Rattle.keccak.specs.Refusals.{opCount, addressAt, highAt, tooShort, tooHigh, notWhole, operationsRefusal}
+use Rattle.keccak.specs.Refusals.{opCount, addressAt, highAt, tooShort, tooHigh, notWhole}
+use Rattle.keccak.specs.Refusals.{operationsRefusal, rowRefusal, countRefusal}
 use Rattle.keccak.specs.declared.KeccakOperation.{KeccakOperation}
-
--- the reason of the limit
-pub max-ops : (24 * MAX-OPS ≤ 2 ^ 31) × (2 ^ 31 < 24 * (MAX-OPS + 1))
-max-ops = (omega arith, omega arith)
 
 -- none of the four conditions
 pub record Acceptable (room needed : ℕ) (ops : List ℕ) : Type 0 where
@@ -90,6 +89,34 @@ module _ (room needed : ℕ) (ops : List ℕ) where
         }),
     λ h. none-high (h .few) (h .whole) (h .long) (h .low),
   )
+
+-- ---- `keccak_row`: those four, and the index
+module _ (room : ℕ) (ops : List ℕ) (index : ℕ) where
+  pub row-accepted : (rowRefusal room ops index ≡ accepted) ↔ (Acceptable room 486 ops × (index < opCount ops))
+  unfolding rowRefusal operationsRefusal
+  row-accepted = (
+    (λ e.
+        let a = passed-if _ _ _ e in
+        let b = passed-if _ _ _ (a .1) in
+        (accepted-is room 486 ops .0 (refuse-no _ (a .0) (b .1)), leb-false (opCount ops) index (b .0))),
+    λ h.
+        let a = passed-if _ _ _ (accepted-is room 486 ops .1 (h .0)) in
+        refuse-no _ (a .0) (refuse-no _ (lt-leb (opCount ops) index (h .1)) (a .1)),
+  )
+
+  -- the detail is the number of operations
+  pub index-past : opCount ops ≤ MAX-OPS → opCount ops ≤ index → rowRefusal room ops index ≡ some (PastEnd (opCount ops))
+  unfolding rowRefusal
+  index-past few h = refuse-no _ (le-ltb MAX-OPS (opCount ops) few) (refuse-yes _ _ (le-leb (opCount ops) index h))
+
+-- ---- a call that takes a number of operations
+pub count-accepted : (n : ℕ) → (countRefusal n ≡ accepted) ↔ (n ≤ MAX-OPS)
+unfolding countRefusal
+count-accepted n = ((λ e. ltb-false MAX-OPS n (passed-if _ _ _ e .0)), λ h. refuse-no _ (le-ltb MAX-OPS n h) refl)
+
+pub count-refused : (n : ℕ) → MAX-OPS < n → countRefusal n ≡ some (PastEnd 89478486)
+unfolding countRefusal
+count-refused n h = refuse-yes _ _ (lt-ltb MAX-OPS n h)
 
 -- ---- the words of an operation
 module _ (timestamp address : ℕ) (input output : List ℕ) (in-size : length input ≡ 25) (out-size : length output ≡ 25) where

@@ -1,0 +1,98 @@
+-- The bitwise table's calls are accepted exactly where none of their conditions holds; and the refusals with their details, in
+-- their order. Assumes nothing.
+use mathlib.Core.Path.{_≡_, refl}
+use mathlib.Core.Logic.{_↔_}
+use mathlib.Core.List.{List}
+use mathlib.Core.Option.{some}
+use Prim.Native.Nat.{ℕ, _≤_, _<_}
+use borrow.Author.Tests.{leb-false, ltb-false, le-leb, lt-leb, lt-ltb, le-ltb}
+use lib.ListN.{length}
+use Rattle.lists.specs.Tab.{word}
+use Rattle.field.specs.Field.{p}
+use Rattle.answer.specs.Refusal.{accepted}
+use Rattle.answer.proofs.Laws.{refuse-yes, refuse-no, passed-if}
+use Rattle.answer.specs.declared.Refusal.the-variants.{PastEnd, TooShort, NotElement}
+use Rattle.bitwise.specs.Row.{rowRefusal, indexRefusal}
+use Rattle.bitwise.specs.Counters.{counterAt, bumpRefusal}
+
+-- `generate_bitwise_row`
+pub row-accepted : (i : ℕ) (row : List ℕ) → (rowRefusal i row ≡ accepted) ↔ ((i < 1048576) × (11 ≤ length row))
+unfolding rowRefusal
+row-accepted i row = (
+  (λ e.
+      let a = passed-if _ _ _ e in
+      let b = passed-if _ _ _ (a .1) in
+      (leb-false 1048576 i (a .0), ltb-false (length row) 11 (b .0))),
+  λ h. refuse-no _ (lt-leb 1048576 i (h .0)) (refuse-no _ (le-ltb (length row) 11 (h .1)) refl),
+)
+
+pub row-past : (i : ℕ) (row : List ℕ) → 1048576 ≤ i → rowRefusal i row ≡ some (PastEnd 1048576)
+unfolding rowRefusal
+row-past i row h = refuse-yes _ _ (le-leb 1048576 i h)
+
+pub row-short : (i : ℕ) (row : List ℕ) → i < 1048576 → length row < 11 → rowRefusal i row ≡ some (TooShort 11)
+unfolding rowRefusal
+row-short i row l h = refuse-no _ (lt-leb 1048576 i l) (refuse-yes _ _ (lt-ltb (length row) 11 h))
+
+-- `row_index`
+pub index-accepted : (z : ℕ) → (indexRefusal z ≡ accepted) ↔ (z < 16)
+unfolding indexRefusal
+index-accepted z = ((λ e. leb-false 16 z (passed-if _ _ _ e .0)), λ h. refuse-no _ (lt-leb 16 z h) refl)
+
+pub index-past : (z : ℕ) → 16 ≤ z → indexRefusal z ≡ some (PastEnd 16)
+unfolding indexRefusal
+index-past z h = refuse-yes _ _ (le-leb 16 z h)
+
+-- `bump`
+module _ (counters : List ℕ) (kind x y z : ℕ) where
+  pub record Chargeable : Type 0 where
+    pub kind-below : kind < 10
+    pub z-below : z < 16
+    pub long : 10485760 ≤ length counters
+    pub element : word counters (counterAt kind x y z) < p
+
+  pub bump-accepted : (bumpRefusal counters kind x y z ≡ accepted) ↔ Chargeable
+  unfolding bumpRefusal
+  bump-accepted = (
+    (λ e.
+        let a = passed-if _ _ _ e in
+        let b = passed-if _ _ _ (a .1) in
+        let c = passed-if _ _ _ (b .1) in
+        let d = passed-if _ _ _ (c .1) in
+        record {
+          kind-below = leb-false 10 kind (a .0);
+          z-below = leb-false 16 z (b .0);
+          long = ltb-false (length counters) 10485760 (c .0);
+          element = leb-false p (word counters (counterAt kind x y z)) (d .0);
+        }),
+    λ h.
+        refuse-no _ (lt-leb 10 kind (h .kind-below))
+        (refuse-no _ (lt-leb 16 z (h .z-below))
+        (refuse-no _ (le-ltb (length counters) 10485760 (h .long))
+        (refuse-no _ (lt-leb p (word counters (counterAt kind x y z)) (h .element)) refl))),
+  )
+
+  pub kind-past : 10 ≤ kind → bumpRefusal counters kind x y z ≡ some (PastEnd 10)
+  unfolding bumpRefusal
+  kind-past h = refuse-yes _ _ (le-leb 10 kind h)
+
+  module _ (k : kind < 10) where
+    pub z-past : 16 ≤ z → bumpRefusal counters kind x y z ≡ some (PastEnd 16)
+    unfolding bumpRefusal
+    z-past h = refuse-no _ (lt-leb 10 kind k) (refuse-yes _ _ (le-leb 16 z h))
+
+    module _ (l : z < 16) where
+      pub counters-short : length counters < 10485760 → bumpRefusal counters kind x y z ≡ some (TooShort 10485760)
+      unfolding bumpRefusal
+      counters-short h =
+          refuse-no _ (lt-leb 10 kind k) (refuse-no _ (lt-leb 16 z l) (refuse-yes _ _ (lt-ltb (length counters) 10485760 h)))
+
+      -- the detail is the place of the counter charged
+      pub counter-large : 10485760 ≤ length counters → p ≤ word counters (counterAt kind x y z) →
+          bumpRefusal counters kind x y z ≡ some (NotElement (counterAt kind x y z))
+      unfolding bumpRefusal
+      counter-large m h =
+          refuse-no _ (lt-leb 10 kind k)
+          (refuse-no _ (lt-leb 16 z l)
+          (refuse-no _ (le-ltb (length counters) 10485760 m)
+          (refuse-yes _ _ (le-leb p (word counters (counterAt kind x y z)) h))))

@@ -1,0 +1,41 @@
+-- `keccak_rnd_row` is accepted exactly where none of its conditions holds; and its refusals with their details, in their order.
+-- Assumes nothing.
+use mathlib.Core.Path.{_≡_, refl}
+use mathlib.Core.Logic.{_↔_}
+use mathlib.Core.List.{List}
+use mathlib.Core.Option.{some}
+use Prim.Native.Nat.{ℕ, _≤_, _<_}
+use borrow.Author.Tests.{leb-false, ltb-false, le-leb, lt-leb, lt-ltb, le-ltb}
+use lib.ListN.{length}
+use Rattle.answer.specs.Refusal.{accepted}
+use Rattle.answer.proofs.Laws.{refuse-yes, refuse-no, passed-if}
+use Rattle.answer.specs.declared.Refusal.the-variants.{PastEnd, TooShort}
+use Rattle.keccak_rnd.specs.Refusals.{rowRefusal}
+
+module _ (round : ℕ) (start row : List ℕ) where
+  pub row-accepted : (rowRefusal round start row ≡ accepted) ↔ ((round < 24) × (25 ≤ length start) × (1480 ≤ length row))
+  unfolding rowRefusal
+  row-accepted = (
+    (λ e.
+        let a = passed-if _ _ _ e in
+        let b = passed-if _ _ _ (a .1) in
+        let c = passed-if _ _ _ (b .1) in
+        (leb-false 24 round (a .0), ltb-false (length start) 25 (b .0), ltb-false (length row) 1480 (c .0))),
+    λ h.
+        refuse-no _ (lt-leb 24 round (h .0))
+        (refuse-no _ (le-ltb (length start) 25 (h .1)) (refuse-no _ (le-ltb (length row) 1480 (h .2)) refl)),
+  )
+
+  pub round-past : 24 ≤ round → rowRefusal round start row ≡ some (PastEnd 24)
+  unfolding rowRefusal
+  round-past h = refuse-yes _ _ (le-leb 24 round h)
+
+  module _ (l : round < 24) where
+    pub start-short : length start < 25 → rowRefusal round start row ≡ some (TooShort 25)
+    unfolding rowRefusal
+    start-short h = refuse-no _ (lt-leb 24 round l) (refuse-yes _ _ (lt-ltb (length start) 25 h))
+
+    pub row-short : 25 ≤ length start → length row < 1480 → rowRefusal round start row ≡ some (TooShort 1480)
+    unfolding rowRefusal
+    row-short m h =
+        refuse-no _ (lt-leb 24 round l) (refuse-no _ (le-ltb (length start) 25 m) (refuse-yes _ _ (lt-ltb (length row) 1480 h)))
