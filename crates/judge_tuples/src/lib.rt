@@ -1,5 +1,7 @@
 // The Keccak tuples of core rows and round rows, compared by the columns that they are made of.
 use field::Fe;
+use keccak;
+use keccak_rnd;
 ghost use mathlib.Core.Path.{_≡_};
 ghost use mathlib.Core.Bool.{not};
 ghost use Prim.Native.Nat.{_+_, _≤_};
@@ -10,7 +12,8 @@ ghost use Rattle.bus.specs.Words.{wordsTest};
 ghost use Rattle.verdict.specs.Kind.{sameStamp};
 ghost use Rattle.judge_tuples.specs.Port.{widthOf, laneAt, restAt, roundOf, tupleOf, apart, sameState};
 
-// Which of the four: a core row sends INPUT and receives OUTPUT, a round row receives START and sends the state after it.
+// The four Keccak tuples: a core row sends INPUT and receives OUTPUT, a round row receives START and sends the state after
+// its round.
 pub enum Port {
     CoreSend,
     CoreReceive,
@@ -23,10 +26,10 @@ fn lane_at(port: Port) -> usize
     ensures { λ r. ⌜ r ≡ laneAt port ⌝ }
 {
     match port {
-        Port::CoreSend => 10,
-        Port::CoreReceive => 210,
-        Port::RoundReceive => 3,
-        Port::RoundSend => 1471,
+        Port::CoreSend => keccak::INPUT_STATE,
+        Port::CoreReceive => keccak::OUTPUT_STATE,
+        Port::RoundReceive => keccak_rnd::START,
+        Port::RoundSend => keccak_rnd::IOTA,
     }
 }
 
@@ -34,14 +37,14 @@ fn rest_at(port: Port) -> usize
     ensures { λ r. ⌜ r ≡ restAt port ⌝ }
 {
     match port {
-        Port::CoreSend => 10,
-        Port::CoreReceive => 210,
-        Port::RoundReceive => 3,
-        Port::RoundSend => 1263,
+        Port::CoreSend => keccak::INPUT_STATE,
+        Port::CoreReceive => keccak::OUTPUT_STATE,
+        Port::RoundReceive => keccak_rnd::START,
+        Port::RoundSend => keccak_rnd::CHI,
     }
 }
 
-// The element after a word, which may be any.
+// ROUND + 1 mod p; any word may stand in ROUND.
 fn next(round: u64) -> u64
     ensures { λ r. ⌜ r ≡ fadd round 1 ⌝ }
 {
@@ -60,8 +63,8 @@ fn round_of(row: &[u64], port: Port) -> u64
     match port {
         Port::CoreSend => 0,
         Port::CoreReceive => 24,
-        Port::RoundReceive => row[2],
-        Port::RoundSend => next(row[2]),
+        Port::RoundReceive => row[keccak_rnd::ROUND],
+        Port::RoundSend => next(row[keccak_rnd::ROUND]),
     }
 }
 

@@ -5,8 +5,16 @@ use bits::put_dword_bl;
 use bits::put_dword_wl;
 use bits::put_lanes;
 use fips202::round_constant;
+use keccak_rnd::CHI_ANDS;
+use keccak_rnd::CXZ;
+use keccak_rnd::CXZ_LEFT;
+use keccak_rnd::CXZ_RIGHT;
+use keccak_rnd::DXZ;
 use keccak_rnd::NUM_COLUMNS;
+use keccak_rnd::ROUND;
 use keccak_rnd::ROUNDS;
+use keccak_rnd::START;
+use keccak_rnd::THETA;
 use keccak_rnd_parity::cxz_table;
 use keccak_rnd_parity::left_table;
 use keccak_rnd_parity::right_table;
@@ -94,12 +102,12 @@ fn put_front(
     ensures { λ _. ⌜ now (row .exit) ≡ sets (now (row .entry)) at (rowOf (frontGroups (wordAt timestamp) round s cxz left right d)) ⌝ }
 {
     put_dword_wl(row, at, timestamp);
-    put_word(row, at + 2, round);
-    put_lanes(row, at + 3, s);
-    put_stages(row, at + 203, cxz);
-    put_table(row, at + 363, left);
-    put_bits(row, at + 403, right);
-    put_table(row, at + 423, d);
+    put_word(row, at + ROUND, round);
+    put_lanes(row, at + START, s);
+    put_stages(row, at + CXZ, cxz);
+    put_table(row, at + CXZ_LEFT, left);
+    put_bits(row, at + CXZ_RIGHT, right);
+    put_table(row, at + DXZ, d);
 }
 
 // The tables of bytes are computed once; D is handed on.
@@ -158,8 +166,8 @@ pub fn put_round_row(row: &mut [u64], at: usize, timestamp: u64, round: usize, s
     let t = theta.lanes;
     let u = pi.lanes;
     let v = chi.lanes;
-    put_rho(row, at + 463, t);
-    put_chi(row, at + 1063, round, u, v);
+    put_rho(row, at + THETA, t);
+    put_chi(row, at + CHI_ANDS, round, u, v);
 }
 
 // The row of a round: START is the first 25 words of `start`.
