@@ -32,8 +32,8 @@ use Rattle.judge_tuples.specs.Port.{tupleOf, roundOf}
 use Rattle.judge_tuples.specs.declared.Port.{Port}
 use Rattle.judge_tuples.specs.declared.Port.the-variants.{CoreSend, CoreReceive, RoundReceive, RoundSend}
 use Rattle.judge_tuples.proofs.Ports.{tuple-is}
-use Rattle.judge_bus.specs.Even.{coreCarries, roundCarries, Even, owedBy}
-use Rattle.judge_bus.proofs.Bus.{even-to}
+use Rattle.judge_links.specs.Even.{coreCarries, roundCarries, Even, owedBy}
+use Rattle.judge_links.proofs.Even.{even-to}
 use Rattle.judge_chains.specs.Chain.{Follows, Linked, Chain, EachChain, Chained}
 use Rattle.judge_chains.proofs.Counts.{count-none, count-put, count-full}
 

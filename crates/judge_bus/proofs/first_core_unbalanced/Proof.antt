@@ -9,8 +9,9 @@ use Rattle.lists.proofs.First.{first-start, in-none}
 use Rattle.judge_scan.specs.Spot.{spotOf}
 use Rattle.judge_scan.specs.declared.Spot.the-variants.{Nowhere}
 use Rattle.judge_tuples.specs.declared.Port.the-variants.{CoreSend, CoreReceive}
-use Rattle.judge_bus.specs.Even.{OfCore}
-use Rattle.judge_bus.proofs.Bus.{coreBad, core-wide, core-spot-off, core-spot-on, core-spot-early, core-spot-late}
+use Rattle.judge_links.specs.Even.{OfCore}
+use Rattle.judge_bus.proofs.Bus.{coreBad, core-spot-off, core-spot-on, core-spot-early, core-spot-late}
+use Rattle.judge_links.proofs.Even.{core-wide}
 use Rattle.judge_bus.proofs.first_core_unbalanced.Statement.{statement}
 use Rattle.judge_bus.proofs.first_core_unbalanced.Tie as tie
 

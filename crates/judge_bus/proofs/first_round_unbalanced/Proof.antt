@@ -9,8 +9,9 @@ use Rattle.lists.proofs.First.{first-start, in-none}
 use Rattle.judge_scan.specs.Spot.{spotOf}
 use Rattle.judge_scan.specs.declared.Spot.the-variants.{Nowhere}
 use Rattle.judge_tuples.specs.declared.Port.the-variants.{RoundReceive, RoundSend}
-use Rattle.judge_bus.specs.Even.{OfRound}
-use Rattle.judge_bus.proofs.Bus.{roundBad, round-wide, round-spot-off, round-spot-on, round-spot-early, round-spot-late}
+use Rattle.judge_links.specs.Even.{OfRound}
+use Rattle.judge_bus.proofs.Bus.{roundBad, round-spot-off, round-spot-on, round-spot-early, round-spot-late}
+use Rattle.judge_links.proofs.Even.{round-wide}
 use Rattle.judge_bus.proofs.first_round_unbalanced.Statement.{statement}
 use Rattle.judge_bus.proofs.first_round_unbalanced.Tie as tie
 

@@ -1,7 +1,8 @@
 -- `judge_bus::unbalanced_tuples` meets its contract: what the walk passed is even, so what it left decides. Assumes nothing.
 use mathlib.Core.Path.{_∙_}
 use native.Mathlib.Omega.{arith}
-use Rattle.judge_bus.proofs.Bus.{counts-le, uneven-left}
+use Rattle.judge_counts.proofs.Counting.{counts-le}
+use Rattle.judge_bus.proofs.Bus.{uneven-left}
 use Rattle.judge_bus.proofs.unbalanced_tuples.Statement.{statement}
 use Rattle.judge_bus.proofs.unbalanced_tuples.Tie as tie
 
