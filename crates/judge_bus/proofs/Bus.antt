@@ -1,29 +1,37 @@
--- What the search for an unbalanced tuple cites: the laws of verdict's Tuples and Pair at the four ports. Assumes nothing.
-use mathlib.Core.Path.{_≡_, refl, sym, ap, _∙_}
+-- What the search for an unbalanced tuple cites: the laws of verdict's Tuples and Pair by port. Assumes nothing.
+--     uneven-left                       what the walk passed is even, so the counts of the other rows decide
+--     Two                               what the tables say of the two tuples of a row
+--     spot-off, spot-on, spot-early, spot-late   what a row says of the search: not active; no tuple; the first one; the second
+use mathlib.Core.Path.{_≡_, refl, sym, ap, subst, _∙_}
+use mathlib.Core.Logic.{⊎-elim, inl, inr}
 use mathlib.Core.Bool.{Bool, true, false, not, _&&_}
-use mathlib.Core.Option.{none, some}
+use mathlib.Core.Option.{Option, none, some}
 use mathlib.Core.List.{List}
-use Prim.Native.Nat.{ℕ, _+_, _-_, _*_, _<_}
+use Prim.Native.Nat.{ℕ, _+_, _-_, _/_, _≤_, _<_}
 use native.Mathlib.Omega.{arith}
-use borrow.Author.Tests.{eqb-true, eq-eqb}
+use borrow.Author.Tests.{eqb-true, eq-eqb, ne-eqb}
 use lib.Dec.{eqb}
-use lib.ListN.{take, drop}
-use Rattle.lists.specs.Tab.{then}
+use lib.ListN.{length}
+use Rattle.lists.specs.Tab.{then, word, rowAt}
 use Rattle.lists.specs.First.{first, inRow, firstIn}
-use Rattle.lists.proofs.First.{first-more, first-hit}
+use Rattle.lists.proofs.First.{first-more, first-hit, in-none}
 use Rattle.keccak.specs.Tuples.{coreTuple}
 use Rattle.keccak_rnd.specs.Tuples.{roundTuple}
-use Rattle.verdict.specs.Kind.{rows, row, active, sent, received}
-use Rattle.verdict.specs.Verdict.{uneven, badTuple}
+use Rattle.verdict.specs.Kind.{rows, row, active, isActive, sent, received}
+use Rattle.verdict.specs.Verdict.{uneven, badTuple, firstUnbalanced}
 use Rattle.verdict.specs.CoreAndRound.{coreLayout, roundLayout, coreKind, roundKind}
 use Rattle.verdict.proofs.Tuples.{sent-count, received-count, core-bus, round-bus}
 use Rattle.verdict.proofs.Pair.{two-early, two-late, two-none, bad-send, bad-receive, bad-other}
-use Rattle.judge_tuples.specs.Port.{tupleOf}
+use Rattle.judge_scan.specs.Spot.{spotOf}
+use Rattle.judge_scan.specs.declared.Spot.the-variants.{At}
+use Rattle.judge_tuples.specs.Port.{tupleOf, widthOf}
+use Rattle.judge_tuples.specs.declared.Port.{Port}
 use Rattle.judge_tuples.specs.declared.Port.the-variants.{CoreSend, CoreReceive, RoundReceive, RoundSend}
-use Rattle.judge_links.specs.Even.{Even}
-use Rattle.judge_counts.specs.Counting.{CoreCounted, RoundCounted}
+use Rattle.judge_links.specs.Even.{Even, layoutOf}
+use Rattle.judge_links.proofs.Even.{mu-is, core-sends, core-receives, round-sends, round-receives, counts}
+use Rattle.judge_counts.specs.Counting.{CountedRows}
 use Rattle.judge_counts.specs.declared.Counts.{Counts}
-use Rattle.judge_links.proofs.Even.{core-part, round-part, core-sends, core-receives, round-sends, round-receives, counts}
+use Rattle.judge_bus.specs.Pair.{kindOf, indexOf, Pair}
 
 eqb-same : (a b c d : ℕ) → (a ≡ b → c ≡ d) → (c ≡ d → a ≡ b) → eqb a b ≡ eqb c d
 eqb-same a b c d f g = go (eqb a b) (eqb c d) refl refl
@@ -36,9 +44,9 @@ eqb-same a b c d f g = go (eqb a b) (eqb c d) refl refl
 
 module _ (core round v : List ℕ) where
   pub uneven-left : (a b : ℕ) (t u : Counts) → Even core round a b →
-      CoreCounted core v a (rows coreLayout core) t → RoundCounted round v b (rows roundLayout round) u →
+      CountedRows CoreSend CoreReceive core v a (rows coreLayout core) t → CountedRows RoundSend RoundReceive round v b (rows roundLayout round) u →
       not (eqb (t .sent + u .sent) (t .received + u .received)) ≡ uneven (coreKind 24) roundKind core round v
-  unfolding Even uneven
+  unfolding Even uneven layoutOf
   uneven-left a b t u h c d =
       let es = sent-count (core-bus 24) core v ∙ sym (counts (core-sends core v) (rows coreLayout core)) in
       let fs = sent-count round-bus round v ∙ sym (counts (round-sends round v) (rows roundLayout round)) in
@@ -48,107 +56,127 @@ module _ (core round v : List ℕ) where
       (λ z. omega (arith, h v, es, fs, er, fr, c .sends, c .receives, d .sends, d .receives))
       (λ z. omega (arith, h v, es, fs, er, fr, c .sends, c .receives, d .sends, d .receives)))
 
--- ---- the scan of two indices of a row
-module _ (bad : ℕ → ℕ → Bool) (act : ℕ → Bool) (u : ℕ → ℕ → Bool) (m lo hi : ℕ) (l : lo < hi) (h : hi < m)
-    (at-lo : (r : ℕ) → bad r lo ≡ (act r && u r lo)) (at-hi : (r : ℕ) → bad r hi ≡ (act r && u r hi))
-    (other : (r i : ℕ) → (i ≡ lo → ⊥) → (i ≡ hi → ⊥) → bad r i ≡ false) where
-  pub scan-off : (r : ℕ) → first (inRow bad m) r ≡ none → act r ≡ false → first (inRow bad m) (r + 1) ≡ none
-  scan-off r f e = first-more (inRow bad m) r f (two-none bad m lo hi r l h (other r) (at-lo r ∙ rw e) (at-hi r ∙ rw e))
+-- ---- the two tuples of a row
+-- what a match has found
+pub told-index : {s q : Port} → s ≡ q → indexOf q ≡ indexOf s
+told-index e = ap indexOf (sym e)
 
-  module _ (r : ℕ) (f : first (inRow bad m) r ≡ none) (e : act r ≡ true) where
-    pub scan-on : u r lo ≡ false → u r hi ≡ false → first (inRow bad m) (r + 1) ≡ none
-    scan-on p q = first-more (inRow bad m) r f (two-none bad m lo hi r l h (other r) (at-lo r ∙ rw (e, p)) (at-hi r ∙ rw (e, q)))
+-- tuple j of row r of a table is unbalanced, and the row is active
+abbrev pub bad : List ℕ → List ℕ → Port → List ℕ → ℕ → ℕ → Bool
+bad core round s ws = badTuple (coreKind 24) roundKind core round (kindOf s) ws
 
-    pub scan-lo : (n : ℕ) → r < n → u r lo ≡ true → firstIn bad m n ≡ some (r, lo)
-    scan-lo n g p = first-hit (inRow bad m) r n (r, lo) g f (two-early bad m lo hi r l h (other r) (at-lo r ∙ rw (e, p)))
+-- the values of tuple s of a row are unbalanced
+abbrev pub odd : List ℕ → List ℕ → Port → List ℕ → Bool
+odd core round s x = uneven (coreKind 24) roundKind core round (tupleOf s x)
 
-    pub scan-hi : (n : ℕ) → r < n → u r lo ≡ false → u r hi ≡ true → firstIn bad m n ≡ some (r, hi)
-    scan-hi n g p q = first-hit (inRow bad m) r n (r, hi) g f (two-late bad m lo hi r l h (other r) (at-lo r ∙ rw (e, p)) (at-hi r ∙ rw (e, q)))
+pub record Two (s q : Port) : Type 0 where
+  pub layout : layoutOf s ≡ kindOf s .layout
+  pub width : widthOf q ≡ widthOf s
+  pub order : indexOf s < indexOf q
+  pub inside : indexOf q < kindOf s .tuples
+  pub early : (core round ws : List ℕ) (r : ℕ) → bad core round s ws r (indexOf s) ≡ (active (layoutOf s) ws r && odd core round s (row (layoutOf s) ws r))
+  pub late : (core round ws : List ℕ) (r : ℕ) → bad core round s ws r (indexOf q) ≡ (active (layoutOf s) ws r && odd core round q (row (layoutOf s) ws r))
+  pub other : (core round ws : List ℕ) (r i : ℕ) → (i ≡ indexOf s → ⊥) → (i ≡ indexOf q → ⊥) → bad core round s ws r i ≡ false
 
 -- a core row: its send comes first
-module _ (core round : List ℕ) where
-  unfoldable pub coreBad : ℕ → ℕ → Bool
-  coreBad = badTuple (coreKind 24) roundKind core round (coreKind 24) core
-
-  core-u : ℕ → ℕ → Bool
-  core-u r j = uneven (coreKind 24) roundKind core round ((coreKind 24) .tuple (row coreLayout core r) j .values)
-
-  core-lo : (r : ℕ) → coreBad r 2 ≡ (active coreLayout core r && core-u r 2)
-  unfolding coreBad core-u
-  core-lo r = bad-send (coreKind 24) roundKind core round (core-bus 24) core r
-
-  core-hi : (r : ℕ) → coreBad r 3 ≡ (active coreLayout core r && core-u r 3)
-  unfolding coreBad core-u
-  core-hi r = bad-receive (coreKind 24) roundKind core round (core-bus 24) core r
-
-  core-other : (r i : ℕ) → (i ≡ 2 → ⊥) → (i ≡ 3 → ⊥) → coreBad r i ≡ false
-  unfolding coreBad
-  core-other r i n m = bad-other (coreKind 24) roundKind core round (core-bus 24) core r i n m
-
-  pub core-spot-off : (r : ℕ) → first (inRow coreBad 84) r ≡ none → active coreLayout core r ≡ false → first (inRow coreBad 84) (r + 1) ≡ none
-  core-spot-off = scan-off coreBad (active coreLayout core) core-u 84 2 3 (omega arith) (omega arith) core-lo core-hi core-other
-
-  module _ (r : ℕ) (f : first (inRow coreBad 84) r ≡ none) (l : r < rows coreLayout core) (e : active coreLayout core r ≡ true) (s : Bool)
-      (es : s ≡ uneven (coreKind 24) roundKind core round (tupleOf CoreSend (take (r * 486 + 486 - r * 486) (drop (r * 486) core)))) where
-    core-at-lo : core-u r 2 ≡ s
-    unfolding core-u tupleOf coreTuple then
-    core-at-lo = sym (es ∙ ap (λ (x : List ℕ). uneven (coreKind 24) roundKind core round (tupleOf CoreSend x)) (core-part core r l))
-
-    pub core-spot-early : s ≡ true → firstIn coreBad 84 (rows coreLayout core) ≡ some (r, 2)
-    core-spot-early z = scan-lo coreBad (active coreLayout core) core-u 84 2 3 (omega arith) (omega arith) core-lo core-hi core-other r f e (rows coreLayout core) l (core-at-lo ∙ z)
-
-    module _ (z : s ≡ false) (t : Bool)
-        (et : t ≡ uneven (coreKind 24) roundKind core round (tupleOf CoreReceive (take (r * 486 + 486 - r * 486) (drop (r * 486) core)))) where
-      core-at-hi : core-u r 3 ≡ t
-      unfolding core-u tupleOf coreTuple then
-      core-at-hi = sym (et ∙ ap (λ (x : List ℕ). uneven (coreKind 24) roundKind core round (tupleOf CoreReceive x)) (core-part core r l))
-
-      pub core-spot-late : t ≡ true → firstIn coreBad 84 (rows coreLayout core) ≡ some (r, 3)
-      core-spot-late y = scan-hi coreBad (active coreLayout core) core-u 84 2 3 (omega arith) (omega arith) core-lo core-hi core-other r f e (rows coreLayout core) l (core-at-lo ∙ z) (core-at-hi ∙ y)
-
-      pub core-spot-on : t ≡ false → first (inRow coreBad 84) (r + 1) ≡ none
-      core-spot-on y = scan-on coreBad (active coreLayout core) core-u 84 2 3 (omega arith) (omega arith) core-lo core-hi core-other r f e (core-at-lo ∙ z) (core-at-hi ∙ y)
+two-core : Two CoreSend CoreReceive
+unfolding kindOf indexOf layoutOf widthOf tupleOf coreTuple then
+two-core =
+    record {
+      layout = refl;
+      width = refl;
+      order = omega arith;
+      inside = omega arith;
+      early = λ core round ws r. bad-send (coreKind 24) roundKind core round (core-bus 24) ws r;
+      late = λ core round ws r. bad-receive (coreKind 24) roundKind core round (core-bus 24) ws r;
+      other = λ core round ws r i n m. bad-other (coreKind 24) roundKind core round (core-bus 24) ws r i n m;
+    }
 
 -- a round row: its receive comes first
-module _ (core round : List ℕ) where
-  unfoldable pub roundBad : ℕ → ℕ → Bool
-  roundBad = badTuple (coreKind 24) roundKind core round roundKind round
+two-round : Two RoundReceive RoundSend
+unfolding kindOf indexOf layoutOf widthOf tupleOf roundTuple then
+two-round =
+    record {
+      layout = refl;
+      width = refl;
+      order = omega arith;
+      inside = omega arith;
+      early = λ core round ws r. bad-receive (coreKind 24) roundKind core round round-bus ws r;
+      late = λ core round ws r. bad-send (coreKind 24) roundKind core round round-bus ws r;
+      other = λ core round ws r i n m. bad-other (coreKind 24) roundKind core round round-bus ws r i m n;
+    }
 
-  round-u : ℕ → ℕ → Bool
-  round-u r j = uneven (coreKind 24) roundKind core round (roundKind .tuple (row roundLayout round r) j .values)
+pub two-of : (s q : Port) → Pair s q → Two s q
+unfolding Pair
+two-of s q h =
+    ⊎-elim
+    (λ e. subst (λ (t : Port). Two t q) (sym (e .0)) (subst (Two CoreSend) (sym (e .1)) two-core))
+    (λ e. subst (λ (t : Port). Two t q) (sym (e .0)) (subst (Two RoundReceive) (sym (e .1)) two-round))
+    h
 
-  round-lo : (r : ℕ) → roundBad r 0 ≡ (active roundLayout round r && round-u r 0)
-  unfolding roundBad round-u
-  round-lo r = bad-receive (coreKind 24) roundKind core round round-bus round r
+pub core-pair : Pair CoreSend CoreReceive
+unfolding Pair
+core-pair = inl (refl, refl)
 
-  round-hi : (r : ℕ) → roundBad r 1 ≡ (active roundLayout round r && round-u r 1)
-  unfolding roundBad round-u
-  round-hi r = bad-send (coreKind 24) roundKind core round round-bus round r
+pub round-pair : Pair RoundReceive RoundSend
+unfolding Pair
+round-pair = inr (refl, refl)
 
-  round-other : (r i : ℕ) → (i ≡ 0 → ⊥) → (i ≡ 1 → ⊥) → roundBad r i ≡ false
-  unfolding roundBad
-  round-other r i n m = bad-other (coreKind 24) roundKind core round round-bus round r i m n
+-- ---- the search, row by row
+pub spot-is : (o : Option (ℕ × ℕ)) (r i j : ℕ) → i ≡ j → o ≡ some (r, j) → At r i ≡ spotOf o
+spot-is o r i j e f = ap (At r) e ∙ sym (ap spotOf f)
 
-  pub round-spot-off : (r : ℕ) → first (inRow roundBad 1031) r ≡ none → active roundLayout round r ≡ false → first (inRow roundBad 1031) (r + 1) ≡ none
-  round-spot-off = scan-off roundBad (active roundLayout round) round-u 1031 0 1 (omega arith) (omega arith) round-lo round-hi round-other
+-- no row before r has one
+abbrev pub Clear : List ℕ → List ℕ → Port → List ℕ → ℕ → Type 0
+Clear core round s ws r = first (inRow (bad core round s ws) (kindOf s .tuples)) r ≡ none
 
-  module _ (r : ℕ) (f : first (inRow roundBad 1031) r ≡ none) (l : r < rows roundLayout round) (e : active roundLayout round r ≡ true) (s : Bool)
-      (es : s ≡ uneven (coreKind 24) roundKind core round (tupleOf RoundReceive (take (r * 1480 + 1480 - r * 1480) (drop (r * 1480) round)))) where
-    round-at-lo : round-u r 0 ≡ s
-    unfolding round-u tupleOf roundTuple then
-    round-at-lo = sym (es ∙ ap (λ (x : List ℕ). uneven (coreKind 24) roundKind core round (tupleOf RoundReceive x)) (round-part round r l))
+module _ (core round : List ℕ) (s q : Port) (t : Two s q) (w : ℕ) (ew : w ≡ layoutOf s .width) (ws : List ℕ) (r : ℕ) where
+  rows-are : length ws / w ≡ rows (kindOf s .layout) ws
+  rows-are = λ i. length ws / ((ew ∙ (λ j. t .layout j .width)) i)
 
-    pub round-spot-early : s ≡ true → firstIn roundBad 1031 (rows roundLayout round) ≡ some (r, 0)
-    round-spot-early z = scan-lo roundBad (active roundLayout round) round-u 1031 0 1 (omega arith) (omega arith) round-lo round-hi round-other r f e (rows roundLayout round) l (round-at-lo ∙ z)
+  pub clear-end : r ≤ length ws / w → length ws / w ≤ r → Clear core round s ws r → firstUnbalanced (coreKind 24) roundKind core round (kindOf s) ws ≡ none
+  clear-end l g f = in-none (bad core round s ws) (kindOf s .tuples) r (rows (kindOf s .layout) ws) (omega (arith, rows-are)) (omega (arith, rows-are)) f
 
-    module _ (z : s ≡ false) (t : Bool)
-        (et : t ≡ uneven (coreKind 24) roundKind core round (tupleOf RoundSend (take (r * 1480 + 1480 - r * 1480) (drop (r * 1480) round)))) where
-      round-at-hi : round-u r 1 ≡ t
-      unfolding round-u tupleOf roundTuple then
-      round-at-hi = sym (et ∙ ap (λ (x : List ℕ). uneven (coreKind 24) roundKind core round (tupleOf RoundSend x)) (round-part round r l))
+  module _ (f : Clear core round s ws r) (x : List ℕ) (ex : x ≡ rowAt w ws r) where
+    here : x ≡ row (layoutOf s) ws r
+    here = ex ∙ ap (λ (k : ℕ). rowAt k ws r) ew
 
-      pub round-spot-late : t ≡ true → firstIn roundBad 1031 (rows roundLayout round) ≡ some (r, 1)
-      round-spot-late y = scan-hi roundBad (active roundLayout round) round-u 1031 0 1 (omega arith) (omega arith) round-lo round-hi round-other r f e (rows roundLayout round) l (round-at-lo ∙ z) (round-at-hi ∙ y)
+    last : w - 1 ≡ layoutOf s .mu
+    last = omega (arith, mu-is s)
 
-      pub round-spot-on : t ≡ false → first (inRow roundBad 1031) (r + 1) ≡ none
-      round-spot-on y = scan-on roundBad (active roundLayout round) round-u 1031 0 1 (omega arith) (omega arith) round-lo round-hi round-other r f e (round-at-lo ∙ z) (round-at-hi ∙ y)
+    is-on : word x (w - 1) ≡ 1 → active (layoutOf s) ws r ≡ true
+    unfolding isActive
+    is-on e = eq-eqb (word (row (layoutOf s) ws r) (layoutOf s .mu)) 1 ((λ i. word (sym here i) (sym last i)) ∙ e)
+
+    is-off : (word x (w - 1) ≡ 1 → ⊥) → active (layoutOf s) ws r ≡ false
+    unfolding isActive
+    is-off n = ne-eqb (word (row (layoutOf s) ws r) (layoutOf s .mu)) 1 (λ e. n ((λ i. word (here i) (last i)) ∙ e))
+
+    pub spot-off : (word x (w - 1) ≡ 1 → ⊥) → Clear core round s ws (r + 1)
+    spot-off n =
+        let e = is-off n in
+        first-more (inRow (bad core round s ws) (kindOf s .tuples)) r f
+        (two-none (bad core round s ws) (kindOf s .tuples) (indexOf s) (indexOf q) r (t .order) (t .inside) (t .other core round ws r) (t .early core round ws r ∙ rw e) (t .late core round ws r ∙ rw e))
+
+    module _ (on : word x (w - 1) ≡ 1) (d : Bool) (ed : d ≡ odd core round s x) where
+      at-early : bad core round s ws r (indexOf s) ≡ d
+      at-early = t .early core round ws r ∙ rw (is-on on) (sym (ed ∙ ap (odd core round s) here))
+
+      pub spot-early : r < length ws / w → d ≡ true → firstUnbalanced (coreKind 24) roundKind core round (kindOf s) ws ≡ some (r, indexOf s)
+      spot-early l z =
+          first-hit (inRow (bad core round s ws) (kindOf s .tuples)) r (rows (kindOf s .layout) ws) (r, indexOf s) (omega (arith, rows-are)) f
+          (two-early (bad core round s ws) (kindOf s .tuples) (indexOf s) (indexOf q) r (t .order) (t .inside) (t .other core round ws r) (at-early ∙ z))
+
+      module _ (z : d ≡ false) (b : Bool) (eb : b ≡ odd core round q x) where
+        at-late : bad core round s ws r (indexOf q) ≡ b
+        at-late = t .late core round ws r ∙ rw (is-on on) (sym (eb ∙ ap (odd core round q) here))
+
+        pub spot-late : r < length ws / w → b ≡ true → firstUnbalanced (coreKind 24) roundKind core round (kindOf s) ws ≡ some (r, indexOf q)
+        spot-late l y =
+            first-hit (inRow (bad core round s ws) (kindOf s .tuples)) r (rows (kindOf s .layout) ws) (r, indexOf q) (omega (arith, rows-are)) f
+            (two-late (bad core round s ws) (kindOf s .tuples) (indexOf s) (indexOf q) r (t .order) (t .inside) (t .other core round ws r) (at-early ∙ z) (at-late ∙ y))
+
+        pub spot-on : b ≡ false → Clear core round s ws (r + 1)
+        spot-on y =
+            first-more (inRow (bad core round s ws) (kindOf s .tuples)) r f
+            (two-none (bad core round s ws) (kindOf s .tuples) (indexOf s) (indexOf q) r (t .order) (t .inside) (t .other core round ws r) (at-early ∙ z) (at-late ∙ y))

@@ -2,22 +2,25 @@
 use mathlib.Core.Path.{_≡_, refl, sym, ap, subst, _∙_}
 use mathlib.Core.Bool.{Bool, true, false, _&&_}
 use mathlib.Core.List.{List}
-use Prim.Native.Nat.{ℕ, _+_, _-_, _*_, _≤_, _<_}
+use Prim.Native.Nat.{ℕ, _+_, _-_, _/_, _^_, _≤_, _<_}
+use native.Mathlib.Nat.{div-le-self}
 use native.Mathlib.Omega.{arith}
-use lib.ListN.{length, take, drop}
-use Rattle.lists.specs.Tab.{pick}
+use lib.Dec.{eqb}
+use lib.ListN.{length}
+use Rattle.lists.specs.Tab.{pick, word, rowAt}
 use Rattle.lists.specs.First.{count}
 use Rattle.lists.proofs.First.{count-more, count-skip, count-le, count-end}
-use Rattle.lists.proofs.Tests.{false-and}
+use Rattle.lists.proofs.Laws.{length-rowAt}
+use Rattle.lists.proofs.Tests.{true-not-false, false-and}
 use Rattle.bus.specs.Words.{wordsTest}
-use Rattle.verdict.specs.Kind.{Layout, rows, row, active, sent, received, sameStamp}
-use Rattle.judge_scan.proofs.Scan.{part-is, part-long}
-use Rattle.judge_tuples.specs.Port.{tupleOf}
+use Rattle.verdict.specs.Kind.{rows, row, active, isActive, sameStamp}
+use Rattle.judge_tuples.specs.Port.{tupleOf, widthOf}
 use Rattle.judge_tuples.specs.declared.Port.{Port}
-use Rattle.judge_tuples.proofs.Ports.{stamp-apart}
-use Rattle.judge_counts.specs.Counting.{withRow, Counted}
+use Rattle.judge_tuples.proofs.Ports.{front-fits, stamp-apart}
+use Rattle.judge_links.specs.Even.{layoutOf, carries}
+use Rattle.judge_links.proofs.Even.{width-is, mu-is, row-wide}
+use Rattle.judge_counts.specs.Counting.{withRow, Counted, CountedRows}
 use Rattle.judge_counts.specs.declared.Counts.{Counts}
-use Rattle.judge_links.proofs.Even.{counts}
 
 -- ---- the counts
 -- a count from an index on
@@ -77,30 +80,79 @@ one-more b n e = sym (rw e)
 pub no-more : (b : Bool) (n : ℕ) → b ≡ false → n ≡ pick b (n + 1) n
 no-more b n e = sym (rw e)
 
--- one row, as a part of the slice: what the code finds of it, one test after the other
-and-on : (a b : Bool) → b ≡ true → (a && b) ≡ a
-and-on true b e = e
+-- ---- the rows of a table, by the tuple that they send
+pub below : (n w r : ℕ) → r < n / w → r < n
+below n w r l = omega (arith, div-le-self n w)
+
+pub row-long : (w : ℕ) (y ws : List ℕ) (r : ℕ) → y ≡ rowAt w ws r → length y ≡ w
+row-long w y ws r e = ap length e ∙ length-rowAt w ws r
+
+on-and : (a b c : Bool) → (a && b) ≡ true → c ≡ (a && c)
+on-and true b c e = refl
+on-and false b c e = absurd (true-not-false (sym e))
+
+pub and-on : (a b : Bool) → b ≡ true → a ≡ (a && b)
+and-on true b e = sym e
 and-on false b e = refl
 
-module _ (A : Layout) (ws : List ℕ) (r : ℕ) (l : r < rows A ws) where
-  abbrev part : List ℕ
-  part = take (r * A .width + A .width - r * A .width) (drop (r * A .width) ws)
+pub stamp-off : (a b s : Bool) → s ≡ b → s ≡ false → false ≡ (a && b)
+stamp-off a b s e f = sym (false-and a b (λ z. sym e ∙ f))
 
-  pub row-stamped : 2 ≤ A .width → 2 ≤ length part
-  row-stamped h = omega (arith, part-long (A .width) ws r l)
+off-and : (a b c : Bool) → (a && b) ≡ false → (b ≡ false → c ≡ false) → (a && c) ≡ false
+off-and true b c e f = f e
+off-and false b c e f = refl
 
-  pub stamp-other : (x : List ℕ) (s port : Port) (b : Bool) → b ≡ sameStamp x part → b ≡ false →
-      (active A ws r && wordsTest (tupleOf s x) (tupleOf port (row A ws r))) ≡ false
-  stamp-other x s port b e f =
-      false-and (active A ws r) (wordsTest (tupleOf s x) (tupleOf port (row A ws r)))
-      (λ z. stamp-apart s x port (row A ws r) (ap (sameStamp x) (sym (part-is (A .width) ws r l)) ∙ sym e ∙ f))
+module _ (send : Port) (w : ℕ) (ew : w ≡ layoutOf send .width) where
+  pub wide : 3 ≤ w
+  wide = front-fits send w (omega (arith, width-is send))
 
-  module _ (port : Port) (v : List ℕ) (b : Bool) (e : b ≡ wordsTest v (tupleOf port part)) where
-    here : b ≡ wordsTest v (tupleOf port (row A ws r))
-    here = e ∙ ap (λ (y : List ℕ). wordsTest v (tupleOf port y)) (part-is (A .width) ws r l)
+  pub as-wide : (q : Port) → widthOf q ≡ widthOf send → widthOf q ≤ w
+  as-wide q e = omega (arith, width-is send)
 
-    pub tuple-other : b ≡ false → false ≡ (active A ws r && wordsTest v (tupleOf port (row A ws r)))
-    tuple-other f = sym (false-and (active A ws r) (wordsTest v (tupleOf port (row A ws r))) (λ z. sym here ∙ f))
+  pub row-as-wide : (q : Port) (y ws : List ℕ) (r : ℕ) → y ≡ rowAt w ws r → widthOf q ≡ widthOf send → widthOf q ≤ length y
+  row-as-wide q y ws r e f = row-wide q w y ws r (as-wide q f) e
 
-    pub tuple-same : b ≡ true → (c : Bool) → c ≡ active A ws r → c ≡ (active A ws r && wordsTest v (tupleOf port (row A ws r)))
-    tuple-same f c g = g ∙ sym (and-on (active A ws r) (wordsTest v (tupleOf port (row A ws r))) (sym here ∙ f))
+  pub from-in : (ws : List ℕ) (n : ℕ) → n ≤ rows (layoutOf send) ws → n ≤ length ws / w
+  from-in ws n l = subst (λ (k : ℕ). n ≤ length ws / k) (sym ew) l
+
+  module _ (receive : Port) (ws v : List ℕ) (from r : ℕ) (t : Counts) (h : CountedRows send receive ws v from r t) where
+    pub rows-end : r ≤ length ws / w → length ws / w ≤ r → CountedRows send receive ws v from (rows (layoutOf send) ws) t
+    rows-end l m =
+        subst (λ (k : ℕ). CountedRows send receive ws v from (length ws / k) t) ew
+        (counts-end (carries (layoutOf send) send ws v) (carries (layoutOf send) receive ws v) from r t h (length ws / w) l m)
+
+    pub rows-small : r < length ws / w → length ws < 2 ^ 63 → (t .sent < 2 ^ 63) × (t .received < 2 ^ 63)
+    rows-small l m =
+        let g = counts-le (carries (layoutOf send) send ws v) (carries (layoutOf send) receive ws v) from r t h in
+        let d = div-le-self (length ws) w in (omega arith, omega arith)
+
+  -- row r, as the code finds it: one test for all of its tuples, then each tuple
+  module _ (ws : List ℕ) (r : ℕ) (y : List ℕ) (ey : y ≡ rowAt w ws r) (x : List ℕ) (b : Bool) (eb : b ≡ (eqb (word y (w - 1)) 1 && sameStamp x y)) where
+    here : y ≡ row (layoutOf send) ws r
+    here = ey ∙ ap (λ (k : ℕ). rowAt k ws r) ew
+
+    tested : (active (layoutOf send) ws r && sameStamp x (row (layoutOf send) ws r)) ≡ b
+    unfolding isActive
+    tested =
+        let em : w - 1 ≡ layoutOf send .mu = omega (arith, mu-is send) in
+        sym (eb ∙ (λ i. eqb (word (here i) (em i)) 1 && sameStamp x (here i)))
+
+    carried : (s port : Port) → b ≡ true → wordsTest (tupleOf s x) (tupleOf port y) ≡ carries (layoutOf send) port ws (tupleOf s x) r
+    unfolding carries
+    carried s port e =
+        ap (λ (z : List ℕ). wordsTest (tupleOf s x) (tupleOf port z)) here
+        ∙ on-and (active (layoutOf send) ws r) (sameStamp x (row (layoutOf send) ws r)) (wordsTest (tupleOf s x) (tupleOf port (row (layoutOf send) ws r))) (tested ∙ e)
+
+    other : (s port : Port) → b ≡ false → carries (layoutOf send) port ws (tupleOf s x) r ≡ false
+    unfolding carries
+    other s port e =
+        off-and (active (layoutOf send) ws r) (sameStamp x (row (layoutOf send) ws r)) (wordsTest (tupleOf s x) (tupleOf port (row (layoutOf send) ws r))) (tested ∙ e)
+        (stamp-apart s x port (row (layoutOf send) ws r))
+
+    module _ (receive s : Port) (from : ℕ) (t u : Counts) (h : CountedRows send receive ws (tupleOf s x) from r t) where
+      pub row-added : (n : Counts) → b ≡ true → u ≡ n → n ≡ withRow t (wordsTest (tupleOf s x) (tupleOf send y)) (wordsTest (tupleOf s x) (tupleOf receive y)) →
+          CountedRows send receive ws (tupleOf s x) from (r + 1) u
+      row-added n e f z = counts-row _ _ from r t h u (f ∙ z ∙ (λ i. withRow t (carried s send e i) (carried s receive e i)))
+
+      pub row-passed : b ≡ false → u ≡ t → CountedRows send receive ws (tupleOf s x) from (r + 1) u
+      row-passed e z = counts-past _ _ from r t h u z (other s send e) (other s receive e)

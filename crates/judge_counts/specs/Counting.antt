@@ -6,9 +6,8 @@ use mathlib.Core.List.{List}
 use Prim.Native.Nat.{ℕ, _+_}
 use Rattle.lists.specs.Tab.{pick}
 use Rattle.lists.specs.First.{count}
-use Rattle.verdict.specs.Kind.{rows, row}
-use Rattle.judge_tuples.specs.declared.Port.the-variants.{CoreSend, CoreReceive, RoundReceive, RoundSend}
-use Rattle.judge_links.specs.Even.{coreCarries, roundCarries}
+use Rattle.judge_tuples.specs.declared.Port.{Port}
+use Rattle.judge_links.specs.Even.{layoutOf, carries}
 use Rattle.judge_counts.specs.declared.Counts.{Counts}
 
 -- counts of rows that send and of rows that receive, with one row more
@@ -20,9 +19,7 @@ pub record Counted (f g : ℕ → Bool) (from n : ℕ) (t : Counts) : Type 0 whe
   pub sends : t .sent + count f from ≡ count f n
   pub receives : t .received + count g from ≡ count g n
 
--- those of the tuple v over core rows, and over round rows
-abbrev pub CoreCounted : List ℕ → List ℕ → ℕ → ℕ → Counts → Type 0
-CoreCounted core v from n t = Counted (coreCarries core CoreSend v) (coreCarries core CoreReceive v) from n t
-
-abbrev pub RoundCounted : List ℕ → List ℕ → ℕ → ℕ → Counts → Type 0
-RoundCounted round v from n t = Counted (roundCarries round RoundSend v) (roundCarries round RoundReceive v) from n t
+-- those of the tuple v over the rows of a table that sends `send` and receives `receive`
+abbrev pub CountedRows : Port → Port → List ℕ → List ℕ → ℕ → ℕ → Counts → Type 0
+CountedRows send receive ws v from n t =
+    Counted (carries (layoutOf send) send ws v) (carries (layoutOf send) receive ws v) from n t

@@ -1,21 +1,20 @@
 // How often rows send and receive the tuples of a row on the Keccak bus.
-use judge_scan::core_active;
-use judge_scan::round_active;
+use judge_links::row_at;
+use judge_links::width_of;
 use judge_tuples::Port;
 use judge_tuples::same_stamp;
 use judge_tuples::same_tuple;
-use keccak;
-use keccak_rnd;
 ghost use mathlib.Core.Path.{_≡_};
+ghost use mathlib.Core.Bool.{_&&_};
 ghost use Prim.Native.Nat.{_+_, _^_, _≤_, _<_};
+ghost use lib.Dec.{eqb};
 ghost use lib.ListN.{length};
-ghost use Rattle.lists.specs.Tab.{pick};
-ghost use Rattle.verdict.specs.Kind.{rows, row, active};
-ghost use Rattle.verdict.specs.CoreAndRound.{coreLayout, roundLayout};
+ghost use Rattle.lists.specs.Tab.{pick, word};
+ghost use Rattle.bus.specs.Words.{wordsTest};
+ghost use Rattle.verdict.specs.Kind.{rows, sameStamp};
 ghost use Rattle.judge_tuples.specs.Port.{widthOf, tupleOf};
-ghost use Rattle.judge_tuples.specs.declared.Port.the-variants.{CoreSend, CoreReceive, RoundReceive, RoundSend};
-ghost use Rattle.judge_links.specs.Even.{coreCarries, roundCarries, OfCore, OfRound};
-ghost use Rattle.judge_counts.specs.Counting.{withRow, CoreCounted, RoundCounted};
+ghost use Rattle.judge_links.specs.Even.{layoutOf};
+ghost use Rattle.judge_counts.specs.Counting.{withRow, CountedRows};
 
 // How often rows send a tuple, and how often they receive it.
 pub struct Counts {
@@ -40,40 +39,48 @@ fn plus(n: usize, one: bool) -> usize
     n
 }
 
-// Whether core row `row` is active and has as its tuple `port` the tuple s of the row x. MU comes last: it stands on
-// another page than the timestamp.
-fn core_carries(core: &[u64], row: usize, port: Port, x: &[u64], s: Port) -> bool
-    requires { ⌜ (row < rows coreLayout (now core)) × OfCore port × (widthOf s ≤ length (now x)) ⌝ }
-    ensures { λ r. ⌜ r ≡ coreCarries (now (core .entry)) port (tupleOf s (now (x .entry))) row ⌝ }
+// The counts of the tuple s of the row x, with the row y added.
+fn add(y: &[u64], send: Port, receive: Port, x: &[u64], s: Port, t: Counts) -> Counts
+    requires { ⌜ (widthOf send ≤ length (now y)) × (widthOf receive ≤ length (now y)) × (widthOf s ≤ length (now x)) × (t .sent < 2 ^ 63) × (t .received < 2 ^ 63) ⌝ }
+    ensures { λ r. ⌜ r ≡ withRow t (wordsTest (tupleOf s (now (x .entry))) (tupleOf send (now (y .entry)))) (wordsTest (tupleOf s (now (x .entry))) (tupleOf receive (now (y .entry)))) ⌝ }
 {
-    let start = row * keccak::NUM_COLUMNS;
-    let end = start + keccak::NUM_COLUMNS;
-    if !same_tuple(x, s, &core[start..end], port) {
-        return false;
-    }
-    core_active(core, row)
-}
-
-// The counts of the tuple s of the row x, with core row `row` added.
-fn add_core(core: &[u64], row: usize, x: &[u64], s: Port, t: Counts) -> Counts
-    requires { ⌜ (row < rows coreLayout (now core)) × (widthOf s ≤ length (now x)) × (t .sent ≤ row) × (t .received ≤ row) ⌝ }
-    ensures { λ r. ⌜ r ≡ withRow t (coreCarries (now (core .entry)) CoreSend (tupleOf s (now (x .entry))) row) (coreCarries (now (core .entry)) CoreReceive (tupleOf s (now (x .entry))) row) ⌝ }
-{
-    let sends = core_carries(core, row, Port::CoreSend, x, s);
-    let receives = core_carries(core, row, Port::CoreReceive, x, s);
+    let sends = same_tuple(x, s, y, send);
+    let receives = same_tuple(x, s, y, receive);
     Counts {
         sent: plus(t.sent, sends),
         received: plus(t.received, receives),
     }
 }
 
-// How often the core rows from `from` on send the tuples s and q of the row x, and receive them. Both tuples have the
-// row's timestamp, so one test of it passes over a row for both.
-pub fn count_core(core: &[u64], from: usize, x: &[u64], s: Port, q: Port) -> Both
-    requires { ⌜ (from ≤ rows coreLayout (now core)) × (widthOf s ≤ length (now x)) × (widthOf q ≤ length (now x)) ⌝ }
-    ensures { λ r. ⌜ CoreCounted (now (core .entry)) (tupleOf s (now (x .entry))) from (rows coreLayout (now (core .entry))) (r .first) × CoreCounted (now (core .entry)) (tupleOf q (now (x .entry))) from (rows coreLayout (now (core .entry))) (r .second) ⌝ }
+// Whether the row y has the timestamp of the row x and is active. MU comes last: it stands on another page than the
+// timestamp.
+fn of_call(x: &[u64], y: &[u64], mu: usize) -> bool
+    requires { ⌜ (2 ≤ length (now x)) × (2 ≤ length (now y)) × (mu < length (now y)) ⌝ }
+    ensures { λ r. ⌜ r ≡ (eqb (word (now (y .entry)) mu) 1 && sameStamp (now (x .entry)) (now (y .entry))) ⌝ }
 {
-    let rows = core.len() / keccak::NUM_COLUMNS;
+    if !same_stamp(x, y) {
+        return false;
+    }
+    y[mu] == 1
+}
+
+// How often the rows of a table from `from` on send the tuples s and q of the row x, and receive them. Both tuples have
+// the row's timestamp, so one test of it passes over a row for both. MU is the last word of a row of either table.
+pub fn count(
+    table: &[u64],
+    from: usize,
+    send: Port,
+    receive: Port,
+    x: &[u64],
+    s: Port,
+    q: Port,
+) -> Both
+    requires { ⌜ (from ≤ rows (layoutOf send) (now table)) × (widthOf receive ≡ widthOf send) × (widthOf s ≤ length (now x)) × (widthOf q ≤ length (now x)) ⌝ }
+    ensures { λ r. ⌜ CountedRows send receive (now (table .entry)) (tupleOf s (now (x .entry))) from (rows (layoutOf send) (now (table .entry))) (r .first) × CountedRows send receive (now (table .entry)) (tupleOf q (now (x .entry))) from (rows (layoutOf send) (now (table .entry))) (r .second) ⌝ }
+{
+    let width = width_of(send);
+    let mu = width - 1;
+    let rows = table.len() / width;
     let mut first = Counts {
         sent: 0,
         received: 0,
@@ -84,66 +91,10 @@ pub fn count_core(core: &[u64], from: usize, x: &[u64], s: Port, q: Port) -> Bot
     };
     let mut row = from;
     while row < rows {
-        let start = row * keccak::NUM_COLUMNS;
-        let end = start + keccak::NUM_COLUMNS;
-        if same_stamp(x, &core[start..end]) {
-            first = add_core(core, row, x, s, first);
-            second = add_core(core, row, x, q, second);
-        }
-        row += 1;
-    }
-    Both { first, second }
-}
-
-// Whether round row `row` is active and has as its tuple `port` the tuple s of the row x. MU comes last: it stands on
-// another page than the timestamp.
-fn round_carries(round: &[u64], row: usize, port: Port, x: &[u64], s: Port) -> bool
-    requires { ⌜ (row < rows roundLayout (now round)) × OfRound port × (widthOf s ≤ length (now x)) ⌝ }
-    ensures { λ r. ⌜ r ≡ roundCarries (now (round .entry)) port (tupleOf s (now (x .entry))) row ⌝ }
-{
-    let start = row * keccak_rnd::NUM_COLUMNS;
-    let end = start + keccak_rnd::NUM_COLUMNS;
-    if !same_tuple(x, s, &round[start..end], port) {
-        return false;
-    }
-    round_active(round, row)
-}
-
-// The counts of the tuple s of the row x, with round row `row` added.
-fn add_round(round: &[u64], row: usize, x: &[u64], s: Port, t: Counts) -> Counts
-    requires { ⌜ (row < rows roundLayout (now round)) × (widthOf s ≤ length (now x)) × (t .sent ≤ row) × (t .received ≤ row) ⌝ }
-    ensures { λ r. ⌜ r ≡ withRow t (roundCarries (now (round .entry)) RoundSend (tupleOf s (now (x .entry))) row) (roundCarries (now (round .entry)) RoundReceive (tupleOf s (now (x .entry))) row) ⌝ }
-{
-    let sends = round_carries(round, row, Port::RoundSend, x, s);
-    let receives = round_carries(round, row, Port::RoundReceive, x, s);
-    Counts {
-        sent: plus(t.sent, sends),
-        received: plus(t.received, receives),
-    }
-}
-
-// How often the round rows from `from` on send the tuples s and q of the row x, and receive them. Both tuples have the
-// row's timestamp, so one test of it passes over a row for both.
-pub fn count_round(round: &[u64], from: usize, x: &[u64], s: Port, q: Port) -> Both
-    requires { ⌜ (from ≤ rows roundLayout (now round)) × (widthOf s ≤ length (now x)) × (widthOf q ≤ length (now x)) ⌝ }
-    ensures { λ r. ⌜ RoundCounted (now (round .entry)) (tupleOf s (now (x .entry))) from (rows roundLayout (now (round .entry))) (r .first) × RoundCounted (now (round .entry)) (tupleOf q (now (x .entry))) from (rows roundLayout (now (round .entry))) (r .second) ⌝ }
-{
-    let rows = round.len() / keccak_rnd::NUM_COLUMNS;
-    let mut first = Counts {
-        sent: 0,
-        received: 0,
-    };
-    let mut second = Counts {
-        sent: 0,
-        received: 0,
-    };
-    let mut row = from;
-    while row < rows {
-        let start = row * keccak_rnd::NUM_COLUMNS;
-        let end = start + keccak_rnd::NUM_COLUMNS;
-        if same_stamp(x, &round[start..end]) {
-            first = add_round(round, row, x, s, first);
-            second = add_round(round, row, x, q, second);
+        let y = row_at(table, width, row);
+        if of_call(x, y, mu) {
+            first = add(y, send, receive, x, s, first);
+            second = add(y, send, receive, x, q, second);
         }
         row += 1;
     }

@@ -9,37 +9,28 @@ use Rattle.lists.specs.First.{count}
 use Rattle.lists.specs.declared.Place.{Place}
 use Rattle.lists.specs.declared.Place.the-variants.{At, Nowhere}
 use Rattle.bus.specs.Words.{wordsTest}
-use Rattle.verdict.specs.Kind.{rows, row, active}
+use Rattle.verdict.specs.Kind.{Layout, rows, row, active}
 use Rattle.verdict.specs.CoreAndRound.{coreLayout, roundLayout}
 use Rattle.judge_tuples.specs.Port.{tupleOf}
 use Rattle.judge_tuples.specs.declared.Port.{Port}
 use Rattle.judge_tuples.specs.declared.Port.the-variants.{CoreSend, CoreReceive, RoundReceive, RoundSend}
 
--- whether row r is active and has, as its tuple `port`, the tuple v
-unfoldable pub coreCarries : List ℕ → Port → List ℕ → ℕ → Bool
-coreCarries core port v r = active coreLayout core r && wordsTest v (tupleOf port (row coreLayout core r))
+-- the layout of the rows that have such a tuple
+unfoldable pub layoutOf : Port → Layout
+layoutOf CoreSend = coreLayout
+layoutOf CoreReceive = coreLayout
+layoutOf RoundReceive = roundLayout
+layoutOf RoundSend = roundLayout
 
-unfoldable pub roundCarries : List ℕ → Port → List ℕ → ℕ → Bool
-roundCarries round port v r = active roundLayout round r && wordsTest v (tupleOf port (row roundLayout round r))
+-- whether row r of a table is active and has, as its tuple `port`, the tuple v
+unfoldable pub carries : Layout → Port → List ℕ → List ℕ → ℕ → Bool
+carries A port ws v r = active A ws r && wordsTest v (tupleOf port (row A ws r))
 
 -- each tuple is sent as often as received by the first a core rows and the first b round rows
 unfoldable pub Even : List ℕ → List ℕ → ℕ → ℕ → Type 0
 Even core round a b =
-    (v : List ℕ) → count (coreCarries core CoreSend v) a + count (roundCarries round RoundSend v) b
-    ≡ count (coreCarries core CoreReceive v) a + count (roundCarries round RoundReceive v) b
-
--- the ports of core rows, and of round rows
-unfoldable pub OfCore : Port → Type 0
-OfCore CoreSend = Unit {0}
-OfCore CoreReceive = Unit {0}
-OfCore RoundReceive = ⊥
-OfCore RoundSend = ⊥
-
-unfoldable pub OfRound : Port → Type 0
-OfRound CoreSend = ⊥
-OfRound CoreReceive = ⊥
-OfRound RoundReceive = Unit {0}
-OfRound RoundSend = Unit {0}
+    (v : List ℕ) → count (carries coreLayout CoreSend core v) a + count (carries roundLayout RoundSend round v) b
+    ≡ count (carries coreLayout CoreReceive core v) a + count (carries roundLayout RoundReceive round v) b
 
 -- the tuple that is owed in the chain of core row a: what the last round row of the chain sent, or what row a sent
 unfoldable pub owedBy : List ℕ → ℕ → List ℕ → Place → List ℕ

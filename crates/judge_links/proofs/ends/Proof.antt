@@ -1,70 +1,25 @@
--- `judge_links::ends` meets its contract: the two parts are the two rows. Assumes nothing.
-use native.Mathlib.Omega.{arith}
-use Rattle.lists.specs.declared.Place.the-variants.{Nowhere}
+-- `judge_links::ends` meets its contract: the two slices are the two rows. Assumes nothing.
+use mathlib.Core.Path.{refl}
+use native.Mathlib.Nat.{le-refl}
+use Rattle.judge_tuples.specs.Port.{widthOf}
 use Rattle.judge_tuples.specs.declared.Port.the-variants.{CoreReceive, RoundSend}
-use Rattle.judge_links.specs.Even.{OfCore, OfRound}
-use Rattle.judge_links.proofs.Even.{core-wide, round-wide, ended}
+use Rattle.judge_links.proofs.Even.{row-wide, linked}
 use Rattle.judge_links.proofs.ends.Statement.{statement}
 use Rattle.judge_links.proofs.ends.Tie as tie
 
-mul-start : tie.Need-mul-start
-mul-start c = omega arith
+row-at-requires : tie.Need-row-at-requires
+row-at-requires c κs = c .before .before .pre .1
 
-add-end : tie.Need-add-end
-add-end c = omega arith
-
-mul-from : tie.Need-mul-from
-mul-from c = omega arith
-
-add-to : tie.Need-add-to
-add-to c = omega arith
-
-mul-same-tuple : tie.Need-mul-same-tuple
-mul-same-tuple c = omega arith
-
-sub-same-tuple : tie.Need-sub-same-tuple
-sub-same-tuple c = omega arith
-
-part-same-tuple-start : tie.Need-part-same-tuple-start
-part-same-tuple-start c = omega arith
-
-part-same-tuple-end : tie.Need-part-same-tuple-end
-part-same-tuple-end c = omega arith
-
-mul-same-tuple-2 : tie.Need-mul-same-tuple-2
-mul-same-tuple-2 c = omega arith
-
-sub-same-tuple-2 : tie.Need-sub-same-tuple-2
-sub-same-tuple-2 c = omega arith
-
-part-same-tuple-start-2 : tie.Need-part-same-tuple-start-2
-part-same-tuple-start-2 c = omega arith
-
-part-same-tuple-end-2 : tie.Need-part-same-tuple-end-2
-part-same-tuple-end-2 c = omega arith
+row-at-requires-2 : tie.Need-row-at-requires-2
+row-at-requires-2 c κs = c .before .before .before .pre .0
 
 same-tuple-requires : tie.Need-same-tuple-requires
-unfolding OfCore OfRound
-same-tuple-requires c κs = (round-wide _ _ RoundSend tt (c .before .before .before .before .pre .1), core-wide _ _ CoreReceive tt (c .before .before .before .before .pre .0))
+unfolding widthOf
+same-tuple-requires c κs =
+    (row-wide RoundSend _ _ _ _ (le-refl _) (c .before .row-at .ensures), row-wide CoreReceive _ _ _ _ (le-refl _) (c .row-at2 .ensures))
 
 returns : tie.Need-returns
-returns c = ended _ _ _ _ (c .before .before .before .before .before .pre .0) (c .before .before .before .before .before .pre .1) Nowhere _ (c .same-tuple .ensures)
+returns c = linked RoundSend CoreReceive _ _ _ _ _ _ (c .same-tuple .ensures) (c .before .before .row-at .ensures) (c .before .row-at2 .ensures) refl
 
 pub ends-spec : {M : Type 1} → statement M
-ends-spec =
-    tie.close
-    (tie.spec
-    mul-start
-    add-end
-    mul-from
-    add-to
-    mul-same-tuple
-    sub-same-tuple
-    part-same-tuple-start
-    part-same-tuple-end
-    mul-same-tuple-2
-    sub-same-tuple-2
-    part-same-tuple-start-2
-    part-same-tuple-end-2
-    same-tuple-requires
-    returns)
+ends-spec = tie.close (tie.spec row-at-requires row-at-requires-2 same-tuple-requires returns)
