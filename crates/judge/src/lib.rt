@@ -1,10 +1,8 @@
 // The verdict on a core table and a round table: the stages of `verdictOf`, one after the other.
 use answer::Refusal;
 use field::elements::first_not_element;
-use judge_bus::Walked;
 use judge_bus::first_core_unbalanced;
 use judge_bus::first_round_unbalanced;
-use judge_bus::walk;
 use judge_chains::every_chain;
 use judge_rows::first_core_lookup;
 use judge_rows::first_core_value;
@@ -13,6 +11,8 @@ use judge_rows::first_round_value;
 use judge_scan::Spot;
 use judge_scan::active_core_rows;
 use judge_stamps::first_repeat;
+use judge_walk::Walked;
+use judge_walk::walk;
 use keccak;
 use keccak_rnd;
 use lists::Place;
@@ -24,7 +24,7 @@ ghost use Rattle.verdict.specs.Kind.{rows, DistinctTimestamps};
 ghost use Rattle.verdict.specs.CoreAndRound.{coreKind, roundKind, coreLayout, roundLayout, verdictOf};
 ghost use Rattle.verdict.specs.Failures.{Elements};
 ghost use Rattle.verdict.specs.Verdict.{fromCoreValue, fromRoundValue, fromCoreBalance, fromRoundBalance};
-ghost use Rattle.judge_bus.specs.Even.{Even};
+ghost use Rattle.judge_links.specs.Even.{Even};
 
 // From the unbalanced tuples of round rows on: a tuple of one, or the tables hold.
 fn from_round_balance(core: &[u64], round: &[u64], walked: Walked) -> Verdict

@@ -1,1 +1,1 @@
-pub mod Even
+pub mod Pair

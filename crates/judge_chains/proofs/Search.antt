@@ -17,7 +17,7 @@ use Rattle.verdict.specs.CoreAndRound.{coreLayout, roundLayout}
 use Rattle.verdict.proofs.Judge.{is-active, active-is}
 use Rattle.judge_tuples.specs.Port.{tupleOf}
 use Rattle.judge_tuples.specs.declared.Port.the-variants.{CoreReceive, RoundReceive, RoundSend}
-use Rattle.judge_bus.specs.Even.{owedBy, Started}
+use Rattle.judge_links.specs.Even.{owedBy, Started}
 use Rattle.judge_chains.specs.Chain.{Follows, Linked, Chain, EachChain, Found}
 
 -- ---- rows counted round the end

@@ -12,7 +12,7 @@ use Rattle.verdict.specs.Kind.{row, actives, Active}
 use Rattle.verdict.specs.CoreAndRound.{coreLayout, roundLayout}
 use Rattle.judge_tuples.specs.Port.{tupleOf}
 use Rattle.judge_tuples.specs.declared.Port.the-variants.{CoreReceive, RoundReceive, RoundSend}
-use Rattle.judge_bus.specs.Even.{owedBy}
+use Rattle.judge_links.specs.Even.{owedBy}
 
 -- active round row q receives what is owed in the chain of core row a, whose last round row is `last`
 pub record Follows (core : List ℕ) (a : ℕ) (round : List ℕ) (last : Place) (q : ℕ) : Type 0 where

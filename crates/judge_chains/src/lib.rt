@@ -1,6 +1,6 @@
 // Whether each core row has its chain of 24 round rows, wherever these stand: a search that shows the Keccak bus balanced.
-use judge_bus::ends;
-use judge_bus::takes;
+use judge_links::ends;
+use judge_links::takes;
 use judge_scan::active_core_rows;
 use judge_scan::core_active;
 use judge_scan::round_active;
@@ -14,7 +14,7 @@ ghost use Prim.Native.Nat.{ℕ, _+_, _%_, _≤_, _<_};
 ghost use Rattle.lists.specs.declared.Place.the-variants.{At};
 ghost use Rattle.verdict.specs.Kind.{rows, actives};
 ghost use Rattle.verdict.specs.CoreAndRound.{coreLayout, roundLayout};
-ghost use Rattle.judge_bus.specs.Even.{Started};
+ghost use Rattle.judge_links.specs.Even.{Started};
 ghost use Rattle.judge_chains.specs.Chain.{Follows, Linked, Chain, EachChain, Chained, Found};
 
 // Whether round row q is active and receives what is owed. The first word of a timestamp, one word along a chain, tells

@@ -1,0 +1,39 @@
+-- `judge_bus::index_of` meets its contract, arm by arm. Assumes nothing.
+use borrow.Author.Needs.{needs}
+use Rattle.judge_bus.specs.Pair.{indexOf}
+use Rattle.judge_bus.proofs.Bus.{told-index}
+use Rattle.judge_bus.proofs.index_of.Statement.{statement}
+use Rattle.judge_bus.proofs.index_of.Tie as tie
+
+enum-told : tie.Need-enum-told
+enum-told c = search needs
+
+enum-told-2 : tie.Need-enum-told-2
+enum-told-2 c = search needs
+
+enum-told-3 : tie.Need-enum-told-3
+enum-told-3 c = search needs
+
+enum-told-4 : tie.Need-enum-told-4
+enum-told-4 c = search needs
+
+returns : tie.Need-returns
+unfolding indexOf
+returns c = told-index (c .enum-told .given .1)
+
+returns-2 : tie.Need-returns-2
+unfolding indexOf
+returns-2 c = told-index (c .enum-told2 .given .1)
+
+returns-3 : tie.Need-returns-3
+unfolding indexOf
+returns-3 c = told-index (c .enum-told3 .given .1)
+
+returns-4 : tie.Need-returns-4
+unfolding indexOf
+returns-4 c = told-index (c .enum-told4 .given .1)
+
+pub index-of-spec : {M : Type 1} → statement M
+index-of-spec =
+    tie.close
+    (tie.spec enum-told enum-told-2 enum-told-3 enum-told-4 returns returns-2 returns-3 returns-4)

@@ -1,0 +1,88 @@
+-- What the chains, the walk and the counts on the Keccak bus cite. Assumes nothing.
+--     row-wide, width-is, mu-is    a row is as long as its tuples need, and MU is its last word
+--     linked                       what the code compares is what the rows send and receive
+--     even-to, to-even             the tuples by port are those of the two kinds by index
+use mathlib.Core.Path.{_≡_, refl, sym, ap, subst, _∙_}
+use mathlib.Core.Bool.{Bool}
+use mathlib.Core.List.{List}
+use Prim.Native.Nat.{ℕ, _+_, _-_, _*_, _/_, _≤_, _<_}
+use native.Mathlib.Omega.{arith}
+use lib.ListN.{length, take, drop}
+use Rattle.lists.specs.Tab.{then, rowAt}
+use Rattle.lists.specs.First.{count}
+use Rattle.lists.proofs.Laws.{length-rowAt}
+use Rattle.lists.specs.declared.Place.{Place}
+use Rattle.lists.specs.declared.Place.the-variants.{At}
+use Rattle.keccak.specs.Tuples.{coreTuple}
+use Rattle.keccak_rnd.specs.Tuples.{roundTuple}
+use Rattle.bus.specs.Words.{wordsTest}
+use Rattle.verdict.specs.Kind.{rows}
+use Rattle.verdict.specs.CoreAndRound.{coreLayout, roundLayout, coreKind, roundKind}
+use Rattle.verdict.proofs.Tuples.{carriesAt, core-bus, round-bus}
+use Rattle.verdict.proofs.Walk.{EvenTo}
+use Rattle.judge_tuples.specs.Port.{tupleOf, widthOf}
+use Rattle.judge_tuples.specs.declared.Port.{Port}
+use Rattle.judge_tuples.specs.declared.Port.the-variants.{CoreSend, CoreReceive, RoundReceive, RoundSend}
+use Rattle.judge_links.specs.Even.{layoutOf, carries, Even, Started}
+
+-- ---- rows by port
+pub width-is : (s : Port) → widthOf s ≡ layoutOf s .width
+unfolding widthOf layoutOf
+width-is CoreSend = refl
+width-is CoreReceive = refl
+width-is RoundReceive = refl
+width-is RoundSend = refl
+
+pub mu-is : (s : Port) → layoutOf s .mu + 1 ≡ layoutOf s .width
+unfolding layoutOf
+mu-is CoreSend = refl
+mu-is CoreReceive = refl
+mu-is RoundReceive = refl
+mu-is RoundSend = refl
+
+-- what a match has found
+pub told-width : {s q : Port} → s ≡ q → layoutOf q .width ≡ layoutOf s .width
+told-width e = ap (λ (s : Port). layoutOf s .width) (sym e)
+
+pub row-wide : (s : Port) (w : ℕ) (x ws : List ℕ) (r : ℕ) → widthOf s ≤ w → x ≡ rowAt w ws r → widthOf s ≤ length x
+row-wide s w x ws r l e = omega (arith, ap length e, length-rowAt w ws r)
+
+-- ---- what the code compares
+pub linked : (s q : Port) (t : Bool) (x u y v z : List ℕ) → t ≡ wordsTest (tupleOf s x) (tupleOf q y) → x ≡ u → y ≡ v → z ≡ tupleOf s u →
+    t ≡ wordsTest z (tupleOf q v)
+linked s q t x u y v z h e f g = h ∙ (λ i. wordsTest ((ap (tupleOf s) e ∙ sym g) i) (tupleOf q (f i)))
+
+pub started-in : (round : List ℕ) (last : Place) (r : ℕ) → last ≡ At r → Started round last → r < rows roundLayout round
+unfolding Started
+started-in round last r e s = subst (Started round) e s
+
+-- ---- the tuples of the two kinds by port
+pub core-sends : (core v : List ℕ) → carries coreLayout CoreSend core v ≡ carriesAt (coreKind 24) 2 core v
+unfolding carries carriesAt tupleOf coreTuple then
+core-sends core v = refl
+
+pub core-receives : (core v : List ℕ) → carries coreLayout CoreReceive core v ≡ carriesAt (coreKind 24) 3 core v
+unfolding carries carriesAt tupleOf coreTuple then
+core-receives core v = refl
+
+pub round-sends : (round v : List ℕ) → carries roundLayout RoundSend round v ≡ carriesAt roundKind 1 round v
+unfolding carries carriesAt tupleOf roundTuple then
+round-sends round v = refl
+
+pub round-receives : (round v : List ℕ) → carries roundLayout RoundReceive round v ≡ carriesAt roundKind 0 round v
+unfolding carries carriesAt tupleOf roundTuple then
+round-receives round v = refl
+
+pub counts : {f g : ℕ → Bool} → f ≡ g → (n : ℕ) → count f n ≡ count g n
+counts e n = ap (λ (f : ℕ → Bool). count f n) e
+
+module _ (core round : List ℕ) (a b : ℕ) where
+  pub even-to : Even core round a b → EvenTo (core-bus 24) round-bus core round a b
+  unfolding Even EvenTo
+  even-to h v =
+      omega (arith, h v, counts (core-sends core v) a, counts (core-receives core v) a, counts (round-sends round v) b, counts (round-receives round v) b)
+
+  pub to-even : EvenTo (core-bus 24) round-bus core round a b → Even core round a b
+  unfolding Even EvenTo
+  to-even h v =
+      omega (arith, h v, counts (core-sends core v) a, counts (core-receives core v) a, counts (round-sends round v) b, counts (round-receives round v) b)

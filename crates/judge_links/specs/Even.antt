@@ -1,0 +1,43 @@
+-- What rows send and receive on the Keccak bus, and what is owed in the chain of a core row. Assumes nothing.
+--     Even       the first rows of both tables send and receive the same tuples, each equally often
+--     owedBy     the tuple that the next row of a chain has to receive
+use mathlib.Core.Path.{_≡_}
+use mathlib.Core.Bool.{Bool, _&&_}
+use mathlib.Core.List.{List}
+use Prim.Native.Nat.{ℕ, _+_, _<_}
+use Rattle.lists.specs.First.{count}
+use Rattle.lists.specs.declared.Place.{Place}
+use Rattle.lists.specs.declared.Place.the-variants.{At, Nowhere}
+use Rattle.bus.specs.Words.{wordsTest}
+use Rattle.verdict.specs.Kind.{Layout, rows, row, active}
+use Rattle.verdict.specs.CoreAndRound.{coreLayout, roundLayout}
+use Rattle.judge_tuples.specs.Port.{tupleOf}
+use Rattle.judge_tuples.specs.declared.Port.{Port}
+use Rattle.judge_tuples.specs.declared.Port.the-variants.{CoreSend, CoreReceive, RoundReceive, RoundSend}
+
+-- the layout of the rows that have such a tuple
+unfoldable pub layoutOf : Port → Layout
+layoutOf CoreSend = coreLayout
+layoutOf CoreReceive = coreLayout
+layoutOf RoundReceive = roundLayout
+layoutOf RoundSend = roundLayout
+
+-- whether row r of a table is active and has, as its tuple `port`, the tuple v
+unfoldable pub carries : Layout → Port → List ℕ → List ℕ → ℕ → Bool
+carries A port ws v r = active A ws r && wordsTest v (tupleOf port (row A ws r))
+
+-- each tuple is sent as often as received by the first a core rows and the first b round rows
+unfoldable pub Even : List ℕ → List ℕ → ℕ → ℕ → Type 0
+Even core round a b =
+    (v : List ℕ) → count (carries coreLayout CoreSend core v) a + count (carries roundLayout RoundSend round v) b
+    ≡ count (carries coreLayout CoreReceive core v) a + count (carries roundLayout RoundReceive round v) b
+
+-- the tuple that is owed in the chain of core row a: what the last round row of the chain sent, or what row a sent
+unfoldable pub owedBy : List ℕ → ℕ → List ℕ → Place → List ℕ
+owedBy core a round Nowhere = tupleOf CoreSend (row coreLayout core a)
+owedBy core a round (At r) = tupleOf RoundSend (row roundLayout round r)
+
+-- the last round row of a chain, where there is one, is in the table
+unfoldable pub Started : List ℕ → Place → Type 0
+Started round Nowhere = Unit {0}
+Started round (At r) = r < rows roundLayout round
