@@ -19,7 +19,7 @@ ghost use Rattle.flat_reader.specs.FlatReader.{cursorOf, flatCursor, flatTally}
 pub extern "C" fn keccak_tables_tally_start() -> FlatCursor
     ensures { λ r. ⌜ r ≡ flatCursor startOf ⌝ }
 {
-    flat_cursor(op_file::start())
+    flat_cursor(op_reader::start())
 }
 
 #[no_mangle]
@@ -27,7 +27,7 @@ pub extern "C" fn keccak_tables_tally_feed(cursor: FlatCursor, bytes: &[u8]) -> 
     ensures { λ r. ⌜ r ≡ flatCursor (feedOf (cursorOf cursor) (now (bytes .entry))) ⌝ }
 {
     let c = cursor_of(cursor);
-    flat_cursor(op_file::feed(c, bytes))
+    flat_cursor(op_reader::feed(c, bytes))
 }
 
 #[no_mangle]
@@ -35,7 +35,7 @@ pub extern "C" fn keccak_tables_tally_finish(cursor: FlatCursor) -> FlatTally
     ensures { λ r. ⌜ r ≡ flatTally (finishOf (cursorOf cursor)) ⌝ }
 {
     let c = cursor_of(cursor);
-    flat_tally(op_file::finish(c))
+    flat_tally(op_sums::finish(c))
 }
 
 #[no_mangle]

@@ -17,6 +17,7 @@ use lib.Seq.{take-all, take-take, drop-drop, getD-take, getD-drop}
 use borrow.Author.Tests.{lt-ltb, le-ltb, le-leb, lt-leb, eq-eqb, ne-eqb, leb-true, leb-false}
 use Rattle.lists.specs.Tab.{pick, word}
 use Rattle.lists.specs.First.{orElse}
+use Rattle.lists.proofs.Then.{by-le}
 use Rattle.bits.specs.Bits.{pack}
 use Rattle.answer.specs.Limits.{MAX-OPS}
 use Rattle.answer.specs.Refusal.{refuseIf}
@@ -236,13 +237,6 @@ module _ (n : ℕ) (few : n < MAX-OPS) (a : ℕ) (small : a < 184467440737095516
   whole (b0 ∷ []) e = absurd (omega arith)
   whole (b0 ∷ b1 ∷ t) e = whole-by b0 b1 t (eqb b0 0x4B) (eqb b1 0x4F) refl refl (omega arith)
 
-le-or-lt : (a b : ℕ) → (a ≤ b) ⊎ (b < a)
-le-or-lt a b = by (leb a b) refl
-  where
-    by : (t : Bool) → leb a b ≡ t → (a ≤ b) ⊎ (b < a)
-    by true e = inl (leb-true a b e)
-    by false e = inr (leb-false a b e)
-
 -- a record that the file's end cuts, or any byte past the MAX-OPS records: the file is refused
 over : (n a : ℕ) (s : List ℕ) → MAX-OPS ≤ n → 0 < length s → feedOf (Reading n 0 a) s ≡ Refused (PastEnd 89478486)
 unfolding feedOf stepOf
@@ -260,16 +254,15 @@ short-fault n at r m l = simp (lt-leb MAX-OPS n m, ne-eqb (length r) 418 (λ e. 
 -- after record n, from its start
 next : (n : ℕ) (r : List ℕ) → length r ≡ 418 → feedOf (Reading n 0 0) r ≡ after (faultOf n (418 * n) r) (n + 1)
 next n r e =
-    ⊎-elim
+    by-le MAX-OPS n
     (λ (m : MAX-OPS ≤ n). over n 0 r m (omega arith) ∙ ap (λ (f : Option Refusal). after f (n + 1)) (sym (over-fault n (418 * n) r m)))
     (λ (m : n < MAX-OPS). whole n m 0 (omega arith) r e)
-    (le-or-lt MAX-OPS n)
 
 -- the end of the file within record n
 ends : (n : ℕ) (r : List ℕ) (a : Sums) (f : Option Refusal) → 0 < length r → length r < 418 → finishOf (feedOf (Reading n 0 0) r) ≡ unless (orElse (faultOf n (418 * n) r) f) a
 unfolding finishOf
 ends n r a f l h =
-    ⊎-elim
+    by-le MAX-OPS n
     (λ (m : MAX-OPS ≤ n). ap finishOf (over n 0 r m l) ∙ ap (λ (g : Option Refusal). unless (orElse g f) a) (sym (over-fault n (418 * n) r m)))
     (λ (m : n < MAX-OPS).
     ⊎-elim
@@ -277,15 +270,13 @@ ends n r a f l h =
     (λ e. ap finishOf (e .1) ∙ simp (le-ltb MAX-OPS n (omega arith), ne-eqb (0 + length r) 0 (λ z. omega arith)))
     (cut n m 0 0 r (omega arith))
     ∙ ap (λ (g : Option Refusal). unless (orElse g f) a) (sym (short-fault n (418 * n) r m h)))
-    (le-or-lt MAX-OPS n)
 
 -- where a record has no fault, there was room for it
 room : (n at : ℕ) (r : List ℕ) → faultOf n at r ≡ none → n < MAX-OPS
 room n at r e =
-    ⊎-elim
+    by-le MAX-OPS n
     (λ (m : MAX-OPS ≤ n). let q = over-fault n at r m in let z : _≡_ {A = ℕ} 0 1 = cc in absurd (omega arith))
     (λ (m : n < MAX-OPS). m)
-    (le-or-lt MAX-OPS n)
 
 split-none : (k : ℕ) → split k [] ≡ []
 unfolding split
@@ -323,7 +314,7 @@ reads-from zero i [] l m = simp (le-ltb MAX-OPS i m, add-zero)
 reads-from zero i (b ∷ s) l m = absurd (omega arith)
 reads-from (suc k) i [] l m = simp (le-ltb MAX-OPS i m, add-zero)
 reads-from (suc k) i (b ∷ s) l m =
-    ⊎-elim
+    by-le 418 (suc (length s))
     (λ (h : 418 ≤ suc (length s)).
     let r = take 418 (b ∷ s) in
     let rest = drop 418 (b ∷ s) in
@@ -332,7 +323,6 @@ reads-from (suc k) i (b ∷ s) l m =
     ap finishOf (feed-split (Reading i 0 0) 418 (b ∷ s) ∙ ap (λ (c : Cursor). feedOf c rest) (next i r e))
     ∙ from-whole (faultOf i (418 * i) r) k i r rest e refl (λ (few : i < MAX-OPS). reads-from k (i + 1) rest d (omega arith)))
     (λ (h : suc (length s) < 418). from-cut k i b s h)
-    (le-or-lt 418 (suc (length s)))
 
 -- what a reader says after the whole file is what the file's records say
 pub reads-file : (syscall : ℕ) (file : List ℕ) → finishOf (feedOf start file) ≡ tallyOf syscall file

@@ -1,5 +1,5 @@
 // An operation between the 418 bytes of its record and its 52 words in a flat list, both ways.
-use op_file::word_at;
+use op_step::word_at;
 ghost use mathlib.Core.Path.{_≡_};
 ghost use Prim.Native.Nat.{_+_, _≤_};
 ghost use lib.ListN.{length, drop};

@@ -26,7 +26,7 @@ fn read_some(c: Cursor, buf: &mut [u8]) -> Turn
     let got = libc::read(STDIN_FILENO, buf);
     let n = io::count(got, buf);
     Turn {
-        cursor: op_file::feed(c, &buf[..n]),
+        cursor: op_reader::feed(c, &buf[..n]),
         got: n,
         failed: got < 0,
     }
@@ -39,7 +39,7 @@ fn read_all() -> Turn
 {
     let mut space = io::large_buffer();
     let buf: &mut [u8] = &mut space;
-    let mut c = op_file::start();
+    let mut c = op_reader::start();
     let mut left: usize = 37402006731;
     while left > 0 {
         let t = read_some(c, buf);
@@ -47,7 +47,7 @@ fn read_all() -> Turn
         if t.got == 0 {
             return t;
         }
-        if op_file::is_refused(c) {
+        if op_reader::is_refused(c) {
             return t;
         }
         if left <= t.got {
@@ -81,5 +81,5 @@ fn main() {
         return;
     }
     let c = t.cursor;
-    write_tally(op_file::finish(c), &mut space);
+    write_tally(op_sums::finish(c), &mut space);
 }

@@ -3,9 +3,9 @@
 use keccak::LAST_ADDRESS;
 use libc::STDOUT_FILENO;
 use op_file::Cursor;
-use op_file::feed;
-use op_file::finish;
-use op_file::start;
+use op_reader::feed;
+use op_reader::start;
+use op_sums::finish;
 use tally_text::put_tally;
 ghost use Prim.Native.Nat.{_≤_};
 

@@ -1,14 +1,14 @@
--- `op_file::feed` meets its contract: after each turn the rest of the piece is left. Assumes nothing.
+-- `op_reader::feed` meets its contract: after each turn the rest of the piece is left. Assumes nothing.
 use Rattle.op_file.specs.declared.Cursor.{Cursor}
 use Rattle.op_file.proofs.Laws.{feed-go, feed-refused, feed-none}
 use Rattle.op_file.specs.Reader.{feedOf}
 use lib.ListN.{length, drop, length-take, length-drop}
 use borrow.Author.Needs.{needs}
 use native.Mathlib.Omega.{arith}
 use mathlib.Core.Path.{_≡_, ap, sym, _∙_, refl}
 use Prim.Native.Nat.{_+_, _-_, _≤_, _<_}
-use Rattle.op_file.proofs.feed.Statement.{statement}
-use Rattle.op_file.proofs.feed.Tie as tie
+use Rattle.op_reader.proofs.feed.Statement.{statement}
+use Rattle.op_reader.proofs.feed.Tie as tie
 
 abbrev Inv-loop : tie.InvT-loop
 Inv-loop chunk now₀ i₀ now i = (i ≤ length chunk) × (feedOf now₀ chunk ≡ feedOf now (drop i chunk))

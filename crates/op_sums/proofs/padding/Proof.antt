@@ -1,11 +1,11 @@
--- `op_file::padding` meets its contract: none where there is no operation. Assumes nothing.
+-- `op_sums::padding` meets its contract: none where there is no operation. Assumes nothing.
 use Prim.Native.Nat.{_*_}
 use native.Mathlib.Omega.{arith}
 use Rattle.keccak.proofs.Height.{height-ge, height-le}
 use Rattle.keccak_rnd.proofs.Rows.{padding-none, padding-some}
 use borrow.Author.Needs.{needs}
-use Rattle.op_file.proofs.padding.Statement.{statement}
-use Rattle.op_file.proofs.padding.Tie as tie
+use Rattle.op_sums.proofs.padding.Statement.{statement}
+use Rattle.op_sums.proofs.padding.Tie as tie
 
 returns : tie.Need-returns
 returns c = (padding-none _ (c .if1 .taken), omega arith)

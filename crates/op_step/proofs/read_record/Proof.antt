@@ -1,11 +1,11 @@
--- `op_file::read_record` meets its contract: the checks of a record in their order. Assumes nothing.
+-- `op_step::read_record` meets its contract: the checks of a record in their order. Assumes nothing.
 use Rattle.op_file.specs.File.{faultOf, isWhole, recordWord}
 use Rattle.answer.specs.Refusal.{refuseIf}
 use borrow.Author.Tests.{lt-leb, lt-ltb, le-ltb, eq-eqb, ne-eqb}
 use mathlib.Core.Path.{sym}
 use borrow.Author.Needs.{needs}
-use Rattle.op_file.proofs.read_record.Statement.{statement}
-use Rattle.op_file.proofs.read_record.Tie as tie
+use Rattle.op_step.proofs.read_record.Statement.{statement}
+use Rattle.op_step.proofs.read_record.Tie as tie
 
 shared-slice-read-if1 : tie.Need-shared-slice-read-if1
 shared-slice-read-if1 c = search needs

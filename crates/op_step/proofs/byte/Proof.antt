@@ -1,12 +1,12 @@
--- `op_file::byte` meets its contract: the cases of one byte. Assumes nothing.
+-- `op_step::byte` meets its contract: the cases of one byte. Assumes nothing.
 use Rattle.op_file.specs.declared.Cursor.the-variants.{Reading}
 use Prim.Native.Nat.{ℕ, _+_}
 use Rattle.op_file.specs.Reader.{stepOf}
 use borrow.Author.Tests.{le-leb, lt-leb, lt-ltb, le-ltb}
 use mathlib.Core.Path.{ap, sym, _∙_}
 use borrow.Author.Needs.{needs}
-use Rattle.op_file.proofs.byte.Statement.{statement}
-use Rattle.op_file.proofs.byte.Tie as tie
+use Rattle.op_step.proofs.byte.Statement.{statement}
+use Rattle.op_step.proofs.byte.Tie as tie
 
 add-t6 : tie.Need-add-t6
 add-t6 c = search needs

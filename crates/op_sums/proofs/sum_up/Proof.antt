@@ -1,8 +1,8 @@
--- `op_file::sum_up` meets its contract: the heights and the multiples of n. Assumes nothing.
+-- `op_sums::sum_up` meets its contract: the heights and the multiples of n. Assumes nothing.
 use Rattle.op_file.specs.Reader.{countsOf}
 use borrow.Author.Needs.{needs}
-use Rattle.op_file.proofs.sum_up.Statement.{statement}
-use Rattle.op_file.proofs.sum_up.Tie as tie
+use Rattle.op_sums.proofs.sum_up.Statement.{statement}
+use Rattle.op_sums.proofs.sum_up.Tie as tie
 
 table-height-requires : tie.Need-table-height-requires
 table-height-requires c κs = search needs

@@ -1,9 +1,9 @@
--- `op_file::shift` meets its contract: only the address bytes come in. Assumes nothing.
+-- `op_step::shift` meets its contract: only the address bytes come in. Assumes nothing.
 use Rattle.op_file.specs.Reader.{inAddress}
 use borrow.Author.Tests.{le-leb, lt-leb, lt-ltb, le-ltb}
 use borrow.Author.Needs.{needs}
-use Rattle.op_file.proofs.shift.Statement.{statement}
-use Rattle.op_file.proofs.shift.Tie as tie
+use Rattle.op_step.proofs.shift.Statement.{statement}
+use Rattle.op_step.proofs.shift.Tie as tie
 
 returns : tie.Need-returns
 unfolding inAddress

@@ -1,12 +1,12 @@
--- `op_file::word_at` meets its contract: after j turns j bytes are in. Assumes nothing.
+-- `op_step::word_at` meets its contract: after j turns j bytes are in. Assumes nothing.
 use Rattle.op_file.proofs.Laws.{shifts, shifts-more, shifts-eight, pack-part}
 use lib.Seq.{getD-drop}
 use lib.ListN.{take, drop, length, length-take, length-drop}
 use native.Mathlib.Omega.{arith}
 use mathlib.Core.Path.{_≡_, ap, _∙_, refl}
 use Prim.Native.Nat.{ℕ, _-_, _≤_, _<_}
-use Rattle.op_file.proofs.word_at.Statement.{statement}
-use Rattle.op_file.proofs.word_at.Tie as tie
+use Rattle.op_step.proofs.word_at.Statement.{statement}
+use Rattle.op_step.proofs.word_at.Tie as tie
 
 abbrev Inv-loop : tie.InvT-loop
 Inv-loop s k a₀ j₀ a j = (j ≤ 8) × (a ≡ shifts 0 (take j (drop k s)))

@@ -1,11 +1,11 @@
--- `op_file::finish` meets its contract: the cases of the cursor. Assumes nothing.
+-- `op_sums::finish` meets its contract: the cases of the cursor. Assumes nothing.
 use Rattle.op_file.specs.declared.Tally.the-variants.{Counted}
 use Rattle.op_file.specs.Reader.{finishOf}
 use borrow.Author.Tests.{lt-ltb, le-ltb, eq-eqb, ne-eqb}
 use mathlib.Core.Path.{ap, sym, _∙_}
 use borrow.Author.Needs.{needs}
-use Rattle.op_file.proofs.finish.Statement.{statement}
-use Rattle.op_file.proofs.finish.Tie as tie
+use Rattle.op_sums.proofs.finish.Statement.{statement}
+use Rattle.op_sums.proofs.finish.Tie as tie
 
 enum-known-c : tie.Need-enum-known-c
 enum-known-c c = search needs

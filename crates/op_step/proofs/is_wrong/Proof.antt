@@ -1,8 +1,8 @@
--- `op_file::is_wrong` meets its contract: the two bytes of the mark. Assumes nothing.
+-- `op_step::is_wrong` meets its contract: the two bytes of the mark. Assumes nothing.
 use Rattle.op_file.specs.Reader.{wrong}
 use borrow.Author.Tests.{eq-eqb, ne-eqb}
-use Rattle.op_file.proofs.is_wrong.Statement.{statement}
-use Rattle.op_file.proofs.is_wrong.Tie as tie
+use Rattle.op_step.proofs.is_wrong.Statement.{statement}
+use Rattle.op_step.proofs.is_wrong.Tie as tie
 
 returns : tie.Need-returns
 unfolding wrong

@@ -1,14 +1,14 @@
--- `op_file::advance` meets its contract: a whole record, a stretch past the address, or one byte. Assumes nothing.
+-- `op_reader::advance` meets its contract: a whole record, a stretch past the address, or one byte. Assumes nothing.
 use Rattle.op_file.proofs.Laws.{whole, skip, plain-high, feed-one}
 use Rattle.op_file.specs.declared.Cursor.the-variants.{Reading}
 use Rattle.op_file.specs.Reader.{feedOf}
 use lib.ListN.{length, take, length-take}
 use native.Mathlib.Omega.{arith}
 use mathlib.Core.Path.{_≡_, ap, sym, _∙_}
 use Prim.Native.Nat.{ℕ, _+_, _<_}
 use borrow.Author.Needs.{needs}
-use Rattle.op_file.proofs.advance.Statement.{statement}
-use Rattle.op_file.proofs.advance.Tie as tie
+use Rattle.op_reader.proofs.advance.Statement.{statement}
+use Rattle.op_reader.proofs.advance.Tie as tie
 
 slice-aggregate-read-record : tie.Need-slice-aggregate-read-record
 slice-aggregate-read-record c = simp length-take (omega arith)

@@ -1,9 +1,9 @@
--- `op_file::shift_in` meets its contract: a byte comes in from the top. Assumes nothing.
+-- `op_step::shift_in` meets its contract: a byte comes in from the top. Assumes nothing.
 use Rattle.op_file.specs.Reader.{shifted}
 use native.Mathlib.Omega.{arith}
 use borrow.Author.Needs.{needs}
-use Rattle.op_file.proofs.shift_in.Statement.{statement}
-use Rattle.op_file.proofs.shift_in.Tie as tie
+use Rattle.op_step.proofs.shift_in.Statement.{statement}
+use Rattle.op_step.proofs.shift_in.Tie as tie
 
 wide-requires : tie.Need-wide-requires
 wide-requires c κs = search needs

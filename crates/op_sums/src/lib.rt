@@ -1,0 +1,62 @@
+// What the end of an operation file makes of its reader: the sums that `tally` prints, or a refusal.
+use answer::MAX_OPS;
+use answer::Refusal;
+use keccak::MIN_ROWS;
+use op_file::Cursor;
+use op_file::Sums;
+use op_file::Tally;
+use operations::table_height;
+ghost use mathlib.Core.Path.{_≡_};
+ghost use Prim.Native.Nat.{_^_, _<_, _≤_};
+ghost use Rattle.keccak_rnd.specs.Row.{roundHeight, padding-are-bytes};
+ghost use Rattle.op_file.specs.Reader.{countsOf, finishOf};
+
+// What the padding rows of a round table of `rows` rows send.
+fn padding(n: u64, rows: u64) -> u64
+    requires { ⌜ (n ≤ 89478485) × (rows ≡ roundHeight 24 4 n) ⌝ }
+    ensures { λ r. ⌜ (r ≡ padding-are-bytes 24 4 n) × (r < 2 ^ 40) ⌝ }
+{
+    if n == 0 {
+        return 0;
+    }
+    (rows - n * 24) * 220
+}
+
+// The sums of n operations.
+fn sum_up(n: u64) -> Sums
+    requires { ⌜ n ≤ 89478485 ⌝ }
+    ensures { λ r. ⌜ r ≡ countsOf n ⌝ }
+{
+    let core_rows = table_height(MIN_ROWS, n as usize);
+    let round_rows = table_height(MIN_ROWS, n as usize * 24) as u64;
+    Sums {
+        ops: n,
+        core_rows: core_rows as u64,
+        round_rows,
+        byte_alu: 19393 * n,
+        are_bytes: 5284 * n + padding(n, round_rows),
+        keccak_rc: 24 * n,
+        is_halfword: 25 * n,
+        is_wh: 25 * n,
+        memw: 26 * n,
+        ecall: n,
+    }
+}
+
+// What the end of the file makes of a reader.
+pub fn finish(c: Cursor) -> Tally
+    ensures { λ r. ⌜ r ≡ finishOf c ⌝ }
+{
+    match c {
+        Cursor::Refused(refusal) => Tally::Refused(refusal),
+        Cursor::Reading { n, at, addr } => {
+            if n > MAX_OPS {
+                return Tally::Refused(Refusal::PastEnd(MAX_OPS + 1));
+            }
+            if at == 0 {
+                return Tally::Counted(sum_up(n));
+            }
+            Tally::Refused(Refusal::BadRecord(418 * n))
+        }
+    }
+}
