@@ -4,9 +4,9 @@ use keccak::INPUT_STATE;
 use keccak::MU;
 use keccak::OUTPUT_STATE;
 use keccak::STATE_PTR;
-use keccak_state_tuples::put_columns;
-use keccak_values::word_of_bytes;
-use keccak_values::word_of_halves;
+use keccak_carries::word_of_bytes;
+use keccak_carries::word_of_halves;
+use lists::put_part;
 use lists::put_words;
 use lookup::Bus;
 use lookup::BusInteraction;
@@ -82,9 +82,9 @@ pub fn lane_memw(row: &[u64], i: usize, out: &mut [u64]) -> BusInteraction
 {
     let at = STATE_PTR + 3 * i;
     let lo = word_of_halves(row, at);
-    put_columns(out, 0, row, INPUT_STATE + 8 * i, 8);
+    put_part(out, 0, row, INPUT_STATE + 8 * i, 8);
     put_place(out, 0, lo.value, row[at + 2]);
-    put_columns(out, 11, row, OUTPUT_STATE + 8 * i, 8);
+    put_part(out, 11, row, OUTPUT_STATE + 8 * i, 8);
     put_access(out, row, 0, 1);
     BusInteraction {
         bus: Bus::Memw,

@@ -2,6 +2,7 @@
 use keccak::INPUT_STATE;
 use keccak::MU;
 use keccak::OUTPUT_STATE;
+use lists::put_part;
 use lookup::Bus;
 use lookup::BusInteraction;
 use lookup::Side;
@@ -18,18 +19,6 @@ ghost use Rattle.keccak.specs.Columns.{NUM-COLUMNS, MU, byXYB, laneColumn};
 ghost use Rattle.keccak.specs.Tuples.{keccakValues, coreSent, coreReceived};
 ghost use Rattle.keccak_state_tuples.specs.Parts.{sheetWord};
 
-// n columns from `from` on, stored from `at`.
-pub fn put_columns(out: &mut [u64], at: usize, row: &[u64], from: usize, n: usize)
-    requires { ⌜ (at + n ≤ length (now out)) × (from + n ≤ length (now row)) ⌝ }
-    ensures { λ _. ⌜ now (out .exit) ≡ sets (now (out .entry)) at (tab n (λ k. word (now (row .entry)) (from + k))) ⌝ }
-{
-    let mut k: usize = 0;
-    while k < n {
-        out[at + k] = row[from + k];
-        k += 1;
-    }
-}
-
 // The five lanes of a column x of the state.
 fn put_sheet(out: &mut [u64], at: usize, row: &[u64], base: usize, x: usize)
     requires { ⌜ (at + 40 ≤ length (now out)) × (base + 200 ≤ length (now row)) × (x < 5) ⌝ }
@@ -37,7 +26,7 @@ fn put_sheet(out: &mut [u64], at: usize, row: &[u64], base: usize, x: usize)
 {
     let mut y: usize = 0;
     while y < 5 {
-        put_columns(out, at + 8 * y, row, base + (x + 5 * y) * 8, 8);
+        put_part(out, at + 8 * y, row, base + (x + 5 * y) * 8, 8);
         y += 1;
     }
 }

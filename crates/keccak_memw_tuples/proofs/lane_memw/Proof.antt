@@ -19,14 +19,14 @@ add-at c = search needs
 word-of-halves-requires : tie.Need-word-of-halves-requires
 word-of-halves-requires c κs = let s = c .before .before in (omega arith, s .pre .0 .below (410 + 3 * s .args .i) (omega arith))
 
-mul-put-columns : tie.Need-mul-put-columns
-mul-put-columns c = search needs
+mul-put-part : tie.Need-mul-put-part
+mul-put-part c = search needs
 
-add-put-columns : tie.Need-add-put-columns
-add-put-columns c = search needs
+add-put-part : tie.Need-add-put-part
+add-put-part c = search needs
 
-put-columns-requires : tie.Need-put-columns-requires
-put-columns-requires c κs = search needs
+put-part-requires : tie.Need-put-part-requires
+put-part-requires c κs = search needs
 
 add-put-place : tie.Need-add-put-place
 add-put-place c = search needs
@@ -40,14 +40,14 @@ shared-slice-read-put-place c = search needs
 put-place-requires : tie.Need-put-place-requires
 put-place-requires c κs = search needs
 
-mul-put-columns-2 : tie.Need-mul-put-columns-2
-mul-put-columns-2 c = search needs
+mul-put-part-2 : tie.Need-mul-put-part-2
+mul-put-part-2 c = search needs
 
-add-put-columns-2 : tie.Need-add-put-columns-2
-add-put-columns-2 c = search needs
+add-put-part-2 : tie.Need-add-put-part-2
+add-put-part-2 c = search needs
 
-put-columns-requires-2 : tie.Need-put-columns-requires-2
-put-columns-requires-2 c κs = search needs
+put-part-requires-2 : tie.Need-put-part-requires-2
+put-part-requires-2 c κs = search needs
 
 put-access-requires : tie.Need-put-access-requires
 put-access-requires c κs = search needs
@@ -71,8 +71,8 @@ returns c =
       lane-answer row i,
       lane-stored row (s .args .out .now) i (s .pre .2) (low .word-of-halves .ensures .0)
           (memw-parts (s .args .out .now) _ _ _ (tab 8 (λ k. word row (10 + 8 * i + k))) (tab 8 (λ k. word row (210 + 8 * i + k))) (word row 0 ∷ word row 1 ∷ 0 ∷ 0 ∷ 1 ∷ []) 0
-          (low .word-of-halves .result .value) (word row (410 + 3 * i + 2)) (length-tab 8 _) (length-tab 8 _) (old .put-columns .ensures) (place .put-place .ensures)
-          (new .put-columns2 .ensures) (access .put-access .ensures)),
+          (low .word-of-halves .result .value) (word row (410 + 3 * i + 2)) (length-tab 8 _) (length-tab 8 _) (old .put-part .ensures) (place .put-place .ensures)
+          (new .put-part2 .ensures) (access .put-access .ensures)),
     )
 
 pub lane-memw-spec : {M : Type 1} → statement M
@@ -82,16 +82,16 @@ lane-memw-spec =
     mul-at
     add-at
     word-of-halves-requires
-    mul-put-columns
-    add-put-columns
-    put-columns-requires
+    mul-put-part
+    add-put-part
+    put-part-requires
     add-put-place
     mul-put-place
     shared-slice-read-put-place
     put-place-requires
-    mul-put-columns-2
-    add-put-columns-2
-    put-columns-requires-2
+    mul-put-part-2
+    add-put-part-2
+    put-part-requires-2
     put-access-requires
     shared-slice-read-t14
     same-length

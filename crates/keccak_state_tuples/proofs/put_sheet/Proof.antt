@@ -17,26 +17,26 @@ abbrev μ-loop : tie.MeasureT-loop
 loop-holds : tie.Need-loop-holds Inv-loop μ-loop
 loop-holds c = filled-none _ _ _ _
 
-mul-put-columns : tie.Need-mul-put-columns Inv-loop μ-loop
-mul-put-columns c = omega arith
+mul-put-part : tie.Need-mul-put-part Inv-loop μ-loop
+mul-put-part c = omega arith
 
-add-put-columns : tie.Need-add-put-columns Inv-loop μ-loop
-add-put-columns c = omega arith
+add-put-part : tie.Need-add-put-part Inv-loop μ-loop
+add-put-part c = omega arith
 
-mul-put-columns-2 : tie.Need-mul-put-columns-2 Inv-loop μ-loop
-mul-put-columns-2 c = omega arith
+mul-put-part-2 : tie.Need-mul-put-part-2 Inv-loop μ-loop
+mul-put-part-2 c = omega arith
 
-add-put-columns-2 : tie.Need-add-put-columns-2 Inv-loop μ-loop
-add-put-columns-2 c = omega arith
+add-put-part-2 : tie.Need-add-put-part-2 Inv-loop μ-loop
+add-put-part-2 c = omega arith
 
-mul-put-columns-3 : tie.Need-mul-put-columns-3 Inv-loop μ-loop
-mul-put-columns-3 c = omega arith
+mul-put-part-3 : tie.Need-mul-put-part-3 Inv-loop μ-loop
+mul-put-part-3 c = omega arith
 
-add-put-columns-3 : tie.Need-add-put-columns-3 Inv-loop μ-loop
-add-put-columns-3 c = omega arith
+add-put-part-3 : tie.Need-add-put-part-3 Inv-loop μ-loop
+add-put-part-3 c = omega arith
 
-put-columns-requires : tie.Need-put-columns-requires Inv-loop μ-loop
-put-columns-requires c κs = omega arith
+put-part-requires : tie.Need-put-part-requires Inv-loop μ-loop
+put-part-requires c κs = omega arith
 
 add-y : tie.Need-add-y Inv-loop μ-loop
 add-y c = omega arith
@@ -50,7 +50,7 @@ loop-again c =
     let s = at-loop .before .before .before in
     let row = s .args .row .now in
     let y = at-loop .loop .y in
-    filled-add 8 (λ k. word row (s .args .base + (s .args .x + 5 * y) * 8 + k)) (at-loop .loop .inv) (omega arith) (omega arith) (c .before .before .put-columns .ensures)
+    filled-add 8 (λ k. word row (s .args .base + (s .args .x + 5 * y) * 8 + k)) (at-loop .loop .inv) (omega arith) (omega arith) (c .before .before .put-part .ensures)
     (λ k h. sheet-lane row (s .args .base) (s .args .x) y k h)
 
 same-length : tie.Need-same-length Inv-loop μ-loop
@@ -66,13 +66,13 @@ put-sheet-spec =
     Inv-loop
     μ-loop
     loop-holds
-    mul-put-columns
-    add-put-columns
-    mul-put-columns-2
-    add-put-columns-2
-    mul-put-columns-3
-    add-put-columns-3
-    put-columns-requires
+    mul-put-part
+    add-put-part
+    mul-put-part-2
+    add-put-part-2
+    mul-put-part-3
+    add-put-part-3
+    put-part-requires
     add-y
     loop-less
     loop-again

@@ -1,4 +1,4 @@
--- `keccak::put_core_row` meets its contract: the six groups one after the other. Assumes nothing.
+-- `keccak_row::put_core_row` meets its contract: the six groups one after the other. Assumes nothing.
 use mathlib.Core.Path.{_≡_, refl, sym}
 use Prim.Native.Nat.{ℕ, _+_, _-_}
 use native.Mathlib.Omega.{arith}
@@ -12,11 +12,11 @@ use Rattle.bits.specs.Bits.{byteAt, laneByte, wordAt}
 use Rattle.keccak.specs.Row.{coreRow, coreGroups, pointerLimb}
 use Rattle.keccak.specs.declared.KeccakOperation.{KeccakOperation}
 use Rattle.lists.proofs.Laws.{wrote-none, wrote-more, sets-cell}
-use Rattle.keccak_trace.proofs.put_core_row.Statement.{statement}
-use Rattle.keccak_trace.proofs.put_core_row.Tie as tie
+use Rattle.keccak_row.proofs.put_core_row.Statement.{statement}
+use Rattle.keccak_row.proofs.put_core_row.Tie as tie
 use Rattle.bits.proofs.put_dword_bl.Reads as put-dword-bl-reads
 use Rattle.bits.proofs.put_lanes.Reads as put-lanes-reads
-use Rattle.keccak_trace.proofs.put_pointers.Reads as put-pointers-reads
+use Rattle.keccak_row.proofs.put_pointers.Reads as put-pointers-reads
 use Rattle.bits.proofs.put_dword_wl.Reads as put-dword-wl-reads
 
 -- the six groups, one after the other

@@ -1,4 +1,4 @@
--- `keccak::keccak_row` meets its contract: one check after the other, then the row. Assumes nothing.
+-- `keccak_row::keccak_row` meets its contract: one check after the other, then the row. Assumes nothing.
 use mathlib.Core.Path.{_≡_, sym, ap, _∙_, subst}
 use Prim.Native.Nat.{ℕ, _+_, _-_, _<_, _^_}
 use native.Mathlib.Omega.{arith}
@@ -15,11 +15,11 @@ use Rattle.keccak.proofs.Checks.{Passed, passed, address-fits}
 use Rattle.keccak.specs.Row.{coreRow, opAt}
 use Rattle.keccak.specs.declared.KeccakOperation.{KeccakOperation}
 use Rattle.keccak.proofs.Cells.{length-core}
-use Rattle.keccak_trace.proofs.keccak_row.Statement.{statement}
-use Rattle.keccak_trace.proofs.keccak_row.Tie as tie
+use Rattle.keccak_row.proofs.keccak_row.Statement.{statement}
+use Rattle.keccak_row.proofs.keccak_row.Tie as tie
 use Rattle.operations.proofs.check_operations.Reads as check-operations-reads
 use Rattle.operations.proofs.operation_at.Reads as operation-at-reads
-use Rattle.keccak_trace.proofs.put_core_row.Reads as put-core-row-reads
+use Rattle.keccak_row.proofs.put_core_row.Reads as put-core-row-reads
 
 -- the arguments, from the place after the checks
 abbrev Ops : tie.After-check-operations → List ℕ

@@ -1,12 +1,12 @@
--- `keccak::put_pointers` meets its contract: after i turns the first 3 i limbs are stored. Assumes nothing.
+-- `keccak_row::put_pointers` meets its contract: after i turns the first 3 i limbs are stored. Assumes nothing.
 use Prim.Native.Nat.{_+_, _-_, _*_}
 use native.Mathlib.Omega.{arith}
 use Rattle.bits.specs.Bits.{limbAt}
 use Rattle.keccak.specs.Row.{pointerLimb}
 use Rattle.lists.proofs.Laws.{Filled, filled-none, filled-add, filled-all}
 use Rattle.keccak.proofs.Cells.{pointer-limb}
-use Rattle.keccak_trace.proofs.put_pointers.Statement.{statement}
-use Rattle.keccak_trace.proofs.put_pointers.Tie as tie
+use Rattle.keccak_row.proofs.put_pointers.Statement.{statement}
+use Rattle.keccak_row.proofs.put_pointers.Tie as tie
 
 abbrev Inv-loop : tie.InvT-loop
 Inv-loop row₀ at addr i₀ row i = Filled row₀ at 75 (pointerLimb addr) row (3 * i)

@@ -1,9 +1,9 @@
--- `keccak_values::word_of_bytes` meets its contract: three products, summed. Assumes nothing.
+-- `keccak_carries::word_of_bytes` meets its contract: three products, summed. Assumes nothing.
 use mathlib.Core.Path.{ap, ap₂, _∙_}
 use Rattle.field.specs.Field.{fadd}
 use borrow.Author.Needs.{needs}
-use Rattle.keccak_values.proofs.word_of_bytes.Statement.{statement}
-use Rattle.keccak_values.proofs.word_of_bytes.Tie as tie
+use Rattle.keccak_carries.proofs.word_of_bytes.Statement.{statement}
+use Rattle.keccak_carries.proofs.word_of_bytes.Tie as tie
 
 add-t6 : tie.Need-add-t6
 add-t6 c = search needs

@@ -1,10 +1,10 @@
--- `keccak_values::carries` meets its contract: the low carry feeds the high one. Assumes nothing.
+-- `keccak_carries::carries` meets its contract: the low carry feeds the high one. Assumes nothing.
 use Prim.Native.Nat.{_+_, _*_}
 use native.Mathlib.Omega.{arith}
-use Rattle.keccak_values.proofs.Values.{low-carried, high-carried}
+use Rattle.keccak_carries.proofs.Carried.{low-carried, high-carried}
 use borrow.Author.Needs.{needs}
-use Rattle.keccak_values.proofs.carries.Statement.{statement}
-use Rattle.keccak_values.proofs.carries.Tie as tie
+use Rattle.keccak_carries.proofs.carries.Statement.{statement}
+use Rattle.keccak_carries.proofs.carries.Tie as tie
 
 mul-at : tie.Need-mul-at
 mul-at c = search needs

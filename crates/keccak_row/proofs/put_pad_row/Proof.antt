@@ -1,4 +1,4 @@
--- `keccak::put_pad_row` meets its contract: the three groups one after the other. Assumes nothing.
+-- `keccak_row::put_pad_row` meets its contract: the three groups one after the other. Assumes nothing.
 use mathlib.Core.Path.{_≡_, refl, sym}
 use Prim.Native.Nat.{ℕ, _+_, _-_}
 use native.Mathlib.Omega.{arith}
@@ -10,9 +10,9 @@ use lib.Seq.{sets}
 use Rattle.lists.specs.Tab.{tab}
 use Rattle.keccak.specs.Row.{corePad, corePadGroups, pointerLimb}
 use Rattle.lists.proofs.Laws.{wrote-none, wrote-more, sets-cell}
-use Rattle.keccak_trace.proofs.put_pad_row.Statement.{statement}
-use Rattle.keccak_trace.proofs.put_pad_row.Tie as tie
-use Rattle.keccak_trace.proofs.put_pointers.Reads as put-pointers-reads
+use Rattle.keccak_row.proofs.put_pad_row.Statement.{statement}
+use Rattle.keccak_row.proofs.put_pad_row.Tie as tie
+use Rattle.keccak_row.proofs.put_pointers.Reads as put-pointers-reads
 use Rattle.bits.proofs.put_zeros.Reads as put-zeros-reads
 
 put-zeros-requires : tie.Need-put-zeros-requires

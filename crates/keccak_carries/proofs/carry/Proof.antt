@@ -1,10 +1,10 @@
--- `keccak_values::carry` meets its contract: the difference, times the inverse of 2^32. Assumes nothing.
+-- `keccak_carries::carry` meets its contract: the difference, times the inverse of 2^32. Assumes nothing.
 use mathlib.Core.Path.{ap, _∙_}
 use Prim.Native.Nat.{ℕ}
 use Rattle.field.specs.Field.{fmul, INV-SHIFT-32}
 use borrow.Author.Needs.{needs}
-use Rattle.keccak_values.proofs.carry.Statement.{statement}
-use Rattle.keccak_values.proofs.carry.Tie as tie
+use Rattle.keccak_carries.proofs.carry.Statement.{statement}
+use Rattle.keccak_carries.proofs.carry.Tie as tie
 
 sub-requires : tie.Need-sub-requires
 sub-requires c κs = search needs
