@@ -22,7 +22,8 @@ use Rattle.scan.specs.Scan.{unmatched}
 use Rattle.scan.proofs.Scans.{idle-off, sent-off, free-off}
 use Rattle.keccak.specs.Columns.{MU}
 use Rattle.keccak.specs.Tuples.{coreTuple, ecallTuple, addrMemw, coreSent, coreReceived, pointerTuple, alignTuple, addrBytesTuple, laneMemw}
-use Rattle.keccak_tuples.proofs.Tuples.{is-ecall, is-addr, is-sent, is-received, is-pointer, is-align, is-bytes, is-lane, pointer-pair, pointer-low}
+use Rattle.keccak_lookup_tuples.proofs.Tuples.{pointer-pair, pointer-low}
+use Rattle.keccak_tuples.proofs.Tuples.{is-ecall, is-addr, is-sent, is-received, is-pointer, is-align, is-bytes, is-lane}
 
 module _ (row : List ℕ) where
   -- tuples that are asked nothing

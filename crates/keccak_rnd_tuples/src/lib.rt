@@ -9,6 +9,7 @@ use keccak_rnd::RC;
 use keccak_rnd::ROUND;
 use keccak_rnd::START;
 use keccak_rnd_lookup_tuples::lookup_tuple;
+use lists::put_part;
 use lookup::Bus;
 use lookup::BusInteraction;
 use lookup::Side;
@@ -41,18 +42,6 @@ pub const BYTE_ALU_VALUES: usize = 4;
 
 pub const ARE_BYTES_VALUES: usize = 2;
 
-// n columns from `from` on, stored from `at` on.
-fn copy_words(row: &[u64], from: usize, n: usize, out: &mut [u64], at: usize)
-    requires { ⌜ (from + n ≤ length (now row)) × (at + n ≤ length (now out)) ⌝ }
-    ensures { λ _. ⌜ now (out .exit) ≡ sets (now (out .entry)) at (tab n (λ k. word (now (row .entry)) (from + k))) ⌝ }
-{
-    let mut k: usize = 0;
-    while k < n {
-        out[at + k] = row[from + k];
-        k += 1;
-    }
-}
-
 // n lanes of one x, which stand 40 columns apart, the first from `from` on.
 fn copy_lanes(row: &[u64], from: usize, n: usize, out: &mut [u64], at: usize)
     requires { ⌜ (n ≤ 5) × (from + n * 40 ≤ length (now row) + 32) × (at + n * 8 ≤ length (now out)) ⌝ }
@@ -60,7 +49,7 @@ fn copy_lanes(row: &[u64], from: usize, n: usize, out: &mut [u64], at: usize)
 {
     let mut y: usize = 0;
     while y < n {
-        copy_words(row, from + y * 40, 8, out, at + y * 8);
+        put_part(out, at + y * 8, row, from + y * 40, 8);
         y += 1;
     }
 }
@@ -82,7 +71,7 @@ fn put_state(row: &[u64], first: usize, base: usize, out: &mut [u64])
     requires { ⌜ (first + 8 ≤ length (now row)) × (base + 200 ≤ length (now row)) × (203 ≤ length (now out)) ⌝ }
     ensures { λ _. ⌜ now (out .exit) ≡ sets (now (out .entry)) 3 (tab 200 (byXYB (stateWord (now (row .entry)) first base))) ⌝ }
 {
-    copy_words(row, first, 8, out, 3);
+    put_part(out, 3, row, first, 8);
     copy_lanes(row, base + 40, 4, out, 11);
     copy_columns(row, base, out);
 }
@@ -136,7 +125,7 @@ fn constant(row: &[u64], out: &mut [u64]) -> BusInteraction
     ensures words { λ _. ⌜ now (out .exit) ≡ overwrite (rcTuple (now (row .entry)) .values) (now (out .entry)) ⌝ }
 {
     out[0] = row[ROUND];
-    copy_words(row, RC, 8, out, 1);
+    put_part(out, 1, row, RC, 8);
     BusInteraction {
         bus: Bus::KeccakRc,
         side: Side::Sender,

@@ -1,21 +1,19 @@
 // tables/keccak.rs, bus_interactions: the 84 tuples of a core row, by index.
-pub mod memw;
-pub mod state;
-
 use answer::Answer;
-use keccak::ADDR;
 use keccak::MU;
 use keccak::NUM_COLUMNS;
-use keccak::STATE_PTR;
+use keccak_lookup_tuples::addr_bytes_tuple;
+use keccak_lookup_tuples::align_tuple;
+use keccak_lookup_tuples::pointer_tuple;
+use keccak_memw_tuples::addr_memw;
+use keccak_memw_tuples::lane_memw;
+use keccak_state_tuples::keccak_received;
+use keccak_state_tuples::keccak_sent;
 use lookup::Bus;
 use lookup::BusInteraction;
 use lookup::Side;
 use lookup::TupleAnswer;
 use lookup::check::check_tuple;
-use memw::addr_memw;
-use memw::lane_memw;
-use state::keccak_received;
-use state::keccak_sent;
 ghost use mathlib.Core.Path.{_≡_};
 ghost use mathlib.Core.List.{List};
 ghost use Prim.Native.Nat.{ℕ, _+_, _<_, _≤_};
@@ -23,9 +21,8 @@ ghost use lib.ListN.{length};
 ghost use Rattle.field.specs.Elements.{ElementRow};
 ghost use Rattle.answer.specs.Refusal.{overwrite};
 ghost use Rattle.lookup.specs.Call.{interactionOf, tupleAnswerOf, tupleAfter};
-ghost use Rattle.lookup.specs.declared.Side.the-variants.{Sender};
 ghost use Rattle.keccak.specs.Columns.{NUM-COLUMNS};
-ghost use Rattle.keccak.specs.Tuples.{NUM-TUPLES, ecallTuple, pointerTuple, alignTuple, addrBytesTuple, coreTuple};
+ghost use Rattle.keccak.specs.Tuples.{NUM-TUPLES, ecallTuple, coreTuple};
 
 pub const NUM_TUPLES: usize = 84;
 
@@ -63,59 +60,6 @@ fn head_tuple(row: &[u64], index: usize, syscall: u64, out: &mut [u64]) -> BusIn
         return keccak_sent(row, out);
     }
     keccak_received(row, out)
-}
-
-// A tuple that is sent, but for its values.
-fn sent(bus: Bus, size: usize, mu: u64) -> BusInteraction
-    ensures { λ r. ⌜ r ≡ record { bus = bus; side = Sender; length = size; multiplicity = mu } ⌝ }
-{
-    BusInteraction {
-        bus,
-        side: Side::Sender,
-        length: size,
-        multiplicity: mu,
-    }
-}
-
-// 4 to 53: the word and the middle half of pointer i, or its low half.
-fn pointer_tuple(row: &[u64], i: usize, j: usize, out: &mut [u64]) -> BusInteraction
-    requires { ⌜ (NUM-COLUMNS ≤ length (now row)) × (i < 25) × (length (pointerTuple (now row) i j .values) ≤ length (now out)) ⌝ }
-    ensures answer { λ r. ⌜ r ≡ interactionOf (pointerTuple (now (row .entry)) i j) ⌝ }
-    ensures words { λ _. ⌜ now (out .exit) ≡ overwrite (pointerTuple (now (row .entry)) i j .values) (now (out .entry)) ⌝ }
-{
-    let at = STATE_PTR + 3 * i;
-    if j == 0 {
-        out[0] = row[at + 2];
-        out[1] = row[at + 1];
-        return sent(Bus::IsWh, 2, row[MU]);
-    }
-    out[0] = row[at];
-    sent(Bus::IsHalfword, 1, row[MU])
-}
-
-// 54: the lowest byte of the address AND 7 is 0.
-fn align_tuple(row: &[u64], out: &mut [u64]) -> BusInteraction
-    requires { ⌜ (NUM-COLUMNS ≤ length (now row)) × (4 ≤ length (now out)) ⌝ }
-    ensures answer { λ r. ⌜ r ≡ interactionOf (alignTuple (now (row .entry))) ⌝ }
-    ensures words { λ _. ⌜ now (out .exit) ≡ overwrite (alignTuple (now (row .entry)) .values) (now (out .entry)) ⌝ }
-{
-    out[0] = 0;
-    out[1] = row[ADDR];
-    out[2] = 7;
-    out[3] = 0;
-    sent(Bus::ByteAlu, 4, row[MU])
-}
-
-// 55 to 58: two columns of the address are bytes.
-fn addr_bytes_tuple(row: &[u64], i: usize, out: &mut [u64]) -> BusInteraction
-    requires { ⌜ (NUM-COLUMNS ≤ length (now row)) × (i < 4) × (2 ≤ length (now out)) ⌝ }
-    ensures answer { λ r. ⌜ r ≡ interactionOf (addrBytesTuple (now (row .entry)) i) ⌝ }
-    ensures words { λ _. ⌜ now (out .exit) ≡ overwrite (addrBytesTuple (now (row .entry)) i .values) (now (out .entry)) ⌝ }
-{
-    let at = ADDR + 2 * i;
-    out[0] = row[at];
-    out[1] = row[at + 1];
-    sent(Bus::AreBytes, 2, row[MU])
 }
 
 // 54 to 83.

@@ -16,7 +16,7 @@ use Rattle.templates.specs.Templates.{constant, from-dword-bl, from-dword-whh, 
 use Rattle.templates.proofs.Operand.{constant-lo, constant-hi, whh-hi}
 use Rattle.keccak.specs.Columns.{ADDR, MU, addr, state-ptr}
 use Rattle.keccak.specs.Values.{pointerValue, topValue, coreValue, wordOfBytes, wordOfHalves}
-use Rattle.keccak_values.specs.Carries.{lowCarry, highCarry}
+use Rattle.keccak_carries.specs.Carries.{lowCarry, highCarry}
 
 -- a first term whose coefficient is 1, and a term that is not used
 from-zero : (w : ℕ) → w < p → fadd 0 w ≡ w
@@ -98,23 +98,6 @@ module _ (row : List ℕ) where
   pub value-51 : isBit (word row MU) ≡ coreValue row 51
   unfolding coreValue
   value-51 = sym (then-past 50 51 _ _ (omega arith) ∙ then-past 1 1 _ _ (omega arith))
-
-  -- ---- the carries, step by step
-  pub low-carried : (i : ℕ) {lo start ptr low : ℕ} → lo ≡ wordOfBytes row ADDR → start ≡ fadd lo (8 * i) → ptr ≡ wordOfHalves row (410 + 3 * i)
-      → low ≡ fmul (fsub start ptr) INV-SHIFT-32 → low ≡ lowCarry row i
-  unfolding lowCarry
-  low-carried i a b c d = d ∙ ap₂ (λ (x y : ℕ). fmul (fsub x y) INV-SHIFT-32) (b ∙ ap (λ (x : ℕ). fadd x (8 * i)) a) (c ∙ ap (wordOfHalves row) (limb i))
-    where
-      limb : (i : ℕ) → 410 + 3 * i ≡ state-ptr i 0
-      limb i = omega arith
-
-  pub high-carried : (i : ℕ) {hi low both high : ℕ} → hi ≡ wordOfBytes row (addr 4) → low ≡ lowCarry row i → both ≡ fadd hi low
-      → high ≡ fmul (fsub both (word row (410 + 3 * i + 2))) INV-SHIFT-32 → high ≡ highCarry row i
-  unfolding highCarry
-  high-carried i a b c d = d ∙ ap₂ (λ (x y : ℕ). fmul (fsub x y) INV-SHIFT-32) (c ∙ ap₂ fadd a b) (ap (word row) (limb i))
-    where
-      limb : (i : ℕ) → 410 + 3 * i + 2 ≡ state-ptr i 2
-      limb i = omega arith
 
 -- two stores more, and the row's values are whole
 pub last-two : (l out : List ℕ) (f : ℕ → ℕ) {a b : ℕ} → out ≡ sets l 0 (tab 50 f) → a ≡ f 50 → b ≡ f 51 → set (set out 50 a) 51 b ≡ sets l 0 (tab 52 f)

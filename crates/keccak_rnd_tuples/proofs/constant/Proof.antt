@@ -16,20 +16,20 @@ shared-slice-read-out c = search needs
 slice-write-out : tie.Need-slice-write-out
 slice-write-out c = search needs
 
-copy-words-requires : tie.Need-copy-words-requires
-copy-words-requires c κs = search needs
+put-part-requires : tie.Need-put-part-requires
+put-part-requires c κs = search needs
 
 shared-slice-read-t4 : tie.Need-shared-slice-read-t4
 shared-slice-read-t4 c = search needs
 
 same-length : tie.Need-same-length
-same-length c = c .before .before .before .copy-words .kept .1 .1 .1 .0 ∙ simp length-set
+same-length c = c .before .before .before .put-part .kept .0 ∙ simp length-set
 
 returns : tie.Need-returns
 returns c =
     let a = c .before .before .before .before .before .before .before .before .args in
     let long = rc-length (a .row .now) in
-    (sym (rc-interaction (a .row .now)), c .before .before .before .copy-words .ensures ∙ sets-overwrite (a .out .now) (_ ∷ tab 8 _) (omega (arith, long, c .before .before .before .before .before .before .before .before .pre .1)))
+    (sym (rc-interaction (a .row .now)), c .before .before .before .put-part .ensures ∙ sets-overwrite (a .out .now) (_ ∷ tab 8 _) (omega (arith, long, c .before .before .before .before .before .before .before .before .pre .1)))
 
 pub constant-spec : {M : Type 1} → statement M
 constant-spec =
@@ -37,7 +37,7 @@ constant-spec =
     (tie.spec
     shared-slice-read-out
     slice-write-out
-    copy-words-requires
+    put-part-requires
     shared-slice-read-t4
     same-length
     returns)

@@ -16,20 +16,20 @@ abbrev μ-loop : tie.MeasureT-loop
 loop-holds : tie.Need-loop-holds Inv-loop μ-loop
 loop-holds c = (omega arith, filled-none _ _ _ _)
 
-mul-copy-words : tie.Need-mul-copy-words Inv-loop μ-loop
-mul-copy-words c = omega arith
+mul-put-part : tie.Need-mul-put-part Inv-loop μ-loop
+mul-put-part c = omega arith
 
-add-copy-words : tie.Need-add-copy-words Inv-loop μ-loop
-add-copy-words c = omega arith
+add-put-part : tie.Need-add-put-part Inv-loop μ-loop
+add-put-part c = omega arith
 
-mul-copy-words-2 : tie.Need-mul-copy-words-2 Inv-loop μ-loop
-mul-copy-words-2 c = omega arith
+mul-put-part-2 : tie.Need-mul-put-part-2 Inv-loop μ-loop
+mul-put-part-2 c = omega arith
 
-add-copy-words-2 : tie.Need-add-copy-words-2 Inv-loop μ-loop
-add-copy-words-2 c = omega arith
+add-put-part-2 : tie.Need-add-put-part-2 Inv-loop μ-loop
+add-put-part-2 c = omega arith
 
-copy-words-requires : tie.Need-copy-words-requires Inv-loop μ-loop
-copy-words-requires c κs = omega arith
+put-part-requires : tie.Need-put-part-requires Inv-loop μ-loop
+put-part-requires c κs = omega arith
 
 add-y : tie.Need-add-y Inv-loop μ-loop
 add-y c = omega arith
@@ -41,7 +41,7 @@ loop-again : tie.Need-loop-again Inv-loop μ-loop
 loop-again c =
     let turn = c .before .before .before .before in
     let at = turn .before in
-    (omega arith, filled-add 8 _ (at .loop .inv .1) (omega arith) (omega arith) (c .before .before .copy-words .ensures) (λ j h. lane-of-x _ _ (at .loop .y) j h))
+    (omega arith, filled-add 8 _ (at .loop .inv .1) (omega arith) (omega arith) (c .before .before .put-part .ensures) (λ j h. lane-of-x _ _ (at .loop .y) j h))
 
 same-length : tie.Need-same-length Inv-loop μ-loop
 same-length c = omega arith
@@ -56,11 +56,11 @@ copy-lanes-spec =
     Inv-loop
     μ-loop
     loop-holds
-    mul-copy-words
-    add-copy-words
-    mul-copy-words-2
-    add-copy-words-2
-    copy-words-requires
+    mul-put-part
+    add-put-part
+    mul-put-part-2
+    add-put-part-2
+    put-part-requires
     add-y
     loop-less
     loop-again

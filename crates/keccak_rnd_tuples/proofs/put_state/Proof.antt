@@ -10,8 +10,8 @@ use borrow.Author.Needs.{needs}
 use Rattle.keccak_rnd_tuples.proofs.put_state.Statement.{statement}
 use Rattle.keccak_rnd_tuples.proofs.put_state.Tie as tie
 
-copy-words-requires : tie.Need-copy-words-requires
-copy-words-requires c κs = search needs
+put-part-requires : tie.Need-put-part-requires
+put-part-requires c κs = search needs
 
 add-copy-lanes : tie.Need-add-copy-lanes
 add-copy-lanes c = search needs
@@ -29,7 +29,7 @@ returns : tie.Need-returns
 returns c =
     let a = c .before .before .before .before .before .before .before .before .before .before .before .before .before .before .args in
     let row = a .row .now in
-    let one = filled-add 8 _ (filled-none (a .out .now) 3 200 (byXYB (stateWord row (a .first) (a .base)))) refl (omega arith) (c .before .before .before .before .before .before .before .before .before .before .copy-words .ensures) (state-first row (a .first) (a .base)) in
+    let one = filled-add 8 _ (filled-none (a .out .now) 3 200 (byXYB (stateWord row (a .first) (a .base)))) refl (omega arith) (c .before .before .before .before .before .before .before .before .before .before .put-part .ensures) (state-first row (a .first) (a .base)) in
     let five = filled-add 32 _ one refl (omega arith) (c .before .before .before .before .before .before .copy-lanes .ensures) (state-zero row (a .first) (a .base)) in
     let all = filled-add {k′ = 200} 160 _ five refl (omega arith) (c .before .before .copy-columns .ensures) (λ j h. state-other row (a .first) (a .base) (40 + j) (omega arith)) in
     filled-all all (omega arith)
@@ -38,7 +38,7 @@ pub put-state-spec : {M : Type 1} → statement M
 put-state-spec =
     tie.close
     (tie.spec
-    copy-words-requires
+    put-part-requires
     add-copy-lanes
     copy-lanes-requires
     copy-columns-requires

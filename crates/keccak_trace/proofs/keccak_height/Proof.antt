@@ -1,4 +1,4 @@
--- `keccak::keccak_height` meets its contract: the check, then the height. Assumes nothing.
+-- `keccak_trace::keccak_height` meets its contract: the check, then the height. Assumes nothing.
 use mathlib.Core.Path.{refl}
 use Prim.Native.Nat.{_-_}
 use borrow.Author.Needs.{needs}

@@ -1,4 +1,4 @@
--- `keccak::put_op_rows` meets its contract: after i turns the rows of the first i operations are stored. Assumes nothing.
+-- `keccak_trace::put_op_rows` meets its contract: after i turns the rows of the first i operations are stored. Assumes nothing.
 use mathlib.Core.Path.{sym, ap, _∙_, subst}
 use Prim.Native.Nat.{_+_, _-_, _*_, _≤_, _<_, _^_}
 use native.Mathlib.Omega.{arith}
@@ -13,7 +13,7 @@ use Rattle.keccak.proofs.Checks.{address-fits}
 use Rattle.keccak_trace.proofs.put_op_rows.Statement.{statement}
 use Rattle.keccak_trace.proofs.put_op_rows.Tie as tie
 use Rattle.operations.proofs.operation_at.Reads as operation-at-reads
-use Rattle.keccak_trace.proofs.put_core_row.Reads as put-core-row-reads
+use Rattle.keccak_row.proofs.put_core_row.Reads as put-core-row-reads
 
 abbrev Inv-loop : tie.InvT-loop
 Inv-loop ops n table₀ i₀ table i = (i ≤ n) × Filled table₀ 0 (n * 486) (cellsOf 486 (λ j. coreRow (opAt ops j))) table (i * 486)

@@ -5,7 +5,9 @@ use native.Mathlib.Omega.{arith}
 use borrow.Author.Needs.{needs}
 use Rattle.lookup.proofs.Call.{as-tuple}
 use Rattle.keccak.specs.Tuples.{coreTuple, alignTuple, addrBytesTuple, laneMemw}
-use Rattle.keccak_tuples.proofs.Tuples.{room, is-align, is-bytes, is-lane, align-length, bytes-length, lane-length}
+use Rattle.keccak_lookup_tuples.proofs.Tuples.{room, align-length, bytes-length}
+use Rattle.keccak_memw_tuples.proofs.Tuples.{lane-length}
+use Rattle.keccak_tuples.proofs.Tuples.{is-align, is-bytes, is-lane}
 use Rattle.keccak_tuples.proofs.tail_tuple.Statement.{statement}
 use Rattle.keccak_tuples.proofs.tail_tuple.Tie as tie
 

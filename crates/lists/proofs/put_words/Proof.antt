@@ -1,65 +1,29 @@
--- `lists::put_words` meets its contract: after k turns the first k words are stored. Assumes nothing.
-use mathlib.Core.Path.{refl}
-use Prim.Native.Nat.{_-_}
+-- `lists::put_words` meets its contract: the part from the first word on. Assumes nothing.
+use mathlib.Core.Path.{_≡_, ap, _∙_}
+use mathlib.Core.List.{List}
+use Prim.Native.Nat.{ℕ, _+_}
+use native.Mathlib.Nat.{zero-add}
 use native.Mathlib.Omega.{arith}
-use Rattle.lists.specs.Tab.{word}
-use Rattle.lists.proofs.Laws.{Filled, filled-none, filled-more, filled-all}
+use borrow.Author.Needs.{needs}
+use lib.Seq.{sets}
+use Rattle.lists.specs.Tab.{tab, word}
+use Rattle.lists.proofs.Laws.{tab-same}
 use Rattle.lists.proofs.put_words.Statement.{statement}
 use Rattle.lists.proofs.put_words.Tie as tie
 
-abbrev Inv-loop : tie.InvT-loop
-Inv-loop row₀ at words n k₀ row k = Filled row₀ at n (word words) row k
+from-zero : (l words : List ℕ) (at n : ℕ) {out : List ℕ} → out ≡ sets l at (tab n (λ k. word words (0 + k))) → out ≡ sets l at (tab n (word words))
+from-zero l words at n e = e ∙ ap (sets l at) (tab-same n _ _ (λ k h. ap (word words) (zero-add k)))
 
-abbrev μ-loop : tie.MeasureT-loop
-μ-loop row₀ at words n k₀ row k = n - k
+put-part-requires : tie.Need-put-part-requires
+put-part-requires c κs = (omega arith, omega arith)
 
-loop-holds : tie.Need-loop-holds Inv-loop μ-loop
-loop-holds c = filled-none _ _ _ _
+same-length : tie.Need-same-length
+same-length c = search needs
 
-mul-row : tie.Need-mul-row Inv-loop μ-loop
-mul-row c = omega arith
-
-shared-slice-read-row : tie.Need-shared-slice-read-row Inv-loop μ-loop
-shared-slice-read-row c = omega arith
-
-add-row : tie.Need-add-row Inv-loop μ-loop
-add-row c = omega arith
-
-mul-row-2 : tie.Need-mul-row-2 Inv-loop μ-loop
-mul-row-2 c = omega arith
-
-slice-write-row : tie.Need-slice-write-row Inv-loop μ-loop
-slice-write-row c = omega arith
-
-add-k : tie.Need-add-k Inv-loop μ-loop
-add-k c = omega arith
-
-loop-less : tie.Need-loop-less Inv-loop μ-loop
-loop-less c = omega arith
-
-loop-again : tie.Need-loop-again Inv-loop μ-loop
-loop-again c = filled-more _ (c .before .before .loop .inv) (c .before .loop-test .taken) refl
-
-same-length : tie.Need-same-length Inv-loop μ-loop
-same-length c = omega arith
-
-returns : tie.Need-returns Inv-loop μ-loop
-returns c = filled-all (c .before .loop .inv) (c .loop-test .left)
+returns : tie.Need-returns
+returns c =
+    let a = c .before .before .before .before .before .before .args in
+    from-zero (a .row .now) (a .words .now) (a .at) (a .n) (c .before .before .put-part .ensures)
 
 pub put-words-spec : {M : Type 1} → statement M
-put-words-spec =
-    tie.close
-    (tie.spec
-    Inv-loop
-    μ-loop
-    loop-holds
-    mul-row
-    shared-slice-read-row
-    add-row
-    mul-row-2
-    slice-write-row
-    add-k
-    loop-less
-    loop-again
-    same-length
-    returns)
+put-words-spec = tie.close (tie.spec put-part-requires same-length returns)

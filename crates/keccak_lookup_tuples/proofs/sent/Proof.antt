@@ -1,0 +1,10 @@
+-- `keccak_lookup_tuples::sent` meets its contract: the four fields. Assumes nothing.
+use mathlib.Core.Path.{refl}
+use Rattle.keccak_lookup_tuples.proofs.sent.Statement.{statement}
+use Rattle.keccak_lookup_tuples.proofs.sent.Tie as tie
+
+returns : tie.Need-returns
+returns c = refl
+
+pub sent-spec : {M : Type 1} → statement M
+sent-spec = tie.close (tie.spec returns)
