@@ -2,7 +2,7 @@
 //! one's contract.
 //!
 //! A slice is passed as a pointer, then a length in words. None of the functions has a condition on its arguments beyond
-//! that these come from a slice; no two slices of a call overlap, because one of them is a `&mut`.
+//! that these come from a slice, and that a slice which is written overlaps no other of the call: it is a `&mut`.
 
 use crate::refusal::Refusal;
 

@@ -1,5 +1,5 @@
 //! The archive's functions on the bytes of an operation file (`crates/keccak_tables/src/tally_calls.rt` has each
-//! one's contract). None has a condition on its arguments beyond that pointer and length are those of a slice.
+//! one's contract). None has a condition on its arguments beyond those of `ffi`.
 
 use crate::ffi::FlatAnswer;
 use crate::operation_file::Sums;

@@ -1,4 +1,4 @@
-//! The round table: 24 rows for each operation. Operations are a flat list, [`OP_WORDS`](crate::OP_WORDS) words each.
+//! The round table: 24 rows for each operation. Operations are a flat list, [`OP_WORDS`] words each.
 
 use crate::ffi;
 use crate::operation::OP_WORDS;

@@ -28,7 +28,7 @@ pub enum Refusal {
     },
     /// 3: a lent slice that is too short.
     TooShort {
-        /// The length needed.
+        /// The length needed, in words, or in bytes where the slice is one of bytes.
         needed: u64,
     },
     /// 4: an operation's last lane would start past 2^64 - 1.
@@ -101,7 +101,7 @@ impl fmt::Display for Refusal {
             Self::NotWhole { which: Lent::Core } => write!(f, "the core table is not whole rows"),
             Self::NotWhole { which: Lent::Round } => write!(f, "the round table is not whole rows"),
             Self::NotWhole { which: Lent::List } => write!(f, "the list is not whole"),
-            Self::TooShort { needed } => write!(f, "a slice has fewer than the {needed} words needed"),
+            Self::TooShort { needed } => write!(f, "a slice is shorter than the {needed} that are needed"),
             Self::HighAddress { address } => write!(
                 f,
                 "the last of the 25 lanes from address {address} would start past 2^64 - 1"

@@ -14,9 +14,9 @@ pub enum Table {
     Round,
 }
 
-/// What is said of two tables. Rows and indexes count from 0. Failures are looked for in this order, those of a kind in the
-/// core table before the round table, but for the timestamps, which come between the two: core values, core lookups,
-/// timestamps, round values, round lookups, balance. The first one is named, by its lowest row, then its lowest index.
+/// What is said of two tables. Rows and indexes count from 0. Failures are looked for in this order: core values, core
+/// lookups, timestamps, round values, round lookups, balance, there the core table first. Of the first kind that there is,
+/// the lowest row is named, and in it the lowest index.
 #[derive(Debug, Clone, Copy, PartialEq, Eq, Hash)]
 pub enum Verdict {
     /// Both tables hold.

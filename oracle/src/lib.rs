@@ -22,7 +22,7 @@ mod row;
 mod tuple;
 
 pub use answers::bitwise::{
-    BITWISE_COLUMNS, COUNTERS, Lookup, bitwise_count, bitwise_counts, bitwise_row, bitwise_row_index,
+    BITWISE_COLUMNS, COUNTERS, Counters, Lookup, bitwise_count, bitwise_counts, bitwise_row, bitwise_row_index,
     bitwise_table_row, bitwise_tuples,
 };
 pub use answers::is_wh::{IS_WH_COLUMNS, is_wh_key, is_wh_tuples, is_whh_tuples};

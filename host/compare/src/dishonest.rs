@@ -24,7 +24,7 @@ pub struct Pair {
 
 /// Every named pair, from a seed.
 pub fn pairs(seed: u64) -> impl Iterator<Item = Pair> {
-    let lists = [&HONEST[..], REFUSED, CORE_ROWS, ROUND_ROWS, BUS, FORGED, SEVERAL];
+    let lists = [HONEST, REFUSED, CORE_ROWS, ROUND_ROWS, BUS, FORGED, SEVERAL];
     lists
         .into_iter()
         .flatten()
@@ -460,17 +460,7 @@ const CORE_ROWS: &[(&str, Make)] = &[
     }),
     // From here on, rows that pass everything but one rule.
     ("an address that wraps", |t, _| {
-        let address = 0u64.wrapping_sub(64);
-        let row = t.core_row(1);
-        for (byte, word) in address.to_le_bytes().into_iter().enumerate() {
-            row[core_cols::addr(byte)] = u64::from(word);
-        }
-        for lane in 0..25 {
-            let pointer = address.wrapping_add(8 * lane as u64);
-            row[limb(lane, 0)] = pointer & 0xFFFF;
-            row[limb(lane, 1)] = pointer >> 16 & 0xFFFF;
-            row[limb(lane, 2)] = pointer >> 32;
-        }
+        move_to(t.core_row(1), 0u64.wrapping_sub(64));
         Value(Core, 1, 50)
     }),
     ("a low carry of 2^32 - 1", |t, _| {
@@ -512,7 +502,45 @@ const CORE_ROWS: &[(&str, Make)] = &[
     ("lanes 4 off, by byte 2 of the address", |t, _| lanes_off(t, 2)),
     ("byte 4 of the address less 256", |t, _| borrowed(t, 4)),
     ("byte 6 of the address less 256", |t, _| borrowed(t, 6)),
+    // The least numbers that the lookups of limbs and bytes refuse.
+    ("limb 0 of 2^16, limb 1 less 1", |t, _| {
+        let row = t.core_row(1);
+        move_to(row, 0x0005_0003_0000 - 8 * 7);
+        (row[limb(7, 0)], row[limb(7, 1)]) = (1 << 16, 2);
+        Lookup(Core, 1, 5 + 14)
+    }),
+    ("limb 1 of 2^16, limb 2 less 1", |t, _| {
+        let row = t.core_row(1);
+        move_to(row, 0x0006_0000_0000 - 8 * 7);
+        (row[limb(7, 1)], row[limb(7, 2)]) = (1 << 16, 5);
+        Lookup(Core, 1, 4 + 14)
+    }),
+    ("limb 2 of 2^32, in place of a pointer that wraps", |t, _| {
+        let row = t.core_row(1);
+        move_to(row, 0u64.wrapping_sub(8 * 24));
+        row[limb(24, 2)] = 1 << 32;
+        Lookup(Core, 1, 4 + 48)
+    }),
+    ("byte 4 of the address of 256, byte 5 less 1", |t, _| {
+        let row = t.core_row(1);
+        move_to(row, 0x0200_0000_1000);
+        (row[core_cols::addr(4)], row[core_cols::addr(5)]) = (256, 1);
+        Lookup(Core, 1, 55 + 2)
+    }),
 ];
+
+/// A core row gets another address, and pointers that wrap at 2^64.
+fn move_to(row: &mut [u64], address: u64) {
+    for (byte, word) in address.to_le_bytes().into_iter().enumerate() {
+        row[core_cols::addr(byte)] = u64::from(word);
+    }
+    for lane in 0..25 {
+        let pointer = address.wrapping_add(8 * lane as u64);
+        row[limb(lane, 0)] = pointer & 0xFFFF;
+        row[limb(lane, 1)] = pointer >> 16 & 0xFFFF;
+        row[limb(lane, 2)] = pointer >> 32;
+    }
+}
 
 /// A byte of the address is b + 4 / 256^byte mod p, and every pointer is 4 off, while the lowest byte looks aligned.
 fn lanes_off(t: &mut Tables, byte: usize) -> Verdict {
@@ -1033,7 +1061,7 @@ mod tests {
         let faked = |pair: &Pair| CORE_ROWS[12..].iter().any(|(name, _)| *name == pair.name);
         let forged = |pair: &Pair| FORGED[..13].iter().any(|(name, _)| *name == pair.name);
         let alone: Vec<Pair> = pairs(1).filter(|pair| faked(pair) || forged(pair)).collect();
-        assert_eq!(alone.len(), 24);
+        assert_eq!(alone.len(), 28);
         for Pair { name, tables, .. } in alone {
             assert_eq!(judge::rules_broken(&tables.core, &tables.round), 1, "{name}");
         }

@@ -1,12 +1,12 @@
 //! Operation files about the most records that one may have: 37 GB, which repeat a piece of 55 MB.
 
-use keccak_tables::operation_file::{RECORD_BYTES, Sums, Tally, read_operations};
+use keccak_tables::operation_file::{RECORD_BYTES, Tally, read_operations};
 use keccak_tables::{MAX_OPS, OP_WORDS};
 
 use crate::comparison::Comparison;
 use crate::inputs::Words;
 use crate::lent::Lent;
-use crate::tally::file_of;
+use crate::tally::{file_of, numbers};
 use crate::untouched::Repeated;
 
 /// The records of the piece: so many that it is whole pages.
@@ -58,14 +58,13 @@ fn reader(comparison: &mut Comparison, file: &[u8]) {
     }
 }
 
-/// Three of the sums.
-fn numbers(sums: &Sums) -> [u64; 3] {
-    [sums.ops, sums.core_rows, sums.are_bytes]
-}
-
-/// The same by the interface's text.
-fn expected() -> [u64; 3] {
+/// The sums by the published Rust: each operation sends as much as another, and the padding only on AreBytes.
+fn expected() -> [u64; 10] {
     let n = MAX_OPS as u64;
-    let height = n.next_power_of_two();
-    [n, height, 5_284 * n + oracle::padding_are_bytes(MAX_OPS)]
+    let one = oracle::tally(&[0; OP_WORDS]).map(|(_, sum)| u64::try_from(sum).expect("a sum is a word"));
+    let mut sums = one.map(|sum| n * sum);
+    sums[1] = n.next_power_of_two();
+    sums[2] = (24 * n).next_power_of_two();
+    sums[4] = n * (one[4] - oracle::padding_are_bytes(1)) + oracle::padding_are_bytes(MAX_OPS);
+    sums
 }

@@ -13,7 +13,8 @@ use crate::evaluated::{CORE, ROUND};
 use crate::inputs::Words;
 use crate::judge;
 use crate::lent::{Lent, LentBytes};
-use crate::tally::{file_of, first_fault, read};
+use crate::rows::refusals::Needed;
+use crate::tally::{file_of, first_fault, operations_of, read};
 use crate::untouched::Untouched;
 use crate::{rows, tuples, values, verdicts};
 
@@ -147,11 +148,11 @@ fn counters(comparison: &mut Comparison, words: &mut Words) {
     counters.kept(comparison, |_| "the other counters".into());
 }
 
-/// A call on a list: its name, the words or bytes that it needs for n operations, and the call on a list, an index and a slice.
+/// A call on a list, an index and a slice.
 type IndexedCall = fn(&[u64], usize, &mut [u64]) -> Result<(), Refusal>;
 
 /// The calls that write words, and the words that each needs for n operations.
-const LIST_CALLS: [(&str, fn(usize) -> usize, IndexedCall); 4] = [
+const LIST_CALLS: [(&str, Needed, IndexedCall); 4] = [
     ("keccak_row", |_| 486, keccak::keccak_row),
     (
         "generate_keccak_trace",
@@ -198,7 +199,7 @@ impl OnList<'_> {
     }
 
     /// Every call on lists that writes words, with so many words more or fewer than it needs.
-    fn into_words(&self, comparison: &mut Comparison, words: &mut Words, off: isize) {
+    fn write_words(&self, comparison: &mut Comparison, words: &mut Words, off: isize) {
         let n = self.ops.len() / OP_WORDS;
         for (name, needed, call) in LIST_CALLS {
             let needed = needed(n);
@@ -216,7 +217,7 @@ impl OnList<'_> {
     }
 
     /// The call that writes bytes.
-    fn into_bytes(&self, comparison: &mut Comparison, words: &mut Words, off: isize) {
+    fn write_bytes(&self, comparison: &mut Comparison, words: &mut Words, off: isize) {
         let needed = self.ops.len() / OP_WORDS * RECORD_BYTES;
         let room = needed.saturating_add_signed(off).min(1 << 20);
         let expected = self.expected(false, needed, room);
@@ -258,8 +259,8 @@ fn lists(comparison: &mut Comparison, words: &mut Words) {
                         what: &what,
                     };
                     for off in [-1, 0, 1] {
-                        on_list.into_words(comparison, words, off);
-                        on_list.into_bytes(comparison, words, off);
+                        on_list.write_words(comparison, words, off);
+                        on_list.write_bytes(comparison, words, off);
                     }
                 }
                 lent.kept(comparison, |_| format!("the list, which is only read: {what}"));
@@ -291,8 +292,8 @@ fn long_lists(comparison: &mut Comparison, words: &mut Words) {
                         what: &what,
                     };
                     let short = isize::MIN;
-                    on_list.into_words(comparison, words, short);
-                    on_list.into_bytes(comparison, words, short);
+                    on_list.write_words(comparison, words, short);
+                    on_list.write_bytes(comparison, words, short);
                 }
             }
         }
@@ -356,11 +357,12 @@ fn one_file(comparison: &mut Comparison, words: &mut Words, file: &[u8]) {
         let answer = read_operations(lent.slice(), list.slice());
         let expected = fault.or(first(&[(room < needed, 3, needed as u64)]));
         comparison.answered("read_operations", input, answer, expected);
-        if expected.is_some() {
-            list.kept(comparison, |_| input());
+        let written = if expected.is_none() {
+            operations_of(file)
         } else {
-            list.guards_kept(comparison, input);
-        }
+            Vec::new()
+        };
+        list.holds(comparison, |_| input(), &written);
     }
     lent.holds(comparison, input, &[]);
 }

@@ -7,7 +7,7 @@ use keccak_tables::{OP_WORDS, Refusal};
 
 use crate::comparison::Comparison;
 use crate::inputs::Words;
-use crate::lent::Lent;
+use crate::lent::{Lent, LentBytes};
 
 /// The whole area: files of 0 to 40 records, some longer ones, and `n` damaged ones.
 pub fn compare(comparison: &mut Comparison, seed: u64, n: usize) {
@@ -45,6 +45,14 @@ pub fn file_of(ops: &[u64]) -> Vec<u8> {
     ops.chunks_exact(OP_WORDS).flat_map(record).collect()
 }
 
+/// The operations of a file of whole records.
+pub fn operations_of(file: &[u8]) -> Vec<u64> {
+    let words = file
+        .chunks_exact(RECORD_BYTES)
+        .flat_map(|record| record[2..].as_chunks().0);
+    words.map(|&word| u64::from_le_bytes(word)).collect()
+}
+
 /// What our reader says of a file that is cut at drawn places.
 pub fn read(words: &mut Words, file: &[u8]) -> Result<Sums, Refusal> {
     let most = [1, 20, 500, 5_000][words.below(4) as usize];
@@ -58,7 +66,8 @@ pub fn read(words: &mut Words, file: &[u8]) -> Result<Sums, Refusal> {
     tally.finish()
 }
 
-fn numbers(sums: &Sums) -> [u64; 10] {
+/// The ten sums, in the order of the program's lines.
+pub fn numbers(sums: &Sums) -> [u64; 10] {
     [
         sums.ops,
         sums.core_rows,
@@ -74,7 +83,7 @@ fn numbers(sums: &Sums) -> [u64; 10] {
 }
 
 fn sums(comparison: &mut Comparison, words: &mut Words, ops: &[u64]) {
-    let input = || format!("a file of {} operations", ops.len() / OP_WORDS);
+    let input = || format!("a file of the operations {ops:?}");
     let expected = oracle::tally(ops).map(|(_, sum)| u64::try_from(sum).expect("a sum is a word"));
     if let Some(ours) = comparison.done(input, read(words, &file_of(ops))) {
         comparison.equal(|_| input(), &numbers(&ours), &expected);
@@ -82,30 +91,15 @@ fn sums(comparison: &mut Comparison, words: &mut Words, ops: &[u64]) {
 }
 
 fn both_ways(comparison: &mut Comparison, words: &mut Words, ops: &[u64]) {
-    let input = || format!("{} operations", ops.len() / OP_WORDS);
+    let input = || format!("the operations {ops:?}");
     let file = file_of(ops);
     let mut list = Lent::drawn(ops.len() + words.below(3) as usize, words);
     comparison.done(input, read_operations(&file, list.slice()));
     list.holds(comparison, |_| input(), ops);
 
-    let past = words.below(3) as usize;
-    let mut bytes = vec![0xA5; file.len() + past];
-    comparison.done(input, write_operations(ops, &mut bytes));
-    let expected = [file.clone(), vec![0xA5; past]].concat();
-    comparison.equal(|_| input(), &widened(&bytes), &widened(&expected));
-
-    if !ops.is_empty() {
-        let mut short = Lent::drawn(ops.len() - 1, words);
-        comparison.refused(input, read_operations(&file, short.slice()), 3, ops.len() as u64);
-        short.kept(comparison, |_| input());
-        let mut bytes = vec![0xA5; file.len() - 1];
-        comparison.refused(input, write_operations(ops, &mut bytes), 3, file.len() as u64);
-        comparison.equal(|_| input(), &widened(&bytes), &vec![0xA5; file.len() - 1]);
-    }
-}
-
-fn widened(bytes: &[u8]) -> Vec<u64> {
-    bytes.iter().map(|&byte| byte.into()).collect()
+    let mut bytes = LentBytes::drawn(file.len() + words.below(3) as usize, words);
+    comparison.done(input, write_operations(ops, bytes.slice()));
+    bytes.holds(comparison, input, &file);
 }
 
 /// Up to three faults in a file of a few records; some of them hit the same record, some none.
@@ -142,6 +136,7 @@ fn damaged(comparison: &mut Comparison, words: &mut Words) {
                 comparison.equal(|_| input(), &numbers(&ours)[..1], &[whole as u64]);
             }
             comparison.done(input, listed);
+            list.holds(comparison, |_| input(), &operations_of(&file));
         }
     }
 }

@@ -13,7 +13,7 @@ use crate::{OP_WORDS, Operation, keccak, keccak_rnd};
 /// The calls.
 const CALLS: usize = 3;
 
-/// Lane (0, 0) of Keccak-f[1600] of the zero state.
+/// Lane (0, 0) of `Keccak-f[1600]` of the zero state.
 const ZERO_LANE: u64 = 0xF125_8F79_40E1_DDE7;
 
 /// The honest tables, and the changes that a trial makes to them.

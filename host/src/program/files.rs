@@ -2,9 +2,11 @@
 
 use std::fs::File;
 use std::io::{self, BufWriter, Read, Write};
+use std::os::unix::fs::MetadataExt;
 use std::path::Path;
 
 use super::Failure;
+use super::progress::Progress;
 
 /// How many bytes are read at once.
 pub const PIECE_BYTES: usize = 1 << 16;
@@ -16,18 +18,18 @@ pub fn read_words(path: &Path) -> Result<Vec<u64>, Failure> {
 
 fn words_of(path: &Path) -> io::Result<Vec<u64>> {
     let mut file = File::open(path)?;
+    let length = file.metadata()?.len();
     let mut words = Vec::new();
-    words
-        .try_reserve(file.metadata()?.len() as usize / 8)
-        .map_err(io::Error::other)?;
+    words.try_reserve(length as usize / 8).map_err(io::Error::other)?;
+    let mut progress = Progress::new("bytes read", length);
     let mut buffer = [0; PIECE_BYTES];
-    let mut bytes: u64 = 0;
     loop {
         let got = fill(&mut file, &mut buffer)?;
-        bytes += got as u64;
+        progress.add(got as u64);
         let (whole, rest) = buffer[..got].as_chunks::<8>();
         words.extend(whole.iter().map(|&word| u64::from_le_bytes(word)));
         if !rest.is_empty() {
+            let bytes = 8 * words.len() + rest.len();
             return Err(io::Error::other(format!("{bytes} bytes are no whole words")));
         }
         if got < PIECE_BYTES {
@@ -50,6 +52,12 @@ pub fn fill(input: &mut dyn Read, buffer: &mut [u8]) -> io::Result<usize> {
     Ok(filled)
 }
 
+/// Whether two open files are one, whatever the names that led to them.
+pub fn same(left: &File, right: &File) -> io::Result<bool> {
+    let [left, right] = [left.metadata()?, right.metadata()?];
+    Ok((left.dev(), left.ino()) == (right.dev(), right.ino()))
+}
+
 /// A file of words that is being written.
 pub struct WordFile<'a> {
     path: &'a Path,
@@ -57,12 +65,28 @@ pub struct WordFile<'a> {
 }
 
 impl<'a> WordFile<'a> {
-    pub fn create(path: &'a Path) -> Result<Self, Failure> {
-        let file = File::create(path).map_err(Failure::file(path))?;
+    /// Opens a file, or makes it. It still holds what it held.
+    pub fn open(path: &'a Path) -> Result<Self, Failure> {
+        let mut options = File::options();
+        options.write(true).create(true).truncate(false);
+        let file = options.open(path).map_err(Failure::file(path))?;
         Ok(Self {
             path,
             file: BufWriter::with_capacity(PIECE_BYTES, file),
         })
+    }
+
+    pub fn file(&self) -> &File {
+        self.file.get_ref()
+    }
+
+    /// Forgets what the file held; a device or a pipe holds nothing.
+    pub fn clear(&self) -> Result<(), Failure> {
+        let file = self.file();
+        let cleared = file
+            .metadata()
+            .and_then(|about| if about.is_file() { file.set_len(0) } else { Ok(()) });
+        cleared.map_err(Failure::file(self.path))
     }
 
     pub fn put(&mut self, words: &[u64]) -> Result<(), Failure> {

@@ -20,9 +20,10 @@ pub fn clear() {
     say("");
 }
 
-/// Progress towards a number that is known.
+/// Progress towards a number; 0 where that is not known.
 pub struct Progress {
     what: &'static str,
+    done: u64,
     total: u64,
     shown: Instant,
 }
@@ -31,15 +32,22 @@ impl Progress {
     pub fn new(what: &'static str, total: u64) -> Self {
         Self {
             what,
+            done: 0,
             total,
             shown: Instant::now(),
         }
     }
 
-    pub fn at(&mut self, done: u64) {
+    /// So many more are done.
+    pub fn add(&mut self, more: u64) {
+        self.done += more;
         if self.shown.elapsed() >= PAUSE {
             self.shown = Instant::now();
-            say(&format!("{done} of {} {}", self.total, self.what));
+            let Self { what, done, total, .. } = self;
+            match total {
+                0 => say(&format!("{done} {what}")),
+                _ => say(&format!("{done} of {total} {what}")),
+            }
         }
     }
 }

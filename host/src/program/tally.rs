@@ -5,14 +5,20 @@ use std::fs::File;
 use std::io::{self, Read};
 use std::path::Path;
 
+use super::progress::Progress;
 use super::{Failure, Outcome, Streams, files, refused};
 use crate::operation_file::{Sums, Tally};
 use crate::refusal::Refusal;
 
 pub fn tally(arguments: &[OsString], streams: &mut Streams) -> Result<Outcome, Failure> {
     let answer = match arguments {
-        [] => sums_of(streams.input)?,
-        [path] => sums_of_file(Path::new(path))?,
+        [] => sums_of(streams.input, 0)?,
+        [path] => {
+            let path = Path::new(path);
+            let file = File::open(path);
+            file.and_then(|mut file| sums_of_file(&mut file))
+                .map_err(Failure::file(path))?
+        }
         _ => return Err(Failure::Usage("tally takes one file or none: [OPS]".into())),
     };
     match answer {
@@ -27,19 +33,22 @@ pub fn tally(arguments: &[OsString], streams: &mut Streams) -> Result<Outcome, F
 }
 
 /// The sums of a file that is read to its end or its first fault.
-pub fn sums_of_file(path: &Path) -> Result<Result<Sums, Refusal>, Failure> {
-    File::open(path)
-        .and_then(|mut file| sums_of(&mut file))
-        .map_err(Failure::file(path))
+pub fn sums_of_file(file: &mut File) -> io::Result<Result<Sums, Refusal>> {
+    let bytes = file.metadata()?.len();
+    sums_of(file, bytes)
 }
 
-fn sums_of(input: &mut dyn Read) -> io::Result<Result<Sums, Refusal>> {
+fn sums_of(input: &mut dyn Read, bytes: u64) -> io::Result<Result<Sums, Refusal>> {
+    let mut progress = Progress::new("bytes read", bytes);
     let mut reader = Tally::new();
     let mut buffer = [0; files::PIECE_BYTES];
     while reader.fault().is_none() {
         match files::fill(input, &mut buffer)? {
             0 => break,
-            got => reader.feed(&buffer[..got]),
+            got => {
+                reader.feed(&buffer[..got]);
+                progress.add(got as u64);
+            }
         }
     }
     Ok(reader.finish())

@@ -2,6 +2,8 @@
 
 use std::ffi::OsString;
 use std::fs;
+use std::io::Write;
+use std::os::fd::AsRawFd;
 use std::path::PathBuf;
 
 use super::{Streams, run, run_judge};
@@ -140,6 +142,55 @@ fn refused_files_leave_the_tables_alone() {
     }
     assert_eq!(fs::read(&core).unwrap(), b"before");
     assert!(!fs::exists(&round).unwrap());
+}
+
+/// The same file by another name: a hard link, a longer path to a file that there is not yet; nothing that was there is lost.
+#[test]
+fn the_three_files_are_three() {
+    let folder = Folder::new("three");
+    let records = records(&operations(1));
+    let ops = folder.put("ops", &records);
+    let (core, linked) = (folder.put("core", b"before"), folder.path("linked"));
+    fs::hard_link(&ops, &linked).unwrap();
+    let (new, longer) = (
+        folder.path("new"),
+        folder.path("../") + folder.0.file_name().unwrap().to_str().unwrap(),
+    );
+    let longer = longer + "/new";
+    for (core, round) in [
+        (&linked, &new),
+        (&core, &linked),
+        (&core, &core),
+        (&ops, &new),
+        (&new, &longer),
+    ] {
+        let (status, output, errors) = ran(run, &["write", &ops, core, round], &[]);
+        assert_eq!((status, output.as_str()), (2, ""), "{core}, {round}");
+        assert!(errors.starts_with("OPS, CORE and ROUND must be three files\n"));
+    }
+    assert_eq!(fs::read(&ops).unwrap(), records);
+    assert_eq!(fs::read(&core).unwrap(), b"before");
+}
+
+#[test]
+fn what_cannot_be_written_leaves_the_tables_alone() {
+    let folder = Folder::new("unwritten");
+    let records = records(&operations(1));
+    let ops = folder.put("ops", &records);
+    let core = folder.put("core", b"before");
+    let (status, output, errors) = ran(run, &["write", &ops, &core, &folder.path("")], &[]);
+    assert_eq!((status, output.as_str()), (2, ""));
+    assert!(errors.contains("directory"), "{errors}");
+
+    // A pipe ends where it was read, so that a second reading finds nothing.
+    let (reader, mut writer) = std::io::pipe().unwrap();
+    writer.write_all(&records).unwrap();
+    drop(writer);
+    let pipe = format!("/dev/fd/{}", reader.as_raw_fd());
+    let (status, output, errors) = ran(run, &["write", &pipe, &core, &folder.path("round")], &[]);
+    assert_eq!((status, output.as_str()), (2, ""));
+    assert!(errors.starts_with(&pipe), "{errors}");
+    assert_eq!(fs::read(&core).unwrap(), b"before");
 }
 
 #[test]

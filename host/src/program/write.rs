@@ -5,8 +5,8 @@
 //! that are already there; what is held in memory does not grow with the file.
 
 use std::ffi::OsString;
-use std::fs::{self, File};
-use std::io;
+use std::fs::File;
+use std::io::{self, Seek};
 use std::path::Path;
 
 use super::files::{self, WordFile};
@@ -22,13 +22,24 @@ pub fn write(arguments: &[OsString], streams: &mut Streams) -> Result<Outcome, F
     let [ops, core, round] = arguments else {
         return Err(Failure::Usage("write takes three files: OPS CORE ROUND".into()));
     };
-    let (ops, core, round) = (Path::new(ops), Path::new(core), Path::new(round));
-    if same(ops, core) || same(ops, round) || same(core, round) {
-        return Err(Failure::Usage("OPS, CORE and ROUND must be three files".into()));
+    let (path, core, round) = (Path::new(ops), Path::new(core), Path::new(round));
+    if core == round {
+        return Err(not_three_files());
     }
-    match tally::sums_of_file(ops)? {
+    let mut ops = File::open(path).map_err(Failure::file(path))?;
+    match tally::sums_of_file(&mut ops).map_err(Failure::file(path))? {
         Ok(sums) => {
-            write_tables(ops, &sums, WordFile::create(core)?, WordFile::create(round)?)?;
+            ops.rewind().map_err(Failure::file(path))?;
+            let (core, round) = opened(path, &ops, core, round)?;
+            let progress = Progress::new("rows", sums.core_rows + sums.round_rows);
+            let tables = Tables {
+                path,
+                core,
+                round,
+                written: 0,
+                progress,
+            };
+            tables.write(ops, &sums)?;
             writeln!(streams.output, "ops {}", sums.ops)?;
             writeln!(streams.output, "core-rows {}", sums.core_rows)?;
             writeln!(streams.output, "round-rows {}", sums.round_rows)?;
@@ -38,28 +49,26 @@ pub fn write(arguments: &[OsString], streams: &mut Streams) -> Result<Outcome, F
     }
 }
 
-/// Whether two paths lead to one file, or would.
-fn same(left: &Path, right: &Path) -> bool {
-    left == right || matches!((fs::canonicalize(left), fs::canonicalize(right)), (Ok(left), Ok(right)) if left == right)
+fn not_three_files() -> Failure {
+    Failure::Usage("OPS, CORE and ROUND must be three files".into())
 }
 
-fn write_tables(path: &Path, sums: &Sums, core: WordFile, round: WordFile) -> Result<(), Failure> {
-    let mut tables = Tables {
-        path,
-        core,
-        round,
-        written: 0,
-    };
-    let mut file = File::open(path).map_err(Failure::file(path))?;
-    let mut progress = Progress::new("operations", sums.ops);
-    let mut buffer = [0; PIECE_RECORDS * RECORD_BYTES];
-    loop {
-        match files::fill(&mut file, &mut buffer).map_err(Failure::file(path))? {
-            0 => return tables.close(sums),
-            got => tables.put(&buffer[..got])?,
+/// The two table files, empty. Neither loses what it held before both are open and known to be files of their own.
+fn opened<'a>(
+    path: &Path,
+    ops: &File,
+    core: &'a Path,
+    round: &'a Path,
+) -> Result<(WordFile<'a>, WordFile<'a>), Failure> {
+    let (core, round) = (WordFile::open(core)?, WordFile::open(round)?);
+    for (left, right) in [(ops, core.file()), (ops, round.file()), (core.file(), round.file())] {
+        if files::same(left, right).map_err(Failure::file(path))? {
+            return Err(not_three_files());
         }
-        progress.at(tables.written);
     }
+    core.clear()?;
+    round.clear()?;
+    Ok((core, round))
 }
 
 /// The two tables of the file at a path, of which some operations are written.
@@ -68,9 +77,21 @@ struct Tables<'a> {
     core: WordFile<'a>,
     round: WordFile<'a>,
     written: u64,
+    progress: Progress,
 }
 
 impl Tables<'_> {
+    /// Puts the rows of the whole file.
+    fn write(mut self, mut ops: File, sums: &Sums) -> Result<(), Failure> {
+        let mut buffer = [0; PIECE_RECORDS * RECORD_BYTES];
+        loop {
+            match files::fill(&mut ops, &mut buffer).map_err(Failure::file(self.path))? {
+                0 => return self.close(sums),
+                got => self.put(&buffer[..got])?,
+            }
+        }
+    }
+
     /// The only reason for a refusal of what the first reading accepted.
     fn changed(&self) -> Failure {
         Failure::File(
@@ -90,23 +111,26 @@ impl Tables<'_> {
         self.round
             .put(&round[..records * keccak_rnd::ROUNDS * keccak_rnd::NUM_COLUMNS])?;
         self.written += records as u64;
+        self.progress.add(((1 + keccak_rnd::ROUNDS) * records) as u64);
         Ok(())
     }
 
     /// Puts the padding: each row is as in the table of no operations.
-    fn close(self, sums: &Sums) -> Result<(), Failure> {
+    fn close(mut self, sums: &Sums) -> Result<(), Failure> {
         let core = keccak::keccak_table(&[]).map_err(|_| self.changed())?;
         let round = keccak_rnd::keccak_rnd_table(&[]).map_err(|_| self.changed())?;
         if self.written != sums.ops {
             return Err(self.changed());
         }
         let rounds = self.written * keccak_rnd::ROUNDS as u64;
+        let mut pad = |mut table: WordFile, row: &[u64], times: u64| {
+            for _ in 0..times {
+                table.put(row)?;
+                self.progress.add(1);
+            }
+            table.close()
+        };
         pad(self.core, &core[..keccak::NUM_COLUMNS], sums.core_rows - self.written)?;
         pad(self.round, &round[..keccak_rnd::NUM_COLUMNS], sums.round_rows - rounds)
     }
-}
-
-fn pad(mut table: WordFile, row: &[u64], times: u64) -> Result<(), Failure> {
-    (0..times).try_for_each(|_| table.put(row))?;
-    table.close()
 }

@@ -110,6 +110,22 @@ pub fn bitwise_counts(lookups: &[Lookup]) -> Vec<(usize, u64)> {
         .collect()
 }
 
+/// The Rust's counters, to which lookups are added one at a time (`BitwiseHistogram`). For a benchmark.
+pub struct Counters(BitwiseHistogram);
+
+impl Counters {
+    /// Counters that hold 0.
+    #[allow(clippy::new_without_default)]
+    pub fn new() -> Self {
+        Self(BitwiseHistogram::new())
+    }
+
+    /// Adds one lookup.
+    pub fn bump(&mut self, lookup: Lookup) {
+        self.0.bump(lookup.operation());
+    }
+}
+
 /// A bitwise table of zeros: counting reads no other column than the one it adds to.
 fn zero_trace() -> Trace {
     TraceTable::new_main(zeroed_fe_vec(NUM_ROWS * BITWISE_COLUMNS), BITWISE_COLUMNS, 1)

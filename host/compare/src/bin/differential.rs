@@ -1,6 +1,6 @@
-//! The proved tables against the published Rust, area by area. The last line reads `compared W words, 0 differences`; the
-//! first difference names its input and ends the run with exit status 1. `all` runs every area of `AREAS` in turn, with one
-//! sum at the end.
+//! The proved tables against the published Rust, area by area. The first line has the seed, from which everything is drawn;
+//! the last line reads `compared W words, 0 differences`. The first difference names its input and ends the run with exit
+//! status 1. `all` runs every area of `AREAS` in turn, with one sum at the end.
 
 use std::process::ExitCode;
 
@@ -52,6 +52,7 @@ fn main() -> ExitCode {
     if chosen.is_empty() {
         return usage();
     }
+    println!("differential {area} {seed} {n}");
     let mut comparison = Comparison::to_the_first_difference();
     for (_, compare) in chosen {
         compare(&mut comparison, seed, n);

@@ -139,7 +139,7 @@ fn constant_calls(comparison: &mut Comparison, words: &mut Words) {
             short,
             keccak_rc::generate_keccak_rc_trace,
         );
-        for n in [0, 1, TOO_MANY - 1, TOO_MANY, u64::MAX] {
+        for n in [0, 1, TOO_MANY - 1, TOO_MANY, TOO_MANY + 1, u64::MAX] {
             let expected = if n >= TOO_MANY { Some((1, TOO_MANY)) } else { short };
             let input = format!("update_multiplicities to {n}");
             let call = |table: &mut [u64]| keccak_rc::update_multiplicities(table, n);
@@ -170,10 +170,10 @@ fn tuples_of_lookups(comparison: &mut Comparison, words: &mut Words) {
 }
 
 /// The words that a call needs for n operations.
-type Needed = fn(usize) -> usize;
+pub type Needed = fn(usize) -> usize;
 
 /// The calls that take a list, with the words that each needs.
-const LIST_CALLS: [(&'static str, Needed, ListCall); 4] = [
+const LIST_CALLS: [(&str, Needed, ListCall); 4] = [
     (
         "generate_keccak_trace",
         |n| n.next_power_of_two().max(4) * 486,
@@ -321,9 +321,9 @@ fn round_rows(comparison: &mut Comparison, words: &mut Words) {
                     (_, _, 0..1480) => Some((3, 1480)),
                     _ => None,
                 };
-                let start = words.take(lanes);
+                let mut start = Lent::drawn(lanes, words);
                 let input = format!("keccak_rnd_row of round {round} from {lanes} lanes");
-                let call = |row: &mut [u64]| keccak_rnd::keccak_rnd_row(1, &start, round, row);
+                let call = |row: &mut [u64]| keccak_rnd::keccak_rnd_row(1, start.slice(), round, row);
                 on_slice(
                     comparison,
                     words,
@@ -333,6 +333,7 @@ fn round_rows(comparison: &mut Comparison, words: &mut Words) {
                     expected,
                     call,
                 );
+                start.kept(comparison, |_| format!("START, which is only read: {input}"));
             }
         }
     }

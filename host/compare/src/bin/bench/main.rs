@@ -1,9 +1,10 @@
-//! Times the proved calls against the published Rust's on the same inputs: `bench rows`, `bench values`, `bench tuples`,
-//! `bench verdict`; and what has no counterpart there: `bench tally`, `bench shuffled`.
+//! Times the proved calls against the published Rust's on the same inputs: `bench rows`, `bench lookups`, `bench values`,
+//! `bench tuples`, `bench verdict`; and what has no counterpart there: `bench tally`, `bench shuffled`.
 //! `bench all` runs each in turn and ends with a table of the ratios.
 //! It prints for each call the best of several runs, ours and theirs in turn, and lines `ratio NAME X.XX`: our time over
 //! theirs. The comment at the top of each area's file says what is timed.
 
+mod lookups;
 mod rows;
 mod shuffled;
 mod tally;
@@ -15,7 +16,7 @@ mod verdict;
 use std::process::ExitCode;
 
 const USAGE: &str = "\
-usage: bench all | bench rows | bench values | bench tuples | bench verdict
+usage: bench all | bench rows | bench lookups | bench values | bench tuples | bench verdict
        bench tally [BYTES]      (of the operation file; 1000000000 where none are given)
        bench shuffled [CALLS]   (100 where none are given)";
 
@@ -32,13 +33,14 @@ fn main() -> ExitCode {
     };
     match (area, number) {
         ("rows", None) => rows::run(),
+        ("lookups", None) => lookups::run(),
         ("values", None) => values::run(),
         ("tuples", None) => tuples::run(),
         ("verdict", None) => verdict::run(),
         ("tally", bytes) => tally::run(bytes.unwrap_or(tally::BYTES)),
         ("shuffled", calls) => shuffled::run(calls.unwrap_or(shuffled::CALLS)),
         ("all", None) => {
-            for run in [rows::run, values::run, tuples::run, verdict::run] {
+            for run in [rows::run, lookups::run, values::run, tuples::run, verdict::run] {
                 run();
             }
             tally::run(tally::BYTES);

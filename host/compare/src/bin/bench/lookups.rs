@@ -1,0 +1,152 @@
+//! The calls on the tables that are looked up, and those that give a number, each against the published Rust's.
+//!
+//! Timed is one call after the other over drawn inputs, the same on both sides, made before. The Rust's are small functions that
+//! their caller inlines, without checks; ours are calls of the archive, with theirs. Both sides count the same lookups in
+//! an array of 80 MiB that they keep, so the best run finds it touched. Tuples are by index on our side, and on the Rust's as in `tuples.rs`.
+
+use std::hint::black_box;
+
+use compare::inputs::Words;
+use compare::tuple_list::TupleCall;
+use keccak_tables::is_wh::IsWhKey;
+use keccak_tables::{OP_WORDS, bitwise, is_wh, keccak, keccak_rc, keccak_rnd};
+use oracle::tables;
+use oracle::tables::types::FE;
+use oracle::{Counters, Lookup};
+use stark::lookup::BusInteraction;
+
+use crate::timing::{best, line, ratio, time};
+
+/// Inputs of a run.
+const INPUTS: usize = 10_000;
+/// How often a run goes through the tuples of a row.
+const TIMES: usize = 1000;
+const RUNS: usize = 100;
+
+pub fn run() {
+    let mut words = Words::new(7);
+    let lookups: Vec<Lookup> = (0..INPUTS).map(|_| drawn(&mut words)).collect();
+    numbers(&words.take(INPUTS), &lookups);
+    counters(&lookups);
+    keys(&words.operations(INPUTS / 25));
+    let row = |columns| (0..columns).map(|_| words.element()).collect::<Vec<u64>>();
+    let [bitwise_row, constant_row, key_row] =
+        [bitwise::NUM_COLUMNS, keccak_rc::NUM_COLUMNS, is_wh::NUM_COLUMNS].map(row);
+    let list = tables::bitwise::bus_interactions();
+    tuples("bitwise-tuples", &bitwise_row, bitwise::bus_interaction, &list);
+    let list = tables::keccak_rc::bus_interactions();
+    tuples("constant-tuples", &constant_row, keccak_rc::bus_interaction, &list);
+    let list = tables::is_wh::bus_interactions();
+    tuples("key-tuples", &key_row, is_wh::bus_interaction, &list);
+}
+
+fn drawn(words: &mut Words) -> Lookup {
+    Lookup {
+        kind: words.below(10) as usize,
+        x: words.word() as u8,
+        y: words.word() as u8,
+        z: words.below(16) as u8,
+    }
+}
+
+/// Both times of `items` calls, and their ratio.
+fn calls(name: &str, items: usize, mut ours: impl FnMut(), mut rust: impl FnMut()) {
+    println!("{name}: time of a call");
+    let [ours, rust] = best(RUNS, [Box::new(|| time(&mut ours)), Box::new(|| time(&mut rust))]);
+    line("ours", ours, items);
+    line("the Rust", rust, items);
+    ratio(name, ours, rust);
+}
+
+/// The calls that take numbers and give one, or a small row.
+fn numbers(words: &[u64], lookups: &[Lookup]) {
+    let each = |call: &dyn Fn(u64)| words.iter().for_each(|&word| call(black_box(word)));
+    let index = |call: &dyn Fn(&Lookup)| lookups.iter().for_each(|lookup| call(black_box(lookup)));
+    calls(
+        "index",
+        INPUTS,
+        || index(&|at| _ = black_box(bitwise::row_index(at.x, at.y, at.z))),
+        || index(&|at| _ = black_box(tables::bitwise::row_index(at.x, at.y, at.z))),
+    );
+    calls(
+        "key",
+        INPUTS,
+        || each(&|word| _ = black_box(IsWhKey::of_dword(word))),
+        || each(&|word| _ = black_box(tables::is_wh::IsWhKey::of_dword(word))),
+    );
+    let operations = |word: u64| (word >> 40) as usize;
+    calls(
+        "padding",
+        INPUTS,
+        || each(&|word| _ = black_box(keccak_rnd::padding_are_bytes(operations(word)))),
+        || each(&|word| _ = black_box(tables::keccak_rnd::padding_are_bytes(operations(word)))),
+    );
+    let round = |word: u64| (word >> 59) as usize;
+    let lent = |word: u64| {
+        let mut row = [0; keccak_rc::NUM_PRECOMPUTED_COLS];
+        let _ = black_box(keccak_rc::generate_row(round(word), &mut row));
+        black_box(&row);
+    };
+    calls(
+        "constant-row",
+        INPUTS,
+        || each(&lent),
+        || each(&|word| _ = black_box(tables::keccak_rc::generate_row(round(word)))),
+    );
+}
+
+fn counters(lookups: &[Lookup]) {
+    let mut ours = vec![0; bitwise::NUM_COUNTERS];
+    let mut rust = Counters::new();
+    let count = || {
+        for at in black_box(lookups) {
+            let _ = black_box(bitwise::bump(&mut ours, at.kind, at.x, at.y, at.z));
+        }
+    };
+    let rust = || black_box(lookups).iter().for_each(|&at| rust.bump(at));
+    calls("bump", INPUTS, count, rust);
+}
+
+/// The keys of a list; the Rust's iterator is written to a slice that is lent, as ours.
+fn keys(ops: &[u64]) {
+    let theirs: Vec<tables::keccak::KeccakOperation> = ops
+        .chunks_exact(OP_WORDS)
+        .map(|words| tables::keccak::KeccakOperation {
+            timestamp: words[0],
+            state_addr: words[1],
+            input: words[2..27].try_into().expect("25 lanes"),
+            output: words[27..].try_into().expect("25 lanes"),
+        })
+        .collect();
+    let mut lent = vec![1; theirs.len() * keccak::KEY_WORDS];
+    let mut taken = lent.clone();
+    let ours = || _ = black_box(keccak::is_wh_keys(black_box(ops), black_box(&mut lent)));
+    let rust = || {
+        let keys = tables::keccak::is_wh_keys(black_box(&theirs));
+        for (place, key) in taken.chunks_exact_mut(2).zip(keys) {
+            place.copy_from_slice(&[key.word.into(), key.half.into()]);
+        }
+        black_box(&taken);
+    };
+    calls("keys", ops.len() / OP_WORDS, ours, rust);
+}
+
+/// All tuples of a row, one by one.
+fn tuples(name: &str, row: &[u64], call: impl TupleCall, interactions: &[BusInteraction]) {
+    let elements: Vec<FE> = row.iter().copied().map(FE::from).collect();
+    let ours = || {
+        let mut out = [0; 16];
+        for index in (0..TIMES).flat_map(|_| 0..interactions.len()) {
+            let _ = black_box(call(black_box(row), index, &mut out));
+            black_box(&out);
+        }
+    };
+    let rust = || {
+        let mut out = [FE::zero(); 16];
+        for interaction in (0..TIMES).flat_map(|_| interactions) {
+            let _ = black_box(oracle::evaluate(black_box(interaction), &elements, &mut out));
+            black_box(&out);
+        }
+    };
+    calls(name, TIMES * interactions.len(), ours, rust);
+}
