@@ -1,9 +1,9 @@
 -- What a row's evaluator says of the scan of its table. Assumes nothing.
-use mathlib.Core.Path.{_≡_, sym, ap, _∙_}
-use mathlib.Core.Bool.{true, false, not}
+use mathlib.Core.Path.{_≡_, sym, ap, subst, _∙_}
+use mathlib.Core.Bool.{Bool, true, false, not}
 use mathlib.Core.Option.{none, some}
 use mathlib.Core.List.{List}
-use Prim.Native.Nat.{ℕ, _+_, _-_, _*_, _/_, _<_}
+use Prim.Native.Nat.{ℕ, _+_, _-_, _*_, _/_, _≤_, _<_}
 use native.Mathlib.Omega.{arith}
 use borrow.Author.Tests.{eq-eqb, ne-eqb}
 use lib.Dec.{eqb}
@@ -14,13 +14,13 @@ use Rattle.lists.proofs.Laws.{stored-at}
 use Rattle.lists.specs.First.{firstAt, placeOf}
 use Rattle.lists.specs.declared.Place.{Place}
 use Rattle.lists.specs.declared.Place.the-variants.{At, Nowhere}
-use Rattle.lists.proofs.First.{place-at, place-nowhere}
-use Rattle.matching.specs.Matching.{matched}
-use Rattle.keccak.specs.Tuples.{coreTuple}
-use Rattle.keccak_rnd.specs.Tuples.{roundTuple}
+use Rattle.lists.proofs.First.{at-clear, at-nothing, place-at, place-nowhere}
+use Rattle.scan.specs.Scan.{unmatched, groupEnd, firstOfGroup}
+use Rattle.scan.proofs.Groups.{EndWithin, group-clear, group-hit}
+use Rattle.keccak_lookups.specs.Groups.{coreEnds}
+use Rattle.keccak_rnd_lookups.specs.Groups.{roundEnds}
 use Rattle.verdict.specs.Kind.{Kind, rows, row}
 use Rattle.verdict.specs.Verdict.{badValue, badLookup}
-use Rattle.verdict.specs.CoreAndRound.{coreLayout, roundLayout, coreKind, roundKind}
 use Rattle.judge_scan.proofs.Scan.{part-is}
 
 -- the values of row r, evaluated into a slice of their number: it is as long as before, and word i of it is value i
@@ -44,26 +44,28 @@ module _ (K : Kind) (ws : List ℕ) (r i x : ℕ) (e : x ≡ K .value (row (K .l
   unfolding badValue
   value-bad z = ap not (ne-eqb _ _ (λ q. z (e ∙ q)))
 
-module _ (core : List ℕ) (r : ℕ) (l : r < rows coreLayout core) (x : Place)
-    (e : x ≡ placeOf (firstAt (λ i. not (matched (coreTuple 24 0 (take (r * 486 + 486 - r * 486) (drop (r * 486) core)) i))) 84)) where
-  core-lookup-is : x ≡ placeOf (firstAt (badLookup (coreKind 24) core r) 84)
-  unfolding badLookup
-  core-lookup-is = e ∙ ap (λ (y : List ℕ). placeOf (firstAt (λ i. not (matched (coreTuple 24 0 y i))) 84)) (part-is 486 core r l)
+-- what the scan of the group of tuple i says, where no tuple of the row before i fails
+module _ (K : Kind) (ends : List ℕ) (ws : List ℕ) (r i : ℕ) (l : r < rows (K .layout) ws) (x : Place)
+    (e : x ≡ placeOf (firstOfGroup 0 ends (K .tuples) (unmatched (K .tuple (take (r * K .layout .width + K .layout .width - r * K .layout .width) (drop (r * K .layout .width) ws)))) i))
+    (before : firstAt (badLookup K ws r) i ≡ none) where
+  lookup-is : x ≡ placeOf (firstOfGroup 0 ends (K .tuples) (badLookup K ws r) i)
+  unfolding badLookup unmatched
+  lookup-is = e ∙ ap (λ (y : List ℕ). placeOf (firstOfGroup 0 ends (K .tuples) (unmatched (K .tuple y)) i)) (part-is (K .layout .width) ws r l)
 
-  pub core-lookup-none : x ≡ Nowhere → firstAt (badLookup (coreKind 24) core r) 84 ≡ none
-  core-lookup-none z = place-nowhere _ (sym z ∙ core-lookup-is)
+  pub lookup-none : x ≡ Nowhere → {n : ℕ} → n ≡ groupEnd ends (K .tuples) i → firstAt (badLookup K ws r) n ≡ none
+  lookup-none z d =
+      subst (λ (n : ℕ). firstAt (badLookup K ws r) n ≡ none) (sym d)
+      (group-clear (badLookup K ws r) (K .tuples) i before 0 ends (omega arith) (place-nowhere _ (sym z ∙ lookup-is)))
 
-  pub core-lookup-some : (i : ℕ) → x ≡ At i → firstAt (badLookup (coreKind 24) core r) 84 ≡ some i
-  core-lookup-some i z = place-at _ (sym z ∙ core-lookup-is)
+  pub lookup-some : EndWithin ends (K .tuples) → (k : ℕ) → x ≡ At k → firstAt (badLookup K ws r) (K .tuples) ≡ some k
+  lookup-some w k z = group-hit (badLookup K ws r) (K .tuples) i before 0 ends k (omega arith) w (place-at _ (sym z ∙ lookup-is))
 
-module _ (round : List ℕ) (r : ℕ) (l : r < rows roundLayout round) (x : Place)
-    (e : x ≡ placeOf (firstAt (λ i. not (matched (roundTuple (take (r * 1480 + 1480 - r * 1480) (drop (r * 1480) round)) i))) 1031)) where
-  round-lookup-is : x ≡ placeOf (firstAt (badLookup roundKind round r) 1031)
-  unfolding badLookup
-  round-lookup-is = e ∙ ap (λ (y : List ℕ). placeOf (firstAt (λ i. not (matched (roundTuple y i))) 1031)) (part-is 1480 round r l)
+pub core-ends : EndWithin coreEnds 84
+core-ends = (omega arith, (omega arith, tt))
 
-  pub round-lookup-none : x ≡ Nowhere → firstAt (badLookup roundKind round r) 1031 ≡ none
-  round-lookup-none z = place-nowhere _ (sym z ∙ round-lookup-is)
+pub round-ends : EndWithin roundEnds 1031
+round-ends = (omega arith, (omega arith, (omega arith, (omega arith, (omega arith, (omega arith, (omega arith, tt)))))))
 
-  pub round-lookup-some : (i : ℕ) → x ≡ At i → firstAt (badLookup roundKind round r) 1031 ≡ some i
-  round-lookup-some i z = place-at _ (sym z ∙ round-lookup-is)
+-- a loop over the indexes of a row that has gone past the last
+pub row-done : (t : ℕ → Bool) (i n : ℕ) → n ≤ i → firstAt t i ≡ none → firstAt t n ≡ none
+row-done t i n l h = at-nothing t n (λ k g. at-clear t i k h (omega arith))

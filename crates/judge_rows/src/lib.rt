@@ -1,9 +1,11 @@
 // The first failure of a table: each row is handed to its evaluator as the part of the slice that it is.
 use judge_scan::Spot;
 use keccak;
-use keccak_lookups::core_lookup_failure;
+use keccak_lookups::core_group_end;
+use keccak_lookups::core_group_failure;
 use keccak_rnd;
-use keccak_rnd_lookups::round_lookup_failure;
+use keccak_rnd_lookups::round_group_end;
+use keccak_rnd_lookups::round_group_failure;
 use keccak_rnd_values::put_round_values;
 use keccak_values::put_core_values;
 use lists::Place;
@@ -39,7 +41,8 @@ pub fn first_core_value(core: &[u64]) -> Spot
     found
 }
 
-// The first row of a core table with a tuple that needs a match and has none, and the first such tuple in it.
+// The first row of a core table with a tuple that needs a match and has none, and the first such tuple in it. The indexes of a row are
+// gone through a group at a time, because a group is tested by its columns and no index is decoded.
 pub fn first_core_lookup(core: &[u64]) -> Spot
     ensures { λ r. ⌜ r ≡ spotOf (firstLookup (coreKind 24) (now (core .entry))) ⌝ }
 {
@@ -49,9 +52,13 @@ pub fn first_core_lookup(core: &[u64]) -> Spot
     'rows: while row < rows {
         let start = row * keccak::NUM_COLUMNS;
         let end = start + keccak::NUM_COLUMNS;
-        if let Place::At(index) = core_lookup_failure(&core[start..end]) {
-            found = Spot::At { row, index };
-            break 'rows;
+        let mut index = 0;
+        while index < 84 {
+            if let Place::At(at) = core_group_failure(&core[start..end], index) {
+                found = Spot::At { row, index: at };
+                break 'rows;
+            }
+            index = core_group_end(index);
         }
         row += 1;
     }
@@ -84,7 +91,7 @@ pub fn first_round_value(round: &[u64]) -> Spot
     found
 }
 
-// The first row of a round table with a tuple that needs a match and has none, and the first such tuple in it.
+// The first row of a round table with a tuple that needs a match and has none, and the first such tuple in it, in the same way.
 pub fn first_round_lookup(round: &[u64]) -> Spot
     requires { ⌜ Elements (now round) ⌝ }
     ensures { λ r. ⌜ r ≡ spotOf (firstLookup roundKind (now (round .entry))) ⌝ }
@@ -95,9 +102,13 @@ pub fn first_round_lookup(round: &[u64]) -> Spot
     'rows: while row < rows {
         let start = row * keccak_rnd::NUM_COLUMNS;
         let end = start + keccak_rnd::NUM_COLUMNS;
-        if let Place::At(index) = round_lookup_failure(&round[start..end]) {
-            found = Spot::At { row, index };
-            break 'rows;
+        let mut index = 0;
+        while index < 1031 {
+            if let Place::At(tuple) = round_group_failure(&round[start..end], index) {
+                found = Spot::At { row, index: tuple };
+                break 'rows;
+            }
+            index = round_group_end(index);
         }
         row += 1;
     }

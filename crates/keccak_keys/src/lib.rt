@@ -4,8 +4,10 @@ use answer::MAX_OPS;
 use answer::Refusal;
 use is_wh::IsWhKey;
 use keccak::KEY_WORDS;
+use keccak::KeccakOperation;
 use keccak::OP_WORDS;
 use operations::check_operations;
+use operations::operation_at;
 ghost use mathlib.Core.Path.{_≡_};
 ghost use mathlib.Core.Option.{none};
 ghost use Prim.Native.Nat.{ℕ, _+_, _*_, _^_, _<_, _≤_};
@@ -29,11 +31,12 @@ fn put_key(out: &mut [u64], at: usize, pointer: u64)
     out[at + 1] = key.half;
 }
 
-// The keys of the 25 pointers from an address.
-fn put_keys(out: &mut [u64], at: usize, addr: u64)
-    requires { ⌜ (at + KEY-WORDS ≤ length (now out)) × (addr + 192 < 2 ^ 64) ⌝ }
-    ensures { λ _. ⌜ now (out .exit) ≡ sets (now (out .entry)) at (tab KEY-WORDS (pointerKey addr)) ⌝ }
+// The keys of an operation's 25 pointers.
+fn put_keys(out: &mut [u64], at: usize, op: KeccakOperation)
+    requires { ⌜ (at + KEY-WORDS ≤ length (now out)) × (op .«state_addr» + 192 < 2 ^ 64) ⌝ }
+    ensures { λ _. ⌜ now (out .exit) ≡ sets (now (out .entry)) at (tab KEY-WORDS (pointerKey (op .«state_addr»))) ⌝ }
 {
+    let addr = op.state_addr;
     let mut i: usize = 0;
     while i < 25 {
         put_key(out, at + 2 * i, addr + 8 * (i as u64));
@@ -48,7 +51,8 @@ fn put_op_keys(ops: &[u64], n: usize, out: &mut [u64])
 {
     let mut i: usize = 0;
     while i < n {
-        put_keys(out, i * KEY_WORDS, ops[OP_WORDS * i + 1]);
+        let op = operation_at(ops, i);
+        put_keys(out, i * KEY_WORDS, op);
         i += 1;
     }
 }

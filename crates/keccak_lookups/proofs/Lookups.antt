@@ -18,12 +18,14 @@ use Rattle.lookup.specs.declared.Bus.the-variants.{Keccak}
 use Rattle.bitwise.specs.Found.{aluOp, aluFound, areBytesFound, halfFound}
 use Rattle.is_wh.specs.Found.{isWhFound}
 use Rattle.matching.specs.Matching.{foundOn, found, matched}
-use Rattle.scan.specs.Scan.{unmatched}
+use Rattle.scan.specs.Scan.{unmatched, from, firstOfGroup}
 use Rattle.scan.proofs.Scans.{idle-off, sent-off, free-off}
+use Rattle.scan.proofs.Groups.{from-at, group-nothing}
 use Rattle.keccak.specs.Columns.{MU}
 use Rattle.keccak.specs.Tuples.{coreTuple, ecallTuple, addrMemw, coreSent, coreReceived, pointerTuple, alignTuple, addrBytesTuple, laneMemw}
 use Rattle.keccak_lookup_tuples.proofs.Tuples.{pointer-pair, pointer-low}
 use Rattle.keccak_tuples.proofs.Tuples.{is-ecall, is-addr, is-sent, is-received, is-pointer, is-align, is-bytes, is-lane}
+use Rattle.keccak_lookups.specs.Groups.{coreEnds}
 
 module _ (row : List ℕ) where
   -- tuples that are asked nothing
@@ -65,9 +67,11 @@ module _ (row : List ℕ) where
   pub head-none : firstAt (unmatched (coreTuple 24 0 row)) 4 ≡ none
   head-none = at-nothing (unmatched (coreTuple 24 0 row)) 4 head-holds
 
-  -- where none fails below 59, none fails
-  pub tail-none : firstAt (unmatched (coreTuple 24 0 row)) 59 ≡ none → firstAt (unmatched (coreTuple 24 0 row)) 84 ≡ none
-  tail-none e = at-nothing (unmatched (coreTuple 24 0 row)) 84 (λ k h. by-le 59 k (lane-holds k) (λ l. at-clear (unmatched (coreTuple 24 0 row)) 59 k e l))
+  -- where none fails below 59 from 55 on, none fails from there on
+  pub tail-none : firstAt (from 55 (unmatched (coreTuple 24 0 row))) 59 ≡ none → firstAt (from 55 (unmatched (coreTuple 24 0 row))) 84 ≡ none
+  tail-none e =
+      at-nothing (from 55 (unmatched (coreTuple 24 0 row))) 84
+      (λ k h. by-le 59 k (λ l. from-at _ 55 k (omega arith) ∙ lane-holds k l) (λ l. at-clear (from 55 (unmatched (coreTuple 24 0 row))) 59 k e l))
 
   module _ (active : word row MU ≡ 0 → ⊥) where
     asked : (i : ℕ) {t : Tuple} → coreTuple 24 0 row i ≡ t → t .multiplicity ≡ word row MU → unmatched (coreTuple 24 0 row) i ≡ not (found t)
@@ -170,8 +174,8 @@ module _ (row : List ℕ) (idle : word row MU ≡ 0) where
       (λ m. quiet k (is-pointer 24 0 row k l m) (pointer-mu ((k - 4) / 2) ((k - 4) % 2))))
       (head-holds row k)
 
-  pub idle-none : firstAt (unmatched (coreTuple 24 0 row)) 84 ≡ none
-  idle-none = at-nothing (unmatched (coreTuple 24 0 row)) 84 (λ k h. quiet-at k)
+  pub idle-none : (i : ℕ) → firstOfGroup 0 coreEnds 84 (unmatched (coreTuple 24 0 row)) i ≡ none
+  idle-none i = group-nothing (unmatched (coreTuple 24 0 row)) 84 i 0 coreEnds quiet-at
 
 -- ---- for the scans: one index more, and the two of a pointer
 module _ (t : ℕ → Bool) where

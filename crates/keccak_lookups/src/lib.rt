@@ -1,19 +1,17 @@
-// The first tuple of a core row that needs a match and has none: the columns are tested, and no tuple is made.
+// The tuples of a core row that need a match and have none, group by group: the columns are tested, and no tuple is made.
 use keccak::ADDR;
 use keccak::MU;
 use keccak::STATE_PTR;
 use lists::Place;
 ghost use mathlib.Core.Path.{_≡_};
-ghost use mathlib.Core.Bool.{not};
-ghost use mathlib.Core.Option.{none};
 ghost use Prim.Native.Nat.{ℕ, _≤_};
 ghost use lib.ListN.{length};
 ghost use Rattle.lists.specs.Tab.{word};
 ghost use Rattle.lists.specs.First.{firstAt, placeOf};
-ghost use Rattle.matching.specs.Matching.{matched};
 ghost use Rattle.keccak.specs.Columns.{NUM-COLUMNS, MU};
 ghost use Rattle.keccak.specs.Tuples.{NUM-TUPLES, coreTuple};
-ghost use Rattle.scan.specs.Scan.{unmatched};
+ghost use Rattle.scan.specs.Scan.{unmatched, from, groupEnd, firstOfGroup};
+ghost use Rattle.keccak_lookups.specs.Groups.{coreEnds};
 
 // Of the first 54 tuples: those of the pointers. A pointer sends its word and its middle half, then its low half.
 fn first_pointer_failure(row: &[u64]) -> Place
@@ -37,10 +35,10 @@ fn first_pointer_failure(row: &[u64]) -> Place
     Place::Nowhere
 }
 
-// From tuple 55 on, where none fails before it: the four pairs of the address's bytes; Memw needs no match here.
+// From tuple 55 on: the four pairs of the address's bytes; Memw needs no match here.
 fn first_byte_failure(row: &[u64]) -> Place
-    requires { ⌜ (NUM-COLUMNS ≤ length (now row)) × (word (now row) MU ≡ 0 → ⊥) × (firstAt (unmatched (coreTuple 24 0 (now row))) 55 ≡ none) ⌝ }
-    ensures { λ r. ⌜ r ≡ placeOf (firstAt (unmatched (coreTuple 24 0 (now (row .entry)))) NUM-TUPLES) ⌝ }
+    requires { ⌜ (NUM-COLUMNS ≤ length (now row)) × (word (now row) MU ≡ 0 → ⊥) ⌝ }
+    ensures { λ r. ⌜ r ≡ placeOf (firstAt (from 55 (unmatched (coreTuple 24 0 (now (row .entry))))) NUM-TUPLES) ⌝ }
 {
     let mut i: usize = 0;
     while i < 4 {
@@ -56,17 +54,11 @@ fn first_byte_failure(row: &[u64]) -> Place
     Place::Nowhere
 }
 
-// The first of the 84; a row whose MU is 0 sends nothing. Tuple 54 is 'the lowest byte of the address AND 7 is 0'.
-pub fn core_lookup_failure(row: &[u64]) -> Place
-    requires { ⌜ NUM-COLUMNS ≤ length (now row) ⌝ }
-    ensures { λ r. ⌜ r ≡ placeOf (firstAt (λ i. not (matched (coreTuple 24 0 (now (row .entry)) i))) NUM-TUPLES) ⌝ }
+// Tuple 54: the lowest byte of the address AND 7 is 0.
+fn align_failure(row: &[u64]) -> Place
+    requires { ⌜ (NUM-COLUMNS ≤ length (now row)) × (word (now row) MU ≡ 0 → ⊥) ⌝ }
+    ensures { λ r. ⌜ r ≡ placeOf (firstAt (from 54 (unmatched (coreTuple 24 0 (now (row .entry))))) 55) ⌝ }
 {
-    if row[MU] == 0 {
-        return Place::Nowhere;
-    }
-    if let Place::At(k) = first_pointer_failure(row) {
-        return Place::At(k);
-    }
     let byte = row[ADDR];
     if byte >= 256 {
         return Place::At(54);
@@ -74,5 +66,35 @@ pub fn core_lookup_failure(row: &[u64]) -> Place
     if byte & 7 != 0 {
         return Place::At(54);
     }
+    Place::Nowhere
+}
+
+// The first tuple that needs a match and has none in the group of tuple `index`; a row whose MU is 0 sends nothing.
+pub fn core_group_failure(row: &[u64], index: usize) -> Place
+    requires { ⌜ NUM-COLUMNS ≤ length (now row) ⌝ }
+    ensures { λ r. ⌜ r ≡ placeOf (firstOfGroup 0 coreEnds NUM-TUPLES (unmatched (coreTuple 24 0 (now (row .entry)))) index) ⌝ }
+{
+    if row[MU] == 0 {
+        return Place::Nowhere;
+    }
+    if index < 54 {
+        return first_pointer_failure(row);
+    }
+    if index < 55 {
+        return align_failure(row);
+    }
     first_byte_failure(row)
+}
+
+// Where that group ends.
+pub fn core_group_end(index: usize) -> usize
+    ensures { λ r. ⌜ r ≡ groupEnd coreEnds NUM-TUPLES index ⌝ }
+{
+    if index < 54 {
+        return 54;
+    }
+    if index < 55 {
+        return 55;
+    }
+    84
 }

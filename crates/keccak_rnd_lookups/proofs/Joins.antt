@@ -1,4 +1,4 @@
--- The scans of a round row joined: the round's constant, one part behind the other, and the whole. Assumes nothing.
+-- The scans of a round row: the round's constant, χ and ι behind each other, and the groups by their indices. Assumes nothing.
 use mathlib.Core.Path.{_≡_, refl, sym, ap, ap₂, _∙_}
 use mathlib.Core.Bool.{Bool, true, false, not, _&&_}
 use mathlib.Core.List.{List, _∷_}
@@ -17,7 +17,7 @@ use Rattle.lists.proofs.First.{first-start, at-hit, at-nothing}
 use Rattle.lists.proofs.Laws.{getD-tab}
 use Rattle.lists.proofs.Sum.{all-at}
 use Rattle.lists.proofs.Tests.{true-not-false, not-true, T-of}
-use Rattle.lists.proofs.Then.{T-true, then-all}
+use Rattle.lists.proofs.Then.{T-true, then-lt, then-ge, then-all}
 use Rattle.bits.specs.Bits.{byteAt}
 use Rattle.fips202.specs.Tables.{roundConstant}
 use Rattle.lookup.specs.Tuple.{Tuple, sender, receiver}
@@ -26,9 +26,10 @@ use Rattle.keccak_rc.specs.Found.{rcFound}
 use Rattle.matching.specs.Matching.{foundOn, matched}
 use Rattle.keccak_rnd.specs.Columns.{MU}
 use Rattle.keccak_rnd.specs.Tuples.{roundReceived, roundSent, rcTuple, roundTuple}
-use Rattle.scan.specs.Scan.{unmatched, afterPlace}
+use Rattle.scan.specs.Scan.{unmatched, afterPlace, from}
 use Rattle.scan.proofs.Scans.{first-then, none-off, sent-off, free-off}
-use Rattle.round_scan.specs.Parts.{rcTuples, parityTuples, stageTuples, leftTuples, dTuples, thetaTuples, rotTuples, andsTuples, chiTuples, iotaTuples, chiPart, thetaPart, parityPart}
+use Rattle.scan.proofs.Groups.{from-all, from-group}
+use Rattle.round_scan.specs.Parts.{rcTuples, parityTuples, stageTuples, leftTuples, dTuples, thetaTuples, rotTuples, andsTuples, chiTuples, iotaTuples, chiPart}
 
 -- ---- a test of every index, in a loop
 pub all-start : (f : ℕ → Bool) → all 0 f ≡ true
@@ -114,32 +115,71 @@ chi-none row e =
     (λ b. none-off ByteAlu _ _ e)
     (λ j q. then-all (λ (t : Tuple). not (matched t) ≡ false) 200 (chiTuples row) (iotaTuples row) j (λ b. none-off ByteAlu _ _ e) (λ k r. none-off ByteAlu _ _ e)))))
 
--- the whole: the two tuples of the bus between the tables, the constant's, and the rest
+-- ---- the groups: tuple z of each is tuple a + z of the row
 module _ (row : List ℕ) where
-  received : ℕ → Tuple
-  received i = receiver Keccak (word row MU) (roundReceived row)
+  pub rc-is : (z : ℕ) → z < 1 → roundTuple row (2 + z) ≡ rcTuples row z
+  unfolding roundTuple rcTuples
+  rc-is z l =
+      let e : 2 + z ≡ 1 + (1 + z) = omega arith in
+      ap (roundTuple row) e ∙ then-ge 1 _ _ _ ∙ then-ge 1 _ _ _ ∙ then-lt 1 z _ _ l
 
-  sent : ℕ → Tuple
-  sent i = sender Keccak (word row MU) (roundSent row)
+  pub parity-is : (z : ℕ) → z < 40 → roundTuple row (3 + z) ≡ parityTuples row z
+  unfolding roundTuple parityTuples
+  parity-is z l =
+      let e : 3 + z ≡ 1 + (1 + (1 + z)) = omega arith in
+      ap (roundTuple row) e ∙ then-ge 1 _ _ _ ∙ then-ge 1 _ _ _ ∙ then-ge 1 _ _ _ ∙ then-lt 40 z _ _ l
 
-  -- what is scanned from the constant on, and from the tuple that is sent on
-  pub from-constant : ℕ → Tuple
-  from-constant = then 1 (rcTuples row) (parityPart row)
+  pub stage-is : (z : ℕ) → z < 120 → roundTuple row (43 + z) ≡ stageTuples row z
+  unfolding roundTuple stageTuples
+  stage-is z l =
+      let e : 43 + z ≡ 1 + (1 + (1 + (40 + z))) = omega arith in
+      ap (roundTuple row) e ∙ then-ge 1 _ _ _ ∙ then-ge 1 _ _ _ ∙ then-ge 1 _ _ _ ∙ then-ge 40 _ _ _ ∙ then-lt 120 z _ _ l
 
-  pub from-sent : ℕ → Tuple
-  from-sent = then 1 sent from-constant
+  pub left-is : (z : ℕ) → z < 20 → roundTuple row (163 + z) ≡ leftTuples row z
+  unfolding roundTuple leftTuples
+  left-is z l =
+      let e : 163 + z ≡ 1 + (1 + (1 + (40 + (120 + z)))) = omega arith in
+      ap (roundTuple row) e ∙ then-ge 1 _ _ _ ∙ then-ge 1 _ _ _ ∙ then-ge 1 _ _ _ ∙ then-ge 40 _ _ _ ∙ then-ge 120 _ _ _ ∙ then-lt 20 z _ _ l
 
-  module _ {a b r : Place} (p : a ≡ placeOf (firstAt (unmatched (rcTuples row)) 1)) (q : b ≡ placeOf (firstAt (unmatched (parityPart row)) 1028))
-      (e : r ≡ afterPlace a 1 b) where
-    pub constant-joined : r ≡ placeOf (firstAt (unmatched from-constant) 1029)
-    unfolding from-constant
-    constant-joined = join 1 1028 (rcTuples row) (parityPart row) p q e
+  pub d-is : (z : ℕ) → z < 40 → roundTuple row (183 + z) ≡ dTuples row z
+  unfolding roundTuple dTuples
+  d-is z l =
+      let e : 183 + z ≡ 1 + (1 + (1 + (40 + (120 + (20 + z))))) = omega arith in
+      ap (roundTuple row) e ∙ then-ge 1 _ _ _ ∙ then-ge 1 _ _ _ ∙ then-ge 1 _ _ _ ∙ then-ge 40 _ _ _ ∙ then-ge 120 _ _ _ ∙ then-ge 20 _ _ _ ∙ then-lt 40 z _ _ l
 
-    module _ {s : Place} (f : s ≡ afterPlace Nowhere 1 r) where
-      pub sent-joined : s ≡ placeOf (firstAt (unmatched from-sent) 1030)
-      unfolding unmatched from-sent sent
-      sent-joined = join 1 1029 sent from-constant (sym (ap placeOf (at-nothing _ 1 (λ i l. keccak-off (sent 0) refl)))) constant-joined f
+  pub theta-is : (z : ℕ) → z < 200 → roundTuple row (223 + z) ≡ thetaTuples row z
+  unfolding roundTuple thetaTuples
+  theta-is z l =
+      let e : 223 + z ≡ 1 + (1 + (1 + (40 + (120 + (20 + (40 + z)))))) = omega arith in
+      ap (roundTuple row) e ∙ then-ge 1 _ _ _ ∙ then-ge 1 _ _ _ ∙ then-ge 1 _ _ _ ∙ then-ge 40 _ _ _ ∙ then-ge 120 _ _ _ ∙ then-ge 20 _ _ _ ∙ then-ge 40 _ _ _ ∙ then-lt 200 z _ _ l
 
-      pub all-joined : {t : Place} → t ≡ afterPlace Nowhere 1 s → t ≡ placeOf (firstAt (λ i. not (matched (roundTuple row i))) 1031)
-      unfolding unmatched roundTuple rcTuples parityTuples stageTuples leftTuples dTuples thetaTuples rotTuples andsTuples chiTuples iotaTuples chiPart thetaPart parityPart received sent from-sent from-constant
-      all-joined g = join 1 1030 received from-sent (sym (ap placeOf (at-nothing _ 1 (λ i l. keccak-off (received 0) refl)))) sent-joined g
+  pub rot-is : (z : ℕ) → z < 200 → roundTuple row (423 + z) ≡ rotTuples row z
+  unfolding roundTuple rotTuples
+  rot-is z l =
+      let e : 423 + z ≡ 1 + (1 + (1 + (40 + (120 + (20 + (40 + (200 + z))))))) = omega arith in
+      ap (roundTuple row) e ∙ then-ge 1 _ _ _ ∙ then-ge 1 _ _ _ ∙ then-ge 1 _ _ _ ∙ then-ge 40 _ _ _ ∙ then-ge 120 _ _ _ ∙ then-ge 20 _ _ _ ∙ then-ge 40 _ _ _ ∙ then-ge 200 _ _ _ ∙ then-lt 200 z _ _ l
+
+  pub chi-is : (z : ℕ) → z < 408 → roundTuple row (623 + z) ≡ chiPart row z
+  unfolding roundTuple chiPart andsTuples chiTuples iotaTuples
+  chi-is z l =
+      let e : 623 + z ≡ 1 + (1 + (1 + (40 + (120 + (20 + (40 + (200 + (200 + z)))))))) = omega arith in
+      ap (roundTuple row) e ∙ then-ge 1 _ _ _ ∙ then-ge 1 _ _ _ ∙ then-ge 1 _ _ _ ∙ then-ge 40 _ _ _ ∙ then-ge 120 _ _ _ ∙ then-ge 20 _ _ _ ∙ then-ge 40 _ _ _ ∙ then-ge 200 _ _ _ ∙ then-ge 200 _ _ _
+
+  -- the scan of such a group, counted from a
+  module _ (a w : ℕ) (g : ℕ → Tuple) (is : (z : ℕ) → z < w → roundTuple row (a + z) ≡ g z) {x y : Place} (e : x ≡ placeOf (firstAt (unmatched g) w)) (d : y ≡ afterPlace Nowhere a x) where
+    pub group-scan : y ≡ placeOf (firstAt (from a (unmatched (roundTuple row))) (a + w))
+    unfolding unmatched
+    group-scan = d ∙ ap (afterPlace Nowhere a) e ∙ from-group (unmatched (roundTuple row)) a w (unmatched g) (λ z l. ap (λ (t : Tuple). not (matched t)) (is z l))
+
+  -- the first group: nothing is asked of the two before the constant's
+  keccak-holds : (i : ℕ) → i < 2 → unmatched (roundTuple row) i ≡ false
+  unfolding unmatched roundTuple
+  keccak-holds zero l = ap (λ (t : Tuple). not (matched t)) (then-lt 1 0 _ _ (omega arith)) ∙ keccak-off (receiver Keccak (word row MU) (roundReceived row)) refl
+  keccak-holds (suc zero) l = ap (λ (t : Tuple). not (matched t)) (then-ge 1 0 _ _ ∙ then-lt 1 0 _ _ (omega arith)) ∙ keccak-off (sender Keccak (word row MU) (roundSent row)) refl
+  keccak-holds (suc (suc i)) l = absurd (omega arith)
+
+  pub head-scan : {x y : Place} → x ≡ placeOf (firstAt (unmatched (rcTuples row)) 1) → y ≡ afterPlace Nowhere 2 x
+      → y ≡ placeOf (firstAt (from 0 (unmatched (roundTuple row))) 3)
+  head-scan e d =
+      group-scan 2 1 (rcTuples row) rc-is e d
+      ∙ ap placeOf (from-all (unmatched (roundTuple row)) 2 3 keccak-holds ∙ sym (from-all (unmatched (roundTuple row)) 0 3 (λ i l. absurd (omega arith))))

@@ -1,4 +1,4 @@
-// tables/keccak_rnd.rs, bus_interactions: the first lookup of a round row that finds nothing.
+// tables/keccak_rnd.rs, bus_interactions: the lookups of a round row that find nothing, group by group.
 use keccak_rnd::MU;
 use lists::Place;
 use rc::rc_failure;
@@ -12,16 +12,16 @@ use round_scan::theta::left_failure;
 use round_scan::theta::parity_failure;
 use round_scan::theta::stage_failure;
 use round_scan::theta::theta_failure;
+use scan::behind;
 use scan::or_after;
 ghost use mathlib.Core.Path.{_≡_};
-ghost use mathlib.Core.Bool.{not};
 ghost use Rattle.lists.specs.First.{firstAt, placeOf};
 ghost use Rattle.field.specs.Elements.{ElementRow};
-ghost use Rattle.matching.specs.Matching.{matched};
 ghost use Rattle.keccak_rnd.specs.Columns.{NUM-COLUMNS};
 ghost use Rattle.keccak_rnd.specs.Tuples.{NUM-TUPLES, roundTuple};
-ghost use Rattle.scan.specs.Scan.{unmatched};
-ghost use Rattle.round_scan.specs.Parts.{chiPart, thetaPart, parityPart};
+ghost use Rattle.scan.specs.Scan.{unmatched, groupEnd, firstOfGroup};
+ghost use Rattle.round_scan.specs.Parts.{chiPart};
+ghost use Rattle.keccak_rnd_lookups.specs.Groups.{rotEnds, leftEnds, roundEnds};
 
 pub mod rc;
 
@@ -42,42 +42,82 @@ fn chi_part(row: &[u64]) -> Place
     or_after(ands, 200, later, 208)
 }
 
-// From D on.
-fn theta_part(row: &[u64]) -> Place
+// Of the groups from ρ on, the one of tuple `index`.
+fn rot_group_failure(row: &[u64], index: usize) -> Place
     requires { ⌜ ElementRow NUM-COLUMNS (now row) ⌝ }
-    ensures { λ r. ⌜ r ≡ placeOf (firstAt (unmatched (thetaPart (now (row .entry)))) 848) ⌝ }
+    ensures { λ r. ⌜ r ≡ placeOf (firstOfGroup 423 rotEnds NUM-TUPLES (unmatched (roundTuple (now (row .entry)))) index) ⌝ }
 {
-    let d = d_failure(row);
-    let theta = theta_failure(row);
-    let rot = rot_failure(row);
-    let chi = chi_part(row);
-    let later = or_after(rot, 200, chi, 408);
-    let rest = or_after(theta, 200, later, 608);
-    or_after(d, 40, rest, 808)
+    if index < 623 {
+        return behind(423, rot_failure(row), 200);
+    }
+    behind(623, chi_part(row), 408)
 }
 
-// From the column parities on.
-fn parity_part(row: &[u64]) -> Place
+// Of the groups from C's shifted halfwords on.
+fn left_group_failure(row: &[u64], index: usize) -> Place
     requires { ⌜ ElementRow NUM-COLUMNS (now row) ⌝ }
-    ensures { λ r. ⌜ r ≡ placeOf (firstAt (unmatched (parityPart (now (row .entry)))) 1028) ⌝ }
+    ensures { λ r. ⌜ r ≡ placeOf (firstOfGroup 163 leftEnds NUM-TUPLES (unmatched (roundTuple (now (row .entry)))) index) ⌝ }
 {
-    let parity = parity_failure(row);
-    let stage = stage_failure(row);
-    let left = left_failure(row);
-    let theta = theta_part(row);
-    let later = or_after(left, 20, theta, 848);
-    let rest = or_after(stage, 120, later, 868);
-    or_after(parity, 40, rest, 988)
+    if index < 183 {
+        return behind(163, left_failure(row), 20);
+    }
+    if index < 223 {
+        return behind(183, d_failure(row), 40);
+    }
+    if index < 423 {
+        return behind(223, theta_failure(row), 200);
+    }
+    rot_group_failure(row, index)
 }
 
-// The first tuple of a row that needs a match and has none. The two of the bus between the tables need none.
-pub fn round_lookup_failure(row: &[u64]) -> Place
+// The first tuple that needs a match and has none in the group of tuple `index`. The two of the bus between the tables need none.
+pub fn round_group_failure(row: &[u64], index: usize) -> Place
     requires { ⌜ ElementRow NUM-COLUMNS (now row) ⌝ }
-    ensures { λ r. ⌜ r ≡ placeOf (firstAt (λ i. not (matched (roundTuple (now (row .entry)) i))) NUM-TUPLES) ⌝ }
+    ensures { λ r. ⌜ r ≡ placeOf (firstOfGroup 0 roundEnds NUM-TUPLES (unmatched (roundTuple (now (row .entry)))) index) ⌝ }
 {
-    let constant = rc_failure(row);
-    let parity = parity_part(row);
-    let later = or_after(constant, 1, parity, 1028);
-    let rest = or_after(Place::Nowhere, 1, later, 1029);
-    or_after(Place::Nowhere, 1, rest, 1030)
+    if index < 3 {
+        return behind(2, rc_failure(row), 1);
+    }
+    if index < 43 {
+        return behind(3, parity_failure(row), 40);
+    }
+    if index < 163 {
+        return behind(43, stage_failure(row), 120);
+    }
+    left_group_failure(row, index)
+}
+
+// Of the groups from C's shifted halfwords on, where the one of tuple `index` ends.
+fn left_group_end(index: usize) -> usize
+    ensures { λ r. ⌜ r ≡ groupEnd leftEnds NUM-TUPLES index ⌝ }
+{
+    if index < 183 {
+        return 183;
+    }
+    if index < 223 {
+        return 223;
+    }
+    if index < 423 {
+        return 423;
+    }
+    if index < 623 {
+        return 623;
+    }
+    1031
+}
+
+// Where the group of tuple `index` ends.
+pub fn round_group_end(index: usize) -> usize
+    ensures { λ r. ⌜ r ≡ groupEnd roundEnds NUM-TUPLES index ⌝ }
+{
+    if index < 3 {
+        return 3;
+    }
+    if index < 43 {
+        return 43;
+    }
+    if index < 163 {
+        return 163;
+    }
+    left_group_end(index)
 }

@@ -40,15 +40,9 @@ chiTuples row = byXYB (chiTuple row)
 unfoldable pub iotaTuples : List ℕ → ℕ → Tuple
 iotaTuples row = iotaTuple row
 
--- ---- the groups from one on: 408 of χ and ι, 848 from D on, 1,028 from the parities on
+-- ---- χ's ands, χ and ι behind each other, 408 of them
 unfoldable pub chiPart : List ℕ → ℕ → Tuple
 chiPart row = then 200 (andsTuples row) (then 200 (chiTuples row) (iotaTuples row))
-
-unfoldable pub thetaPart : List ℕ → ℕ → Tuple
-thetaPart row = then 40 (dTuples row) (then 200 (thetaTuples row) (then 200 (rotTuples row) (chiPart row)))
-
-unfoldable pub parityPart : List ℕ → ℕ → Tuple
-parityPart row = then 40 (parityTuples row) (then 120 (stageTuples row) (then 20 (leftTuples row) (thetaPart row)))
 
 -- ---- computed first: the bytes of π, x outermost, and those of C rotated by one
 pub record PiOf (row pi : List ℕ) : Type 0 where

@@ -130,5 +130,8 @@ found-first n later e = sym (ap (λ (q : Place). afterPlace q n later) e)
 pub found-later : {found later : Place} {j : ℕ} (n : ℕ) → found ≡ Nowhere → later ≡ At j → At (n + j) ≡ afterPlace found n later
 found-later n e d = sym (ap₂ (λ (q r : Place). afterPlace q n r) e d)
 
+pub not-first : {found r : Place} (n : ℕ) (later : Place) → found ≡ Nowhere → r ≡ afterPlace Nowhere n later → r ≡ afterPlace found n later
+not-first n later e d = d ∙ sym (ap (λ (q : Place). afterPlace q n later) e)
+
 pub within-at : {q : Place} {j : ℕ} (m : ℕ) → q ≡ At j → Within q m → j < m
 within-at m e h = subst (λ (q : Place). Within q m) e h

@@ -3,9 +3,17 @@
 --     aluOff         no operation on two bytes gives c: the test on the values alone
 --     bytesOff       not both are bytes
 --     afterPlace     the answer of a scan of n, or else of the scan behind it
+-- A row's tuples are scanned in groups, one behind the other, that end at each of some indices and, the last of them, at n:
+--     from           a test, from index a on
+--     groupEnd       where the group of index i ends
+--     firstOfGroup   the lowest index in the group of index i at which a test passes; a is where the first group begins
 use Prim.Native.Nat.{ℕ, _+_, _<_}
 use mathlib.Core.Bool.{Bool, not, _&&_}
-use lib.Dec.{eqb, ltb}
+use mathlib.Core.List.{List, [], _∷_}
+use mathlib.Core.Option.{Option}
+use lib.Dec.{eqb, ltb, leb}
+use Rattle.lists.specs.Tab.{pick}
+use Rattle.lists.specs.First.{firstAt}
 use Rattle.lists.specs.declared.Place.{Place}
 use Rattle.lists.specs.declared.Place.the-variants.{At, Nowhere}
 use Rattle.lookup.specs.Tuple.{Tuple}
@@ -30,3 +38,14 @@ afterPlace Nowhere n Nowhere = Nowhere
 abbrev pub Within : Place → ℕ → Type 0
 Within (At j) n = j < n
 Within Nowhere n = Unit {0}
+
+unfoldable pub from : ℕ → (ℕ → Bool) → ℕ → Bool
+from a t i = leb a i && t i
+
+unfoldable pub groupEnd : List ℕ → ℕ → ℕ → ℕ
+groupEnd [] n i = n
+groupEnd (e ∷ es) n i = pick (ltb i e) e (groupEnd es n i)
+
+unfoldable pub firstOfGroup : ℕ → List ℕ → ℕ → (ℕ → Bool) → ℕ → Option ℕ
+firstOfGroup a [] n t i = firstAt (from a t) n
+firstOfGroup a (e ∷ es) n t i = pick (ltb i e) (firstAt (from a t) e) (firstOfGroup e es n t i)

@@ -1,10 +1,11 @@
-// Scans of a row's lookups: the tests on values, the scan of a lane of eight, and the join of two scans.
+// Scans of a row's lookups: the tests on values, the scan of a lane of eight, and scans one behind the other.
 use lists::Place;
 ghost use mathlib.Core.Path.{_≡_};
 ghost use Prim.Native.Nat.{_+_, _≤_};
 ghost use lib.ListN.{length};
 ghost use Rattle.lists.specs.Tab.{word};
 ghost use Rattle.lists.specs.First.{firstAt, placeOf};
+ghost use Rattle.lists.specs.declared.Place.the-variants.{Nowhere};
 ghost use Rattle.scan.specs.Scan.{aluOff, bytesOff, afterPlace, Within};
 
 // Not two bytes and their XOR.
@@ -73,6 +74,17 @@ pub fn bytes_lane(row: &[u64], a: usize, b: usize) -> Place
     Place::Nowhere
 }
 
+// The answer of a scan of m that begins at n.
+pub fn behind(n: usize, found: Place, m: usize) -> Place
+    requires { ⌜ (n + m ≤ 65536) × Within found m ⌝ }
+    ensures { λ r. ⌜ r ≡ afterPlace Nowhere n found ⌝ }
+{
+    if let Place::At(k) = found {
+        return Place::At(n + k);
+    }
+    Place::Nowhere
+}
+
 // The answer of a scan of n, or else of the scan of m behind it.
 pub fn or_after(found: Place, n: usize, later: Place, m: usize) -> Place
     requires { ⌜ (n + m ≤ 65536) × Within later m ⌝ }
@@ -81,8 +93,5 @@ pub fn or_after(found: Place, n: usize, later: Place, m: usize) -> Place
     if let Place::At(k) = found {
         return Place::At(k);
     }
-    if let Place::At(j) = later {
-        return Place::At(n + j);
-    }
-    Place::Nowhere
+    behind(n, later, m)
 }

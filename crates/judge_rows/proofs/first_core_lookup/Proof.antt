@@ -1,91 +1,135 @@
--- `judge_rows::first_core_lookup` meets its contract: no row before this one fails. Assumes nothing.
+-- `judge_rows::first_core_lookup` meets its contract: no row before this one has a tuple without a match that it needs, and in this one none before
+-- the index has. Assumes nothing.
 use mathlib.Core.Path.{_≡_, refl, ap, sym, _∙_}
 use mathlib.Core.Option.{none}
-use Prim.Native.Nat.{_≤_, _-_}
+use Prim.Native.Nat.{_-_, _≤_}
 use native.Mathlib.Omega.{arith}
 use borrow.Author.Needs.{needs}
-use Rattle.lists.specs.First.{first, inRow}
+use Rattle.lists.specs.First.{first, firstAt, inRow}
 use Rattle.lists.proofs.First.{first-start, in-none}
+use Rattle.scan.proofs.Groups.{end-past}
 use Rattle.verdict.specs.Verdict.{badLookup}
 use Rattle.verdict.specs.CoreAndRound.{coreKind}
+use Rattle.keccak_lookups.specs.Groups.{coreEnds}
 use Rattle.judge_scan.specs.Spot.{spotOf}
 use Rattle.judge_scan.specs.declared.Spot.the-variants.{Nowhere}
 use Rattle.judge_scan.proofs.Scan.{at-none-row, at-some-row, part-long}
-use Rattle.judge_rows.proofs.Rows.{core-lookup-some, core-lookup-none}
+use Rattle.judge_rows.proofs.Rows.{lookup-none, lookup-some, core-ends, row-done}
 use Rattle.judge_rows.proofs.first_core_lookup.Statement.{statement}
 use Rattle.judge_rows.proofs.first_core_lookup.Tie as tie
 
+abbrev Inv-loop : tie.InvT-loop
+Inv-loop core rows found₀ r start end index₀ found index = (found ≡ Nowhere) × (firstAt (badLookup (coreKind 24) core r) index ≡ none)
+
+abbrev μ-loop : tie.MeasureT-loop
+μ-loop core rows found₀ r start end index₀ found index = 84 - index
+
 abbrev Inv-rows : tie.InvT-rows
-Inv-rows core rows found₀ row₀ found row = (row ≤ rows) × (found ≡ Nowhere) × (first (inRow (badLookup (coreKind 24) core) 84) row ≡ none)
+Inv-rows core rows found₀ row₀ found r = (r ≤ rows) × (found ≡ Nowhere) × (first (inRow (badLookup (coreKind 24) core) 84) r ≡ none)
 
 abbrev μ-rows : tie.MeasureT-rows
-μ-rows core rows found₀ row₀ found row = rows - row
+μ-rows core rows found₀ row₀ found r = rows - r
 
-rows-holds : tie.Need-rows-holds Inv-rows μ-rows
+rows-holds : tie.Need-rows-holds Inv-loop μ-loop Inv-rows μ-rows
 rows-holds c = (omega arith, refl, first-start _)
 
-mul-start : tie.Need-mul-start Inv-rows μ-rows
+mul-start : tie.Need-mul-start Inv-loop μ-loop Inv-rows μ-rows
 mul-start c = omega arith
 
-add-end : tie.Need-add-end Inv-rows μ-rows
+add-end : tie.Need-add-end Inv-loop μ-loop Inv-rows μ-rows
 add-end c = omega arith
 
-mul-core-lookup-failure : tie.Need-mul-core-lookup-failure Inv-rows μ-rows
-mul-core-lookup-failure c = omega arith
+loop-holds : tie.Need-loop-holds Inv-loop μ-loop Inv-rows μ-rows
+loop-holds c = (c .before .rows .inv .1, first-start _)
 
-sub-core-lookup-failure : tie.Need-sub-core-lookup-failure Inv-rows μ-rows
-sub-core-lookup-failure c = omega arith
+mul-core-group-failure : tie.Need-mul-core-group-failure Inv-loop μ-loop Inv-rows μ-rows
+mul-core-group-failure c = omega arith
 
-part-core-lookup-failure-start : tie.Need-part-core-lookup-failure-start Inv-rows μ-rows
-part-core-lookup-failure-start c = omega arith
+sub-core-group-failure : tie.Need-sub-core-group-failure Inv-loop μ-loop Inv-rows μ-rows
+sub-core-group-failure c = omega arith
 
-part-core-lookup-failure-end : tie.Need-part-core-lookup-failure-end Inv-rows μ-rows
-part-core-lookup-failure-end c = omega arith
+part-core-group-failure-start : tie.Need-part-core-group-failure-start Inv-loop μ-loop Inv-rows μ-rows
+part-core-group-failure-start c = omega arith
 
-core-lookup-failure-requires : tie.Need-core-lookup-failure-requires Inv-rows μ-rows
-core-lookup-failure-requires c κs = part-long 486 _ _ (c .before .rows-test .taken)
+part-core-group-failure-end : tie.Need-part-core-group-failure-end Inv-loop μ-loop Inv-rows μ-rows
+part-core-group-failure-end c = omega arith
 
-enum-known-index : tie.Need-enum-known-index Inv-rows μ-rows
-enum-known-index c = search needs
+core-group-failure-requires : tie.Need-core-group-failure-requires Inv-loop μ-loop Inv-rows μ-rows
+core-group-failure-requires c κs = part-long 486 _ _ (c .before .before .before .rows-test .taken)
 
-enum-told : tie.Need-enum-told Inv-rows μ-rows
+enum-known-at : tie.Need-enum-known-at Inv-loop μ-loop Inv-rows μ-rows
+enum-known-at c = search needs
+
+enum-told : tie.Need-enum-told Inv-loop μ-loop Inv-rows μ-rows
 enum-told c = search needs
 
-add-row : tie.Need-add-row Inv-rows μ-rows
+core-group-end-requires : tie.Need-core-group-end-requires Inv-loop μ-loop Inv-rows μ-rows
+core-group-end-requires c κs = search needs
+
+loop-less : tie.Need-loop-less Inv-loop μ-loop Inv-rows μ-rows
+loop-less c =
+    let loop = c .before .before .before .before .before .before in
+    omega (arith, end-past coreEnds 84 (loop .loop .index) (c .before .before .before .before .before .loop-test .taken))
+
+loop-again : tie.Need-loop-again Inv-loop μ-loop Inv-rows μ-rows
+loop-again c =
+    let told = c .before in
+    let call = told .before .before in
+    let loop = call .before .before .before in
+    let test = loop .before in (
+      loop .loop .inv .0,
+      lookup-none (coreKind 24) coreEnds _ _ _ (test .rows-test .taken) _ (call .core-group-failure .ensures) (loop .loop .inv .1) (told .enum-told .given .1) (c .core-group-end .ensures),
+    )
+
+add-row : tie.Need-add-row Inv-loop μ-loop Inv-rows μ-rows
 add-row c = omega arith
 
-rows-less : tie.Need-rows-less Inv-rows μ-rows
+rows-less : tie.Need-rows-less Inv-loop μ-loop Inv-rows μ-rows
 rows-less c = omega arith
 
-rows-again : tie.Need-rows-again Inv-rows μ-rows
+rows-again : tie.Need-rows-again Inv-loop μ-loop Inv-rows μ-rows
 rows-again c =
-    let v = c .before .before .before .before .before .rows .inv in
-    (omega arith, v .1, at-none-row _ _ _ (v .2) (core-lookup-none _ _ (c .before .before .before .before .rows-test .taken) _ (c .before .before .core-lookup-failure .ensures) (c .enum-told .given .1)))
+    let v = c .before .loop .inv in
+    let rows = c .before .before .before in
+    (omega arith, v .0, at-none-row _ _ _ (rows .rows .inv .2) (row-done _ _ 84 (c .loop-test .left) (v .1)))
 
-returns : tie.Need-returns Inv-rows μ-rows
+returns : tie.Need-returns Inv-loop μ-loop Inv-rows μ-rows
 returns c = c .before .rows .inv .1 ∙ sym (ap spotOf (in-none _ _ _ _ (c .before .rows .inv .0) (c .rows-test .left) (c .before .rows .inv .2)))
 
-returns-2 : tie.Need-returns-2 Inv-rows μ-rows
+returns-2 : tie.Need-returns-2 Inv-loop μ-loop Inv-rows μ-rows
 returns-2 c =
-    sym (ap spotOf (at-some-row _ _ _ (c .before .before .before .before .before .before .rows .inv .2) _ _ (c .before .before .before .before .before .rows-test .taken)
-    (core-lookup-some _ _ (c .before .before .before .before .before .rows-test .taken) _ (c .before .before .before .core-lookup-failure .ensures) _ (c .before .index .given .1))))
+    let at = c .before in
+    let call = at .before .before in
+    let loop = call .before .before .before in
+    let test = loop .before in
+    sym
+    (ap spotOf
+    (at-some-row _ _ _ (test .before .rows .inv .2) _ _
+    (test .rows-test .taken)
+    (lookup-some (coreKind 24) coreEnds _ _ _ (test .rows-test .taken) _ (call .core-group-failure .ensures) (loop .loop .inv .1) core-ends _ (at .at .given .1))))
 
 pub first-core-lookup-spec : {M : Type 1} → statement M
 first-core-lookup-spec =
     tie.close
     (tie.spec
+    Inv-loop
+    μ-loop
     Inv-rows
     μ-rows
     rows-holds
     mul-start
     add-end
-    mul-core-lookup-failure
-    sub-core-lookup-failure
-    part-core-lookup-failure-start
-    part-core-lookup-failure-end
-    core-lookup-failure-requires
-    enum-known-index
+    loop-holds
+    mul-core-group-failure
+    sub-core-group-failure
+    part-core-group-failure-start
+    part-core-group-failure-end
+    core-group-failure-requires
+    enum-known-at
     enum-told
+    core-group-end-requires
+    loop-less
+    loop-again
     add-row
     rows-less
     rows-again

@@ -41,7 +41,7 @@ loop-less c = omega arith
 loop-again : tie.Need-loop-again Inv-loop μ-loop
 loop-again c =
     let at-loop = c .before .before .before .before .before in
-    let addr = at-loop .before .before .args .addr in
+    let addr = at-loop .before .before .args .op .«state_addr» in
     let i = at-loop .loop .i in
     filled-add 2 (keyWord (of-dword (addr + 8 * i))) (at-loop .loop .inv) (omega arith) (omega arith) (c .before .before .put-key .ensures) (λ j b. pointer-key addr i j b)
 

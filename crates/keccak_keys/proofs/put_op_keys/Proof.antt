@@ -1,17 +1,18 @@
 -- `keccak::put_op_keys` meets its contract: after i turns the keys of the first i operations are stored. Assumes nothing.
-use mathlib.Core.Path.{sym, ap, _∙_}
-use Prim.Native.Nat.{ℕ, _+_, _-_, _*_, _≤_, _/_, _%_}
+use mathlib.Core.Path.{sym, ap, subst, _∙_}
+use Prim.Native.Nat.{ℕ, _+_, _-_, _*_, _≤_, _<_, _/_, _%_, _^_}
 use native.Mathlib.Omega.{arith}
-use lib.ListN.{getD}
 use native.Mathlib.Nat.{zero-add}
 use lib.Seq.{sets}
 use Rattle.lists.specs.Tab.{tab}
 use Rattle.lists.proofs.Laws.{Filled, filled-none, filled-add, filled-all}
+use Rattle.keccak.specs.declared.KeccakOperation.{KeccakOperation}
 use Rattle.keccak.specs.Row.{opAt, is-wh-keys, keyWord, keyWords, pointerKey}
 use Rattle.keccak.proofs.Checks.{address-fits}
 use Rattle.keccak.proofs.Keys.{operation-key}
 use Rattle.keccak_keys.proofs.put_op_keys.Statement.{statement}
 use Rattle.keccak_keys.proofs.put_op_keys.Tie as tie
+use Rattle.operations.proofs.operation_at.Reads as operation-at-reads
 use Rattle.keccak_keys.proofs.put_keys.Reads as put-keys-reads
 
 abbrev Inv-loop : tie.InvT-loop
@@ -23,28 +24,18 @@ abbrev μ-loop : tie.MeasureT-loop
 loop-holds : tie.Need-loop-holds Inv-loop μ-loop
 loop-holds c = (omega arith, filled-none _ _ _ _)
 
+operation-at-requires : tie.Need-operation-at-requires Inv-loop μ-loop
+operation-at-requires c κs = omega arith
+
 mul-put-keys : tie.Need-mul-put-keys Inv-loop μ-loop
 mul-put-keys c = omega arith
 
-mul-put-keys-2 : tie.Need-mul-put-keys-2 Inv-loop μ-loop
-mul-put-keys-2 c = omega arith
-
-add-put-keys : tie.Need-add-put-keys Inv-loop μ-loop
-add-put-keys c = omega arith
-
-mul-put-keys-3 : tie.Need-mul-put-keys-3 Inv-loop μ-loop
-mul-put-keys-3 c = omega arith
-
-shared-slice-read-put-keys : tie.Need-shared-slice-read-put-keys Inv-loop μ-loop
-shared-slice-read-put-keys c = omega arith
-
 put-keys-requires : tie.Need-put-keys-requires Inv-loop μ-loop
-unfolding opAt
 put-keys-requires c κs =
-    let in-loop = c .before .before in
-    let at-loop = in-loop .before in
+    let at-op = c .before in
+    let at-loop = at-op .before .before in
     let start = at-loop .before .before .before in
-    (omega arith, address-fits (start .args .ops .now) (start .args .n) (at-loop .loop .i) (start .pre .2) (in-loop .loop-test .taken))
+    (omega arith, subst (λ (o : KeccakOperation). o .«state_addr» + 192 < 2 ^ 64) (sym (at-op .operation-at .ensures)) (address-fits (start .args .ops .now) (start .args .n) (at-loop .loop .i) (start .pre .2) (at-op .before .loop-test .taken)))
 
 add-i : tie.Need-add-i Inv-loop μ-loop
 add-i c = omega arith
@@ -53,18 +44,17 @@ loop-less : tie.Need-loop-less Inv-loop μ-loop
 loop-less c = omega arith
 
 loop-again : tie.Need-loop-again Inv-loop μ-loop
-unfolding opAt
 loop-again c =
     let put = c .before .before in
-    let in-loop = put .before .before .before in
-    let at-loop = in-loop .before in
-    let start = at-loop .before .before .before in
-    let ops = start .args .ops .now in
-    let i = at-loop .loop .i in
-    let addr = getD ops (52 * i + 1) 0 in (
+    let at-op = put .before .before in
+    let at-loop = at-op .before .before in
+    let ops = at-loop .before .before .before .args .ops .now in
+    let i = at-loop .loop .i in (
       omega arith,
-      filled-add 50 (pointerKey addr) (at-loop .loop .inv .1) (omega arith) (omega arith)
-          (put .put-keys .ensures ∙ ap (λ (k : ℕ). sets (at-loop .loop .out) k (tab 50 (pointerKey addr))) (sym (zero-add (i * 50))))
+      filled-add 50 (pointerKey (opAt ops i .«state_addr»)) (at-loop .loop .inv .1) (omega arith) (omega arith)
+          (put .put-keys .ensures
+          ∙ ap (λ (o : KeccakOperation). sets (at-loop .loop .out) (i * 50) (tab 50 (pointerKey (o .«state_addr»)))) (at-op .operation-at .ensures)
+          ∙ ap (λ (k : ℕ). sets (at-loop .loop .out) k (tab 50 (pointerKey (opAt ops i .«state_addr»)))) (sym (zero-add (i * 50))))
           (λ j b. operation-key (opAt ops) i j b),
     )
 
@@ -82,11 +72,8 @@ put-op-keys-spec =
     Inv-loop
     μ-loop
     loop-holds
+    operation-at-requires
     mul-put-keys
-    mul-put-keys-2
-    add-put-keys
-    mul-put-keys-3
-    shared-slice-read-put-keys
     put-keys-requires
     add-i
     loop-less

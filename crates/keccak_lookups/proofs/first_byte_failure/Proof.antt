@@ -1,24 +1,25 @@
 -- `keccak_lookups::first_byte_failure` meets its contract: no tuple before pair i fails. Assumes nothing.
-use mathlib.Core.Path.{_≡_, sym, ap}
+use mathlib.Core.Path.{_≡_, sym, ap, _∙_}
 use Prim.Native.Nat.{_+_, _-_, _≤_}
 use native.Mathlib.Omega.{arith}
 use mathlib.Core.Option.{none}
 use Rattle.lists.specs.First.{first, atIndex, placeOf}
 use Rattle.lists.proofs.First.{at-hit, at-none}
-use Rattle.scan.specs.Scan.{unmatched}
+use Rattle.scan.specs.Scan.{unmatched, from}
+use Rattle.scan.proofs.Groups.{from-at, from-start}
 use Rattle.keccak.specs.Tuples.{coreTuple}
 use Rattle.keccak_lookups.proofs.Lookups.{tail-none, first-fails, second-fails, bytes-hold, byte-next}
 use Rattle.keccak_lookups.proofs.first_byte_failure.Statement.{statement}
 use Rattle.keccak_lookups.proofs.first_byte_failure.Tie as tie
 
 abbrev Inv-loop : tie.InvT-loop
-Inv-loop row i₀ i = (i ≤ 4) × (first (atIndex (unmatched (coreTuple 24 0 row))) (55 + i) ≡ none)
+Inv-loop row i₀ i = (i ≤ 4) × (first (atIndex (from 55 (unmatched (coreTuple 24 0 row)))) (55 + i) ≡ none)
 
 abbrev μ-loop : tie.MeasureT-loop
 μ-loop row i₀ i = 4 - i
 
 loop-holds : tie.Need-loop-holds Inv-loop μ-loop
-loop-holds c = (omega arith, c .pre .2)
+loop-holds c = (omega arith, from-start _ 55)
 
 mul-at : tie.Need-mul-at Inv-loop μ-loop
 mul-at c = omega arith
@@ -39,7 +40,7 @@ returns : tie.Need-returns Inv-loop μ-loop
 returns c =
     let l = c .before .before .before in
     let s = l .before in
-    sym (ap placeOf (at-hit _ _ _ (omega arith) (l .loop .inv .1) (first-fails (s .args .row .now) (s .pre .1) (l .loop .i) (c .before .before .loop-test .taken) (c .if1 .taken))))
+    sym (ap placeOf (at-hit _ _ _ (omega arith) (l .loop .inv .1) (from-at _ 55 _ (omega arith) ∙ first-fails (s .args .row .now) (s .pre .1) (l .loop .i) (c .before .before .loop-test .taken) (c .if1 .taken))))
 
 add-if2 : tie.Need-add-if2 Inv-loop μ-loop
 add-if2 c = omega arith
@@ -57,7 +58,7 @@ returns-2 : tie.Need-returns-2 Inv-loop μ-loop
 returns-2 c =
     let l = c .before .before .before .before .before in
     let s = l .before in
-    sym (ap placeOf (at-hit _ _ _ (omega arith) (l .loop .inv .1) (second-fails (s .args .row .now) (s .pre .1) (l .loop .i) (c .before .before .before .before .loop-test .taken) (c .if2 .taken))))
+    sym (ap placeOf (at-hit _ _ _ (omega arith) (l .loop .inv .1) (from-at _ 55 _ (omega arith) ∙ second-fails (s .args .row .now) (s .pre .1) (l .loop .i) (c .before .before .before .before .loop-test .taken) (c .if2 .taken))))
 
 add-i : tie.Need-add-i Inv-loop μ-loop
 add-i c = omega arith
@@ -70,7 +71,7 @@ loop-again c =
     let l = c .before .before .before .before .before in
     let s = l .before in
     let bytes = bytes-hold (s .args .row .now) (s .pre .1) (l .loop .i) (c .before .before .before .before .loop-test .taken) (c .before .before .if1 .left) (c .if2 .left) in
-    (omega arith, byte-next _ _ (l .loop .inv .1) bytes)
+    (omega arith, byte-next _ _ (l .loop .inv .1) (from-at _ 55 _ (omega arith) ∙ bytes))
 
 returns-3 : tie.Need-returns-3 Inv-loop μ-loop
 returns-3 c = sym (ap placeOf (tail-none _ (at-none _ _ 59 (omega arith) (omega arith) (c .before .loop .inv .1))))
