@@ -28,7 +28,7 @@ use Rattle.keccak_rnd.specs.Columns.{MU}
 use Rattle.keccak_rnd.specs.Tuples.{roundReceived, roundSent, rcTuple, roundTuple}
 use Rattle.scan.specs.Scan.{unmatched, afterPlace}
 use Rattle.scan.proofs.Scans.{first-then, none-off, sent-off, free-off}
-use Rattle.round_scan.specs.Parts.{rcTuples, parityTuples, stageTuples, leftTuples, dTuples, thetaTuples, rotTuples, andsTuples, chiTuples, iotaTuples, chiPart, thetaPart, parityPart}
+use Rattle.round_groups.specs.Parts.{rcTuples, parityTuples, stageTuples, leftTuples, dTuples, thetaTuples, rotTuples, andsTuples, chiTuples, iotaTuples, chiPart, thetaPart, parityPart}
 
 -- ---- a test of every index, in a loop
 pub all-start : (f : ℕ → Bool) → all 0 f ≡ true

@@ -5,8 +5,8 @@ use rc::rc_failure;
 use round_chi_scan::ands_failure;
 use round_chi_scan::chi_failure;
 use round_chi_scan::iota_failure;
-use round_chi_scan::put_pi;
 use round_chi_scan::rot_failure;
+use round_groups::put_pi;
 use round_scan::theta::d_failure;
 use round_scan::theta::left_failure;
 use round_scan::theta::parity_failure;
@@ -21,7 +21,7 @@ ghost use Rattle.matching.specs.Matching.{matched};
 ghost use Rattle.keccak_rnd.specs.Columns.{NUM-COLUMNS};
 ghost use Rattle.keccak_rnd.specs.Tuples.{NUM-TUPLES, roundTuple};
 ghost use Rattle.scan.specs.Scan.{unmatched};
-ghost use Rattle.round_scan.specs.Parts.{chiPart, thetaPart, parityPart};
+ghost use Rattle.round_groups.specs.Parts.{chiPart, thetaPart, parityPart};
 
 pub mod rc;
 

@@ -3,7 +3,7 @@ use native.Mathlib.Omega.{arith}
 use borrow.Author.Needs.{needs}
 use Rattle.scan.proofs.Scans.{within}
 use Rattle.keccak_rnd_lookups.proofs.Joins.{join}
-use Rattle.round_scan.specs.Parts.{parityPart}
+use Rattle.round_groups.specs.Parts.{parityPart}
 use Rattle.keccak_rnd_lookups.proofs.parity_part.Statement.{statement}
 use Rattle.keccak_rnd_lookups.proofs.parity_part.Tie as tie
 

@@ -3,7 +3,7 @@ use native.Mathlib.Omega.{arith}
 use borrow.Author.Needs.{needs}
 use Rattle.scan.proofs.Scans.{within}
 use Rattle.keccak_rnd_lookups.proofs.Joins.{join}
-use Rattle.round_scan.specs.Parts.{thetaPart}
+use Rattle.round_groups.specs.Parts.{thetaPart}
 use Rattle.keccak_rnd_lookups.proofs.theta_part.Statement.{statement}
 use Rattle.keccak_rnd_lookups.proofs.theta_part.Tie as tie
 
