@@ -1,17 +1,11 @@
--- Which lookup stands at an index, and the words of a lookup from what was read. Assumes nothing.
-use mathlib.Core.Path.{_≡_, sym, ap, ap₂, subst, _∙_}
-use mathlib.Core.List.{List, [], _∷_}
-use Prim.Native.Nat.{ℕ, _+_, _-_, _*_, _/_, _%_, _≤_, _<_}
+-- Which lookup stands at an index. Assumes nothing.
+use mathlib.Core.Path.{_≡_, ap, _∙_}
+use mathlib.Core.List.{List}
+use Prim.Native.Nat.{ℕ, _+_, _-_, _/_, _%_, _≤_, _<_}
 use native.Mathlib.Omega.{arith}
-use Rattle.lists.specs.Tab.{word}
 use Rattle.lists.proofs.Then.{then-lt, then-ge}
-use Rattle.field.specs.Field.{p}
-use Rattle.field.specs.Elements.{ElementRow}
-use Rattle.answer.specs.Refusal.{overwrite}
-use Rattle.fips202.specs.Fips.{RHO}
 use Rattle.lookup.specs.Tuple.{Tuple}
-use Rattle.keccak.specs.Columns.{laneColumn, byXYB}
-use Rattle.keccak_rnd.specs.Columns.{NUM-COLUMNS, pi-left, pi-right}
+use Rattle.keccak.specs.Columns.{byXYB}
 use Rattle.keccak_rnd.specs.Tuples.{cxzTuple0, cxzTuple, cxzLeftTuple, dxzTuple, thetaTuple, rotTuple, chiAndsTuple, chiTuple, iotaTuple, roundTuple}
 
 module _ (row : List ℕ) (i : ℕ) where
@@ -81,39 +75,3 @@ module _ (row : List ℕ) (i : ℕ) where
       moved (1 + (1 + (1 + (40 + (120 + (20 + (40 + (200 + (200 + (200 + (200 + (i - 1023)))))))))))) (omega arith)
       (then-ge 1 _ _ _ ∙ then-ge 1 _ _ _ ∙ then-ge 1 _ _ _ ∙ then-ge 40 _ _ _ ∙ then-ge 120 _ _ _ ∙ then-ge 20 _ _ _
       ∙ then-ge 40 _ _ _ ∙ then-ge 200 _ _ _ ∙ then-ge 200 _ _ _ ∙ then-ge 200 _ _ _ ∙ then-ge 200 _ _ _)
-
--- ---- for the calls that give them
--- the words of a lookup from what was read for them
-pub alu-words : {a b c a′ b′ c′ : ℕ} {new : List ℕ} (op : ℕ) (old : List ℕ) → a ≡ a′ → b ≡ b′ → c ≡ c′
-    → new ≡ overwrite (op ∷ a ∷ b ∷ c ∷ []) old → new ≡ overwrite (op ∷ a′ ∷ b′ ∷ c′ ∷ []) old
-alu-words {c = c} {a′} {b′} op old p q r e =
-    e
-    ∙ ap₂ (λ (s t : ℕ). overwrite (op ∷ s ∷ t ∷ c ∷ []) old) p q
-    ∙ ap (λ (t : ℕ). overwrite (op ∷ a′ ∷ b′ ∷ t ∷ []) old) r
-
-pub bytes-words : {a b a′ b′ : ℕ} {new : List ℕ} (old : List ℕ) → a ≡ a′ → b ≡ b′ → new ≡ overwrite (a ∷ b ∷ []) old
-    → new ≡ overwrite (a′ ∷ b′ ∷ []) old
-bytes-words old p q e = e ∙ ap₂ (λ (s t : ℕ). overwrite (s ∷ t ∷ []) old) p q
-
--- ---- the words that are read
-element : (row : List ℕ) {v : ℕ} (k : ℕ) → ElementRow NUM-COLUMNS row → k < 1480 → v ≡ word row k → v < p
-element row k h l e = subst (λ (n : ℕ). n < p) (sym e) (h .below k l)
-
-module _ (row : List ℕ) where
-  -- the two words of a byte of π, k being the offset that was looked up
-  pub left-word : {v : ℕ} (x y b k : ℕ) → k ≡ RHO ((x + 3 * y) % 5) x
-      → v ≡ word row (laneColumn 663 ((x + 3 * y) % 5) x ((b + (8 - 2 * (k / 16))) % 8)) → v ≡ word row (pi-left x y b)
-  left-word x y b k e q =
-      q ∙ ap (λ (n : ℕ). word row (laneColumn 663 ((x + 3 * y) % 5) x ((b + (8 - 2 * (n / 16))) % 8))) e
-
-  pub right-word : {v : ℕ} (x y b k : ℕ) → k ≡ RHO ((x + 3 * y) % 5) x
-      → v ≡ word row (laneColumn 863 ((x + 3 * y) % 5) x ((b + (14 - 2 * (k / 16))) % 8)) → v ≡ word row (pi-right x y b)
-  right-word x y b k e q =
-      q ∙ ap (λ (n : ℕ). word row (laneColumn 863 ((x + 3 * y) % 5) x ((b + (14 - 2 * (n / 16))) % 8))) e
-
-  -- both are elements
-  pub left-element : {v : ℕ} (x y b : ℕ) → ElementRow NUM-COLUMNS row → x < 5 → v ≡ word row (pi-left x y b) → v < p
-  left-element x y b h l e = element row (pi-left x y b) h (omega arith) e
-
-  pub right-element : {v : ℕ} (x y b : ℕ) → ElementRow NUM-COLUMNS row → x < 5 → v ≡ word row (pi-right x y b) → v < p
-  right-element x y b h l e = element row (pi-right x y b) h (omega arith) e

@@ -29,7 +29,7 @@ use Rattle.keccak_rnd.specs.Tuples.{roundReceived, roundSent, rcTuple, roundTup
 use Rattle.scan.specs.Scan.{unmatched, afterPlace, from}
 use Rattle.scan.proofs.Scans.{first-then, none-off, sent-off, free-off}
 use Rattle.scan.proofs.Groups.{from-all, from-group}
-use Rattle.round_scan.specs.Parts.{rcTuples, parityTuples, stageTuples, leftTuples, dTuples, thetaTuples, rotTuples, andsTuples, chiTuples, iotaTuples, chiPart}
+use Rattle.round_groups.specs.Parts.{rcTuples, parityTuples, stageTuples, leftTuples, dTuples, thetaTuples, rotTuples, andsTuples, chiTuples, iotaTuples, chiPart}
 
 -- ---- a test of every index, in a loop
 pub all-start : (f : ℕ → Bool) → all 0 f ≡ true

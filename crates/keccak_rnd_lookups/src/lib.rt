@@ -5,8 +5,8 @@ use rc::rc_failure;
 use round_chi_scan::ands_failure;
 use round_chi_scan::chi_failure;
 use round_chi_scan::iota_failure;
-use round_chi_scan::put_pi;
 use round_chi_scan::rot_failure;
+use round_groups::put_pi;
 use round_scan::theta::d_failure;
 use round_scan::theta::left_failure;
 use round_scan::theta::parity_failure;
@@ -20,7 +20,7 @@ ghost use Rattle.field.specs.Elements.{ElementRow};
 ghost use Rattle.keccak_rnd.specs.Columns.{NUM-COLUMNS};
 ghost use Rattle.keccak_rnd.specs.Tuples.{NUM-TUPLES, roundTuple};
 ghost use Rattle.scan.specs.Scan.{unmatched, groupEnd, firstOfGroup};
-ghost use Rattle.round_scan.specs.Parts.{chiPart};
+ghost use Rattle.round_groups.specs.Parts.{chiPart};
 ghost use Rattle.keccak_rnd_lookups.specs.Groups.{rotEnds, leftEnds, roundEnds};
 
 pub mod rc;

@@ -15,7 +15,7 @@ ghost use Rattle.field.specs.Elements.{ElementRow};
 ghost use Rattle.bits.specs.Bits.{byteAt};
 ghost use Rattle.keccak_rnd.specs.Columns.{NUM-COLUMNS};
 ghost use Rattle.scan.specs.Scan.{unmatched};
-ghost use Rattle.round_scan.specs.Parts.{rcTuples};
+ghost use Rattle.round_groups.specs.Parts.{rcTuples};
 
 // The eight bytes in RC are not those of the constant.
 fn constant_off(row: &[u64], constant: u64) -> bool

@@ -1,9 +1,9 @@
--- Laws of the tuples of a row as words: how many words, and the invariant of a loop that writes them. Assumes nothing.
+-- Laws of the tuples of a row as words: how many words, in parts, and the invariant of a loop that writes them. Assumes nothing.
 use mathlib.Core.Path.{_≡_, refl, sym, ap, ap₂, _∙_, subst}
 use mathlib.Core.Logic.{⊎-elim}
-use mathlib.Core.List.{List, [], _∷_, _++_}
+use mathlib.Core.List.{List, [], _∷_, _++_, append-assoc, append-nil}
 use Prim.Native.Nat.{ℕ, zero, suc, _+_, _-_, _*_, _≤_, _<_}
-use native.Mathlib.Nat.{le-antisymm, le-refl, le-trans, le-add-right, le-of-suc-le-suc, not-suc-le-zero, eq-or-lt-of-le, add-zero, zero-add}
+use native.Mathlib.Nat.{le-antisymm, le-refl, le-trans, le-add-right, le-of-suc-le-suc, not-suc-le-zero, eq-or-lt-of-le, add-zero, add-suc}
 use native.Mathlib.Numerals.{add-one}
 use native.Mathlib.Omega.{arith}
 use lib.ListN.{length, set, length-append}
@@ -13,6 +13,7 @@ use Rattle.lists.specs.Tab.{then}
 use Rattle.lists.specs.Sum.{sum}
 use Rattle.lists.proofs.Sum.{sum-same, sum-const, sum-then}
 use Rattle.lists.proofs.Laws.{sets-append, sets-mid}
+use Rattle.lists.proofs.Then.{then-lt, then-ge}
 use Rattle.answer.specs.Refusal.{overwrite}
 use Rattle.answer.proofs.Laws.{sets-overwrite}
 use Rattle.lookup.specs.Tuple.{Tuple}
@@ -94,16 +95,46 @@ stores-four l at a b c d =
     ∙ ap (λ (k : ℕ). set (set (set (set l at a) (suc at) b) k c) (at + 3) d) two
     ∙ ap (λ (k : ℕ). set (set (set (set l at a) (suc at) b) (suc (suc at)) c) k d) three
 
--- ---- the invariant of a loop that stores tuples t 0 .. t (n - 1) in l, one after the other: i of them are stored, and the next goes to `at`
-pub record Listed (l : List ℕ) (t : ℕ → Tuple) (n : ℕ) (out : List ℕ) (i at : ℕ) : Type 0 where
-  pub bound : i ≤ n
-  pub place : at ≡ length (tuplesWords t i)
-  pub long : length out ≡ length l
-  pub is : out ≡ sets l 0 (tuplesWords t i)
-
-pub listed-none : (l : List ℕ) (t : ℕ → Tuple) (n : ℕ) → Listed l t n l 0 0
+-- ---- the words of tuples t 0 .. t (n - 1): those of the first n, then those of m more, which are g's
+words-eq : (n : ℕ) (f g : ℕ → Tuple) → ((k : ℕ) → k < n → f k ≡ g k) → tuplesWords f n ≡ tuplesWords g n
 unfolding tuplesWords
-listed-none l t n = record { bound = omega arith; place = refl; long = refl; is = refl }
+words-eq zero f g h = refl
+words-eq (suc n) f g h = ap₂ (λ (a b : List ℕ). a ++ b) (words-eq n f g (λ k l. h k (omega arith))) (ap tupleWords (h n (omega arith)))
+
+pub words-add : (n m : ℕ) (t g : ℕ → Tuple) → ((k : ℕ) → k < m → t (n + k) ≡ g k) → tuplesWords t (n + m) ≡ tuplesWords t n ++ tuplesWords g m
+unfolding tuplesWords
+words-add n zero t g h = ap (tuplesWords t) (add-zero n) ∙ sym (append-nil (tuplesWords t n))
+words-add n (suc m) t g h =
+    ap (tuplesWords t) (add-suc n m)
+    ∙ ap₂ (λ (a b : List ℕ). a ++ b) (words-add n m t g (λ k l. h k (omega arith))) (ap tupleWords (h m (omega arith)))
+    ∙ append-assoc (tuplesWords t n) (tuplesWords g m) (tupleWords (g m))
+
+-- n tuples of c values each
+pub words-count : (n c : ℕ) (t : ℕ → Tuple) → ((i : ℕ) → length (t i .values) ≡ c) → length (tuplesWords t n) ≡ n * (4 + c)
+words-count n c t e = tuples-length t n ∙ words-same n c t e
+
+-- n tuples of f were stored from `at`, and then m of g behind them
+pub stored-then : {out out′ : List ℕ} {at′ : ℕ} (l : List ℕ) (at n m c : ℕ) (f g : ℕ → Tuple) → ((i : ℕ) → length (f i .values) ≡ c) → out ≡ sets l at (tuplesWords f n)
+    → out′ ≡ sets out at′ (tuplesWords g m) → at′ ≡ at + n * (4 + c) → out′ ≡ sets l at (tuplesWords (then n f g) (n + m))
+stored-then l at n m c f g u e q h =
+    q
+    ∙ (λ i. sets (e i) ((h ∙ ap (λ (k : ℕ). at + k) (sym (words-count n c f u))) i) (tuplesWords g m))
+    ∙ sets-append l at (tuplesWords f n) (tuplesWords g m)
+    ∙ ap (sets l at)
+    (ap (λ (a : List ℕ). a ++ tuplesWords g m) (sym (words-eq n (then n f g) f (λ k b. then-lt n k f g b)))
+    ∙ sym (words-add n m (then n f g) g (λ k b. then-ge n k f g)))
+
+-- ---- the invariant of a loop that stores tuples t 0 .. t (n - 1) in l from `from`, one after the other: i of them are stored, and the next
+-- goes to `at`
+pub record Listed (l : List ℕ) (from : ℕ) (t : ℕ → Tuple) (n : ℕ) (out : List ℕ) (i at : ℕ) : Type 0 where
+  pub bound : i ≤ n
+  pub place : at ≡ from + length (tuplesWords t i)
+  pub long : length out ≡ length l
+  pub is : out ≡ sets l from (tuplesWords t i)
+
+pub listed-none : (l : List ℕ) (from : ℕ) (t : ℕ → Tuple) (n : ℕ) → Listed l from t n l 0 from
+unfolding tuplesWords
+listed-none l from t n = record { bound = omega arith; place = sym (add-zero from); long = refl; is = refl }
 
 words-more : (t : ℕ → Tuple) (i : ℕ) → length (tuplesWords t (suc i)) ≡ length (tuplesWords t i) + length (tupleWords (t i))
 unfolding tuplesWords
@@ -119,28 +150,40 @@ words-le t i (suc n) h =
     (λ l. le-trans (words-le t i n (le-of-suc-le-suc l)) (subst (λ (k : ℕ). length (tuplesWords t n) ≤ k) (sym (words-more t n)) (le-add-right (length (tuplesWords t n)) (length (tupleWords (t n))))))
     (eq-or-lt-of-le h)
 
--- there is room for the next tuple
-pub listed-room : {l : List ℕ} {t : ℕ → Tuple} {n : ℕ} {out : List ℕ} {i at : ℕ} → Listed l t n out i at → length (tuplesWords t n) ≤ length l → i < n
-    → at + length (tupleWords (t i)) ≤ length out
-listed-room {l} {t} {n} {out} {i} {at} h r b =
-    let more = words-more t i in
-    let le = words-le t (suc i) n b in
-    omega (arith, h .place, h .long, more, le, r)
+module _ {l : List ℕ} {from : ℕ} {t : ℕ → Tuple} {n : ℕ} {out : List ℕ} {i at : ℕ} (h : Listed l from t n out i at) where
+  -- there is room for the next tuple
+  pub listed-room : from + length (tuplesWords t n) ≤ length l → i < n → at + length (tupleWords (t i)) ≤ length out
+  listed-room r b =
+      let more = words-more t i in
+      let le = words-le t (suc i) n b in
+      omega (arith, h .place, h .long, more, le, r)
 
--- a turn
-pub listed-more : {l : List ℕ} {t : ℕ → Tuple} {n : ℕ} {out out′ : List ℕ} {i at at′ : ℕ} → Listed l t n out i at → i < n
-    → at′ ≡ at + length (tupleWords (t i)) → out′ ≡ sets out at (tupleWords (t i)) → Listed l t n out′ (i + 1) at′
-unfolding tuplesWords
-listed-more {l} {t} {n} {out} {out′} {i} {at} {at′} h b q e =
-    record {
-      bound = omega arith;
-      place = q ∙ ap (λ (k : ℕ). k + length (tupleWords (t i))) (h .place) ∙ sym (words-more t i) ∙ ap (λ (k : ℕ). length (tuplesWords t k)) (sym (add-one i));
-      long = ap length e ∙ length-sets out at (tupleWords (t i)) ∙ h .long;
-      is = e ∙ ap (λ (r : List ℕ). sets r at (tupleWords (t i))) (h .is)
-          ∙ ap (λ (k : ℕ). sets (sets l 0 (tuplesWords t i)) k (tupleWords (t i))) (h .place ∙ sym (zero-add (length (tuplesWords t i))))
-          ∙ sets-append l 0 (tuplesWords t i) (tupleWords (t i))
-          ∙ ap (λ (k : ℕ). sets l 0 (tuplesWords t k)) (sym (add-one i));
-    }
+  -- a turn that stores m tuples
+  pub listed-part : {out′ : List ℕ} {at′ : ℕ} (m : ℕ) (g : ℕ → Tuple) → i + m ≤ n → ((k : ℕ) → k < m → t (i + k) ≡ g k)
+      → at′ ≡ at + length (tuplesWords g m) → out′ ≡ sets out at (tuplesWords g m) → Listed l from t n out′ (i + m) at′
+  listed-part {out′} {at′} m g b s q e =
+      let a : length (tuplesWords t (i + m)) ≡ length (tuplesWords t i) + length (tuplesWords g m) = ap length (words-add i m t g s) ∙ length-append (tuplesWords t i) (tuplesWords g m) in
+      record {
+        bound = b;
+        place = omega (arith, q, h .place, a);
+        long = ap length e ∙ length-sets out at (tuplesWords g m) ∙ h .long;
+        is = e ∙ (λ k. sets (h .is k) (h .place k) (tuplesWords g m)) ∙ sets-append l from (tuplesWords t i) (tuplesWords g m) ∙ ap (sets l from) (sym (words-add i m t g s));
+      }
 
-pub listed-all : {l : List ℕ} {t : ℕ → Tuple} {n : ℕ} {out : List ℕ} {i at : ℕ} → Listed l t n out i at → n ≤ i → out ≡ sets l 0 (tuplesWords t n)
-listed-all {l} {t} h b = h .is ∙ ap (λ (k : ℕ). sets l 0 (tuplesWords t k)) (le-antisymm (h .bound) b)
+  -- of c values each
+  pub listed-lane : {out′ : List ℕ} {i′ at′ : ℕ} (m c : ℕ) (g : ℕ → Tuple) → i + m ≤ n → ((k : ℕ) → k < m → t (i + k) ≡ g k)
+      → ((k : ℕ) → length (g k .values) ≡ c) → i′ ≡ i + m → at′ ≡ at + m * (4 + c) → out′ ≡ sets out at (tuplesWords g m) → Listed l from t n out′ i′ at′
+  listed-lane {out′} {i′} {at′} m c g b s u j q e =
+      subst (λ (k : ℕ). Listed l from t n out′ k at′) (sym j)
+      (listed-part m g b s (q ∙ ap (λ (k : ℕ). at + k) (sym (words-count m c g u))) e)
+
+  -- one that stores the next
+  pub listed-more : {out′ : List ℕ} {at′ : ℕ} → i < n → at′ ≡ at + length (tupleWords (t i)) → out′ ≡ sets out at (tupleWords (t i)) → Listed l from t n out′ (i + 1) at′
+  unfolding tuplesWords
+  listed-more b q e = listed-part 1 (λ k. t i) (omega arith) (λ k s. ap t (same k s)) q e
+    where
+      same : (k : ℕ) → k < 1 → i + k ≡ i
+      same k s = omega arith
+
+  pub listed-all : n ≤ i → out ≡ sets l from (tuplesWords t n)
+  listed-all b = h .is ∙ ap (λ (k : ℕ). sets l from (tuplesWords t k)) (le-antisymm (h .bound) b)

@@ -6,20 +6,16 @@ use keccak_rnd::MU;
 use keccak_rnd::START;
 use keccak_rnd::THETA;
 use lists::Place;
-use round_value::rotated_c;
+use round_groups::put_rotated;
 use scan::bytes_off;
 use scan::xor_lane;
 ghost use mathlib.Core.Path.{_≡_};
-ghost use Prim.Native.Nat.{_/_, _%_, _≤_, _<_};
-ghost use lib.ListN.{length};
-ghost use lib.Seq.{sets};
-ghost use Rattle.lists.specs.Tab.{tab, word};
+ghost use Rattle.lists.specs.Tab.{word};
 ghost use Rattle.lists.specs.First.{firstAt, placeOf};
 ghost use Rattle.field.specs.Elements.{ElementRow};
 ghost use Rattle.keccak_rnd.specs.Columns.{NUM-COLUMNS, MU};
-ghost use Rattle.keccak_rnd.specs.Tuples.{rotatedCAt};
 ghost use Rattle.scan.specs.Scan.{unmatched};
-ghost use Rattle.round_scan.specs.Parts.{parityTuples, stageTuples, leftTuples, dTuples, thetaTuples, RotatedOf};
+ghost use Rattle.round_groups.specs.Parts.{parityTuples, stageTuples, leftTuples, dTuples, thetaTuples, RotatedOf};
 
 // Stage 0 of the column parities.
 pub fn parity_failure(row: &[u64]) -> Place
@@ -88,18 +84,6 @@ pub fn left_failure(row: &[u64]) -> Place
         i += 1;
     }
     Place::Nowhere
-}
-
-// C rotated by one, its 40 bytes.
-fn put_rotated(row: &[u64], out: &mut [u64])
-    requires { ⌜ ElementRow NUM-COLUMNS (now row) × (40 ≤ length (now out)) ⌝ }
-    ensures { λ _. ⌜ now (out .exit) ≡ sets (now (out .entry)) 0 (tab 40 (λ k. rotatedCAt (now (row .entry)) (k / 8) (k % 8))) ⌝ }
-{
-    let mut k: usize = 0;
-    while k < 40 {
-        out[k] = rotated_c(row, k / 8, k % 8);
-        k += 1;
-    }
 }
 
 // D, of an active row: C of the column before, and the rotated C of the column after.

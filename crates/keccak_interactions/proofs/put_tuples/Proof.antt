@@ -8,13 +8,13 @@ use Rattle.keccak_interactions.proofs.put_tuples.Statement.{statement}
 use Rattle.keccak_interactions.proofs.put_tuples.Tie as tie
 
 abbrev Inv-loop : tie.InvT-loop
-Inv-loop row syscall out₀ at₀ i₀ out at i = Listed out₀ (coreTuple 24 syscall row) 84 out i at
+Inv-loop row syscall out₀ at₀ i₀ out at i = Listed out₀ 0 (coreTuple 24 syscall row) 84 out i at
 
 abbrev μ-loop : tie.MeasureT-loop
 μ-loop row syscall out₀ at₀ i₀ out at i = 84 - i
 
 loop-holds : tie.Need-loop-holds Inv-loop μ-loop
-loop-holds c = listed-none _ _ _
+loop-holds c = listed-none _ _ _ _
 
 put-tuple-requires : tie.Need-put-tuple-requires Inv-loop μ-loop
 put-tuple-requires c κs =

@@ -3,8 +3,8 @@ use native.Mathlib.Omega.{arith}
 use borrow.Author.Needs.{needs}
 use Rattle.scan.proofs.Scans.{within}
 use Rattle.keccak_rnd_lookups.proofs.Joins.{join, chi-none}
-use Rattle.round_scan.specs.Parts.{chiPart}
-use Rattle.round_chi_scan.proofs.Pi.{pi-of}
+use Rattle.round_groups.specs.Parts.{chiPart}
+use Rattle.round_groups.proofs.Pi.{pi-of}
 use Rattle.keccak_rnd_lookups.proofs.chi_part.Statement.{statement}
 use Rattle.keccak_rnd_lookups.proofs.chi_part.Tie as tie
 

@@ -5,7 +5,7 @@ use borrow.Author.Needs.{needs}
 use Rattle.lists.specs.First.{placeOf}
 use Rattle.scan.proofs.Scans.{within}
 use Rattle.scan.proofs.Groups.{group-here, group-later, group-last}
-use Rattle.round_scan.specs.Parts.{rotTuples, chiPart}
+use Rattle.round_groups.specs.Parts.{rotTuples, chiPart}
 use Rattle.keccak_rnd_lookups.proofs.Joins.{group-scan, rot-is, chi-is}
 use Rattle.keccak_rnd_lookups.proofs.rot_group_failure.Statement.{statement}
 use Rattle.keccak_rnd_lookups.proofs.rot_group_failure.Tie as tie

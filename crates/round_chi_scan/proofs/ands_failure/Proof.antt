@@ -7,8 +7,9 @@ use borrow.Author.Needs.{needs}
 use Rattle.lists.specs.First.{firstAt}
 use Rattle.scan.specs.Scan.{unmatched}
 use Rattle.round_scan.proofs.Lanes.{lane-hit, lane-clear, lane-start, lane-end, lane-lt}
-use Rattle.round_scan.specs.Parts.{andsTuples}
-use Rattle.round_chi_scan.proofs.Pi.{ands-same, pi-below}
+use Rattle.round_groups.specs.Parts.{andsTuples}
+use Rattle.round_chi_scan.proofs.Pi.{ands-same}
+use Rattle.round_groups.proofs.Pi.{pi-below}
 use Rattle.round_chi_scan.proofs.ands_failure.Statement.{statement}
 use Rattle.round_chi_scan.proofs.ands_failure.Tie as tie
 

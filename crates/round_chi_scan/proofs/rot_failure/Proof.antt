@@ -7,7 +7,7 @@ use borrow.Author.Needs.{needs}
 use Rattle.lists.specs.First.{firstAt}
 use Rattle.scan.specs.Scan.{unmatched}
 use Rattle.round_scan.proofs.Lanes.{lane-hit, lane-clear, lane-start, lane-end, lane-lt}
-use Rattle.round_scan.specs.Parts.{rotTuples}
+use Rattle.round_groups.specs.Parts.{rotTuples}
 use Rattle.round_scan.proofs.Tests.{rot-same}
 use Rattle.round_chi_scan.proofs.rot_failure.Statement.{statement}
 use Rattle.round_chi_scan.proofs.rot_failure.Tie as tie

@@ -7,8 +7,8 @@ use Rattle.lists.proofs.First.{at-nothing}
 use Rattle.lookup.specs.declared.Bus.the-variants.{ByteAlu}
 use Rattle.scan.specs.Scan.{unmatched}
 use Rattle.scan.proofs.Scans.{none-off}
-use Rattle.round_scan.specs.Parts.{dTuples}
-use Rattle.round_scan.proofs.Tests.{rotated-of}
+use Rattle.round_groups.specs.Parts.{dTuples}
+use Rattle.round_groups.proofs.Groups.{rotated-of}
 use Rattle.round_scan.proofs.theta.d_failure.Statement.{statement}
 use Rattle.round_scan.proofs.theta.d_failure.Tie as tie
 

@@ -7,7 +7,7 @@ use borrow.Author.Needs.{needs}
 use Rattle.lists.specs.First.{firstAt}
 use Rattle.scan.specs.Scan.{unmatched}
 use Rattle.round_scan.proofs.Lanes.{lane-hit, lane-clear, lane-start, lane-end, lane-lt}
-use Rattle.round_scan.specs.Parts.{dTuples}
+use Rattle.round_groups.specs.Parts.{dTuples}
 use Rattle.round_scan.proofs.Tests.{rotated-same}
 use Rattle.round_scan.proofs.theta.d_lanes.Statement.{statement}
 use Rattle.round_scan.proofs.theta.d_lanes.Tie as tie

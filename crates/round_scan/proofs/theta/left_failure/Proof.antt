@@ -7,7 +7,7 @@ use borrow.Author.Needs.{needs}
 use Rattle.lists.specs.First.{firstAt, placeOf}
 use Rattle.lists.proofs.First.{first-start, at-more, at-hit, at-none}
 use Rattle.scan.specs.Scan.{unmatched}
-use Rattle.round_scan.specs.Parts.{leftTuples}
+use Rattle.round_groups.specs.Parts.{leftTuples}
 use Rattle.round_scan.proofs.Tests.{left-same}
 use Rattle.round_scan.proofs.theta.left_failure.Statement.{statement}
 use Rattle.round_scan.proofs.theta.left_failure.Tie as tie

@@ -10,7 +10,7 @@ use Rattle.lookup.specs.declared.Bus.the-variants.{ByteAlu}
 use Rattle.scan.specs.Scan.{unmatched}
 use Rattle.scan.proofs.Scans.{none-off}
 use Rattle.round_scan.proofs.Lanes.{lane-hit, lane-clear, lane-start, lane-end, lane-lt}
-use Rattle.round_scan.specs.Parts.{parityTuples}
+use Rattle.round_groups.specs.Parts.{parityTuples}
 use Rattle.round_scan.proofs.Tests.{parity-same}
 use Rattle.round_scan.proofs.theta.parity_failure.Statement.{statement}
 use Rattle.round_scan.proofs.theta.parity_failure.Tie as tie

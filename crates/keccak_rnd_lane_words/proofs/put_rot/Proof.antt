@@ -1,0 +1,95 @@
+-- `keccak_rnd_lane_words::put_rot` meets its contract: after l turns the first l lanes are stored. Assumes nothing.
+use mathlib.Core.Path.{refl}
+use Prim.Native.Nat.{_+_, _-_, _*_}
+use native.Mathlib.Omega.{arith}
+use Rattle.lookup.proofs.Words.{Listed, listed-lane, listed-all}
+use Rattle.byte_tuples.proofs.Stored.{listed-start}
+use Rattle.round_groups.specs.Parts.{rotTuples}
+use Rattle.round_groups.proofs.Groups.{rot-lane}
+use Rattle.keccak_rnd_lane_words.proofs.put_rot.Statement.{statement}
+use Rattle.keccak_rnd_lane_words.proofs.put_rot.Tie as tie
+
+abbrev Inv-loop : tie.InvT-loop
+Inv-loop row out₀ at l₀ out l = Listed out₀ at (rotTuples row) 200 out (8 * l) (at + 48 * l)
+
+abbrev μ-loop : tie.MeasureT-loop
+μ-loop row out₀ at l₀ out l = 25 - l
+
+loop-holds : tie.Need-loop-holds Inv-loop μ-loop
+loop-holds c = listed-start _ _ _ _
+
+mul-put-bytes-lane : tie.Need-mul-put-bytes-lane Inv-loop μ-loop
+mul-put-bytes-lane c = omega arith
+
+add-put-bytes-lane : tie.Need-add-put-bytes-lane Inv-loop μ-loop
+add-put-bytes-lane c = omega arith
+
+mul-put-bytes-lane-2 : tie.Need-mul-put-bytes-lane-2 Inv-loop μ-loop
+mul-put-bytes-lane-2 c = omega arith
+
+add-put-bytes-lane-2 : tie.Need-add-put-bytes-lane-2 Inv-loop μ-loop
+add-put-bytes-lane-2 c = omega arith
+
+mul-put-bytes-lane-3 : tie.Need-mul-put-bytes-lane-3 Inv-loop μ-loop
+mul-put-bytes-lane-3 c = omega arith
+
+add-put-bytes-lane-3 : tie.Need-add-put-bytes-lane-3 Inv-loop μ-loop
+add-put-bytes-lane-3 c = omega arith
+
+mul-put-bytes-lane-4 : tie.Need-mul-put-bytes-lane-4 Inv-loop μ-loop
+mul-put-bytes-lane-4 c = omega arith
+
+add-put-bytes-lane-4 : tie.Need-add-put-bytes-lane-4 Inv-loop μ-loop
+add-put-bytes-lane-4 c = omega arith
+
+mul-put-bytes-lane-5 : tie.Need-mul-put-bytes-lane-5 Inv-loop μ-loop
+mul-put-bytes-lane-5 c = omega arith
+
+add-put-bytes-lane-5 : tie.Need-add-put-bytes-lane-5 Inv-loop μ-loop
+add-put-bytes-lane-5 c = omega arith
+
+put-bytes-lane-requires : tie.Need-put-bytes-lane-requires Inv-loop μ-loop
+put-bytes-lane-requires c κs = omega arith
+
+add-l : tie.Need-add-l Inv-loop μ-loop
+add-l c = omega arith
+
+loop-less : tie.Need-loop-less Inv-loop μ-loop
+loop-less c = omega arith
+
+loop-again : tie.Need-loop-again Inv-loop μ-loop
+loop-again c =
+    let put = c .before .before in
+    let in-loop = put .before .before in
+    let at-loop = in-loop .before in
+    listed-lane (at-loop .loop .inv) 8 2 _ (omega arith) (rot-lane _ _) (λ k. refl) (omega arith) (omega arith) (put .put-bytes-lane .ensures)
+
+same-length : tie.Need-same-length Inv-loop μ-loop
+same-length c = omega arith
+
+returns : tie.Need-returns Inv-loop μ-loop
+returns c = listed-all (c .before .loop .inv) (omega arith)
+
+pub put-rot-spec : {M : Type 1} → statement M
+put-rot-spec =
+    tie.close
+    (tie.spec
+    Inv-loop
+    μ-loop
+    loop-holds
+    mul-put-bytes-lane
+    add-put-bytes-lane
+    mul-put-bytes-lane-2
+    add-put-bytes-lane-2
+    mul-put-bytes-lane-3
+    add-put-bytes-lane-3
+    mul-put-bytes-lane-4
+    add-put-bytes-lane-4
+    mul-put-bytes-lane-5
+    add-put-bytes-lane-5
+    put-bytes-lane-requires
+    add-l
+    loop-less
+    loop-again
+    same-length
+    returns)
