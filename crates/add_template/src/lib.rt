@@ -45,7 +45,8 @@ pub fn add_pair_carry_hi(row: &[u64], lhs: AddOperand, rhs: AddOperand, sum: Add
     })
 }
 
-// Value `index` of the two of ADD: a carry is a bit. The condition is one column or none, as every caller here has it.
+// Value `index` of the two of ADD: a carry is a bit. The Rust takes any number of condition columns; the tables ported here
+// have one or none.
 pub fn emit_add_pair(
     row: &[u64],
     cond: Cond,

@@ -6,8 +6,8 @@
 --     numberOf       the answer of a call that gives a number
 --     overwrite      the new words, then the old words past them
 --     afterwards     what a lent slice holds after the call: the new words, or the old ones where it was refused
--- A call's checks are one definition of its arguments, an `Option Refusal`; its answer and the slices that it leaves are
--- both stated from that definition. Assumes nothing.
+-- A call's checks are one definition of its arguments, an `Option Refusal`; its answer and the slices that it leaves
+-- are both stated from that definition. Assumes nothing.
 use Prim.Native.Nat.{ℕ}
 use mathlib.Core.Bool.{Bool}
 use mathlib.Core.Option.{Option, none, some}
@@ -15,7 +15,8 @@ use mathlib.Core.List.{List, _++_}
 use lib.ListN.{length, drop}
 use Rattle.lists.specs.Tab.{pick}
 use Rattle.answer.specs.declared.Refusal.{Refusal}
-use Rattle.answer.specs.declared.Refusal.the-variants.{PastEnd, NotWhole, TooShort, HighAddress, NotElement, BadRecord}
+use Rattle.answer.specs.declared.Refusal.the-variants.{PastEnd, NotWhole, TooShort, HighAddress}
+use Rattle.answer.specs.declared.Refusal.the-variants.{NotElement, BadRecord}
 use Rattle.answer.specs.declared.Answer.{Answer}
 use Rattle.answer.specs.declared.Answer.the-variants.{Done, Refused}
 use Rattle.answer.specs.declared.Number.{Number}

@@ -13,8 +13,8 @@ use Rattle.answer.specs.declared.Refusal.{Refusal}
 use Rattle.answer.specs.declared.Refusal.the-variants.{PastEnd, TooShort}
 use Rattle.bitwise.specs.Columns.{NUM-ROWS, NUM-PRECOMPUTED-COLS, Z-END}
 
--- The eleven fixed columns of the row of X, Y and Z, in the order of Columns: X, Y, Z; AND, OR, XOR; the top bit of X and
--- of the halfword H = X + 256 Y; whether all three are 0; H · 2^Z mod 65,536 and H · 2^Z div 65,536.
+-- The eleven fixed columns of the row of X, Y and Z, in the order of Columns: X, Y, Z; AND, OR, XOR; the top bit of X
+-- and of the halfword H = X + 256 Y; whether all three are 0; H · 2^Z mod 65,536 and H · 2^Z div 65,536.
 unfoldable pub rowOfXYZ : ℕ → ℕ → ℕ → List ℕ
 rowOfXYZ x y z =
     x ∷ y ∷ z ∷ bitAnd x y ∷ bitOr x y ∷ bitXor x y ∷ x / 128 % 2 ∷ (x + y * 256) / 32768 % 2

@@ -1,6 +1,6 @@
--- The answers as a host sees them: an enum can't pass by C linkage, so each is a flat struct of words. `number` and `detail`
--- are those of the refusal, and both 0 where the call did its work; the other words are 0 where it was refused. Assumes
--- nothing.
+-- The answers as a host sees them: an enum can't pass by C linkage, so each is a flat struct of words. `number` and
+-- `detail` are those of the refusal, and both 0 where the call did its work; the other words are 0 where it was
+-- refused. Assumes nothing.
 use Prim.Native.Nat.{ℕ}
 use Rattle.answer.specs.Refusal.{refusalNumber, refusalDetail}
 use Rattle.answer.specs.declared.Refusal.{Refusal}
@@ -29,8 +29,24 @@ flatNumber (number.Refused r) = record { number = refusalNumber r; detail = refu
 
 -- a call that gives a tuple, whose values are in the lent slice
 unfoldable pub flatTuple : TupleAnswer → FlatTuple
-flatTuple (tuple.Is t) = record { number = 0; detail = 0; bus = busNumber (t .bus); side = sideNumber (t .side); length = t .length; multiplicity = t .multiplicity }
-flatTuple (tuple.Refused r) = record { number = refusalNumber r; detail = refusalDetail r; bus = 0; side = 0; length = 0; multiplicity = 0 }
+flatTuple (tuple.Is t) =
+    record {
+      number = 0;
+      detail = 0;
+      bus = busNumber (t .bus);
+      side = sideNumber (t .side);
+      length = t .length;
+      multiplicity = t .multiplicity;
+    }
+flatTuple (tuple.Refused r) =
+    record {
+      number = refusalNumber r;
+      detail = refusalDetail r;
+      bus = 0;
+      side = 0;
+      length = 0;
+      multiplicity = 0;
+    }
 
 -- a key, which is never refused
 unfoldable pub flatKey : IsWhKey → FlatKey

@@ -1,5 +1,6 @@
--- A reader of an operation file, and what it says at the end, as flat structs of words. Every struct is a reader: number 0 is
--- one that has met no fault; any other is one that has, and a number that no refusal has counts as 6. Assumes nothing.
+-- A reader of an operation file, and what it says at the end, as flat structs of words. Every struct is a reader:
+-- number 0 is one that has met no fault; any other is one that has, and a number that no refusal has counts as 6.
+-- Assumes nothing.
 use Prim.Native.Nat.{ℕ}
 use lib.Dec.{eqb}
 use Rattle.lists.specs.Tab.{pick}
@@ -24,11 +25,20 @@ refusalOf number detail =
     (BadRecord detail)))))
 
 unfoldable pub cursorOf : FlatCursor → Cursor
-cursorOf c = pick (eqb (c .number) 0) (cursor.Reading (c .records) (c .at) (c .address)) (cursor.Refused (refusalOf (c .number) (c .detail)))
+cursorOf c =
+    pick (eqb (c .number) 0) (cursor.Reading (c .records) (c .at) (c .address))
+    (cursor.Refused (refusalOf (c .number) (c .detail)))
 
 unfoldable pub flatCursor : Cursor → FlatCursor
 flatCursor (cursor.Reading n at addr) = record { number = 0; detail = 0; records = n; at = at; address = addr }
-flatCursor (cursor.Refused r) = record { number = refusalNumber r; detail = refusalDetail r; records = 0; at = 0; address = 0 }
+flatCursor (cursor.Refused r) =
+    record {
+      number = refusalNumber r;
+      detail = refusalDetail r;
+      records = 0;
+      at = 0;
+      address = 0;
+    }
 
 unfoldable pub flatTally : Tally → FlatTally
 flatTally (tally.Counted s) =

@@ -1,6 +1,6 @@
 -- Chains of round rows on the Keccak bus, wherever in the table the rows stand. Assumes nothing.
---     Linked     so many round rows, the first of which receives what a core row sends, each next one what the one before
---                it sends
+--     Linked     so many round rows, the first of which receives what a core row sends, each next one what the one
+--                before it sends
 --     Chain      24 of them, and the core row receives what the last one sends
 --     Chained    each active core row has a chain, and the active round rows are as many as the rows of these chains
 use mathlib.Core.Path.{_≡_}

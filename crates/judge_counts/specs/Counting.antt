@@ -12,7 +12,11 @@ use Rattle.judge_counts.specs.declared.Counts.{Counts}
 
 -- counts of rows that send and of rows that receive, with one row more
 unfoldable pub withRow : Counts → Bool → Bool → Counts
-withRow t sends receives = record { sent = pick sends (t .sent + 1) (t .sent); received = pick receives (t .received + 1) (t .received) }
+withRow t sends receives =
+    record {
+      sent = pick sends (t .sent + 1) (t .sent);
+      received = pick receives (t .received + 1) (t .received);
+    }
 
 -- the counts of the rows from `from` on and before n, where f says which rows send and g which receive
 pub record Counted (f g : ℕ → Bool) (from n : ℕ) (t : Counts) : Type 0 where

@@ -1,5 +1,5 @@
--- What each call that writes core rows leaves in the slice that it is lent: the new words and then the old ones past them,
--- or, where it is refused (Refusals.antt), the old ones. Assumes nothing.
+-- What each call that writes core rows leaves in the slice that it is lent: the new words and then the old ones past
+-- them, or, where it is refused (Refusals.antt), the old ones. Assumes nothing.
 use Prim.Native.Nat.{ℕ}
 use mathlib.Core.List.{List}
 use lib.ListN.{length}
@@ -10,7 +10,8 @@ use Rattle.keccak.specs.Refusals.{opCount, rowRefusal, traceRefusal, key
 
 -- `keccak_row`: the row of operation `index` of a list
 abbrev pub coreRowAfter : List ℕ → ℕ → List ℕ → List ℕ
-coreRowAfter ops index row = afterwards (rowRefusal (length row) ops index) (overwrite (coreRow (opAt ops index)) row) row
+coreRowAfter ops index row =
+    afterwards (rowRefusal (length row) ops index) (overwrite (coreRow (opAt ops index)) row) row
 
 -- `generate_keccak_trace`: the table of a list
 abbrev pub coreTraceAfter : List ℕ → List ℕ → List ℕ

@@ -2,7 +2,8 @@
 --     tooMany, notWhole, tooShort, tooHigh   one check each, followed by the checks after it
 --     operationsRefusal                      the checks of a call that takes a list and a slice to write to
 --     traceRefusal, keysRefusal, rowRefusal, countRefusal   the checks of each call of the core table
--- A call that takes an index too puts its check between `tooMany` and `notWhole`: "in number order, then argument order".
+-- A call that takes an index too puts its check between `tooMany` and `notWhole`: "in number order, then argument
+-- order".
 use Prim.Native.Nat.{ℕ, _+_, _*_, _/_, _%_}
 use mathlib.Core.Bool.{Bool, not}
 use mathlib.Core.Option.{Option}

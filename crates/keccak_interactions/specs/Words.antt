@@ -15,4 +15,5 @@ NUM-WORDS = 1457
 -- what `bus_interactions` leaves in the slice that it is lent: the row is refused as by a call for its values
 abbrev pub coreTuplesAfter : ℕ → List ℕ → List ℕ → List ℕ
 coreTuplesAfter syscall row out =
-    afterwards (valuesRefusal NUM-COLUMNS NUM-WORDS row (length out)) (overwrite (tuplesWords (coreTuple 24 syscall row) NUM-TUPLES) out) out
+    afterwards (valuesRefusal NUM-COLUMNS NUM-WORDS row (length out))
+    (overwrite (tuplesWords (coreTuple 24 syscall row) NUM-TUPLES) out) out

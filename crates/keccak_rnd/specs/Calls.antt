@@ -1,5 +1,5 @@
--- What each call that writes round rows leaves in the slice that it is lent: the new words and then the old ones past them,
--- or, where it is refused (Refusals.antt), the old ones. Assumes nothing.
+-- What each call that writes round rows leaves in the slice that it is lent: the new words and then the old ones past
+-- them, or, where it is refused (Refusals.antt), the old ones. Assumes nothing.
 use Prim.Native.Nat.{ℕ}
 use mathlib.Core.List.{List}
 use lib.ListN.{length}
@@ -15,9 +15,11 @@ use Rattle.keccak_rnd.specs.Refusals.{rowRefusal, traceRefusal}
 -- `keccak_rnd_row`: the row of a round, START being the first 25 words of `start`
 abbrev pub roundRowAfter : ℕ → List ℕ → ℕ → List ℕ → List ℕ
 roundRowAfter timestamp start round row =
-    afterwards (rowRefusal round start row) (overwrite (roundRow (wordAt timestamp) round (tab 25 (word start))) row) row
+    afterwards (rowRefusal round start row)
+    (overwrite (roundRow (wordAt timestamp) round (tab 25 (word start))) row) row
 
 -- `generate_keccak_rnd_trace`: the table of a list
 abbrev pub roundTraceAfter : List ℕ → List ℕ → List ℕ
 roundTraceAfter ops table =
-    afterwards (traceRefusal (length table) ops) (overwrite (roundTable 24 MIN-ROWS (opCount ops) (opAt ops)) table) table
+    afterwards (traceRefusal (length table) ops)
+    (overwrite (roundTable 24 MIN-ROWS (opCount ops) (opAt ops)) table) table

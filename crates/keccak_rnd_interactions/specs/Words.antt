@@ -15,4 +15,5 @@ NUM-WORDS = 8211
 -- what `bus_interactions` leaves in the slice that it is lent: the row is refused as by a call for its values
 abbrev pub roundTuplesAfter : List ℕ → List ℕ → List ℕ
 roundTuplesAfter row out =
-    afterwards (valuesRefusal NUM-COLUMNS NUM-WORDS row (length out)) (overwrite (tuplesWords (roundTuple row) NUM-TUPLES) out) out
+    afterwards (valuesRefusal NUM-COLUMNS NUM-WORDS row (length out))
+    (overwrite (tuplesWords (roundTuple row) NUM-TUPLES) out) out

@@ -6,8 +6,8 @@ use lib.Dec.{eqb}
 use Rattle.lists.specs.Tab.{pick, word}
 use Rattle.keccak.specs.Columns.{laneColumn}
 
--- word k of the lanes of one x, 8 words to a lane, of which the first stands from column `from` on and the next 40 columns
--- further
+-- word k of the lanes of one x, 8 words to a lane, of which the first stands from column `from` on and the next 40
+-- columns further
 unfoldable pub laneWord : List ℕ → ℕ → ℕ → ℕ
 laneWord row from k = word row (from + k / 8 * 40 + k % 8)
 

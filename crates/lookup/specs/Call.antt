@@ -19,8 +19,8 @@ use Rattle.lookup.specs.declared.TupleAnswer.the-variants.{Is, Refused}
 abbrev pub interactionOf : Tuple → BusInteraction
 interactionOf t = record { bus = t .bus; side = t .side; length = length (t .values); multiplicity = t .multiplicity }
 
--- the checks: 1 for the index; 3 for the row, then for the slice of `room` words that takes the `size` values; 5 for the
--- first column that is p or more
+-- the checks: 1 for the index; 3 for the row, then for the slice of `room` words that takes the `size` values; 5 for
+-- the first column that is p or more
 unfoldable pub sizedRefusal : ℕ → ℕ → List ℕ → ℕ → ℕ → ℕ → Option Refusal
 sizedRefusal width count row i size room =
     refuseIf (leb count i) (PastEnd count)

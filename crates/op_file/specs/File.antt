@@ -52,8 +52,8 @@ abbrev pub addressOf : List ℕ → ℕ
 addressOf r = recordWord r 1
 
 -- ---- faults
--- what is wrong with a record: it is the i-th, starts at byte `at` of the file, and its bytes are r. 1 as soon as any byte
--- follows the last record that a file may have; then 6, then 4
+-- what is wrong with a record: it is the i-th, starts at byte `at` of the file, and its bytes are r. 1 as soon as any
+-- byte follows the last record that a file may have; then 6, then 4
 unfoldable pub faultOf : ℕ → ℕ → List ℕ → Option Refusal
 faultOf i at r =
     refuseIf (leb MAX-OPS i) (PastEnd (MAX-OPS + 1))
@@ -76,8 +76,8 @@ unfoldable pub fileWords : List ℕ → List ℕ
 fileWords file = tableOf (length (recordsOf file)) OP-WORDS (λ i. operationWords (drop (i * RECORD-BYTES) file))
 
 -- ---- the sums
--- "the sum of multiplicities that both tables send (Ecall: receive)" on a bus, of the tables of n operations as they are
--- written; an empty file's tables are not shipped. No multiplicity depends on the syscall number.
+-- "the sum of multiplicities that both tables send (Ecall: receive)" on a bus, of the tables of n operations as they
+-- are written; an empty file's tables are not shipped. No multiplicity depends on the syscall number.
 unfoldable pub total : ℕ → Side → Bus → ℕ → (ℕ → KeccakOperation) → ℕ
 total syscall s b n op =
     pick (eqb n 0) 0 (coreTableSum s b 24 syscall MIN-ROWS n op + roundTableSum s b 24 MIN-ROWS n op)

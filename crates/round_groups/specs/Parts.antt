@@ -1,4 +1,5 @@
--- The groups of a round row's tuples, the parts in which they are scanned and written, and the bytes that are computed first. Assumes nothing.
+-- The groups of a round row's tuples, the parts in which they are scanned and written, and the bytes that are computed
+-- first. Assumes nothing.
 use Prim.Native.Nat.{ℕ, _/_, _%_, _≤_, _<_}
 use mathlib.Core.Path.{_≡_}
 use mathlib.Core.List.{List}
@@ -7,8 +8,8 @@ use Rattle.lists.specs.Tab.{then, word}
 use Rattle.field.specs.Field.{fsub}
 use Rattle.lookup.specs.Tuple.{Tuple}
 use Rattle.keccak.specs.Columns.{byXYB}
-use Rattle.keccak_rnd.specs.Tuples.{rotatedCAt, piAt, rcTuple, cxzTuple0, cxzTuple, cxzLeftTuple, dxzTuple, thetaTuple, rotTuple}
-use Rattle.keccak_rnd.specs.Tuples.{chiAndsTuple, chiTuple, iotaTuple}
+use Rattle.keccak_rnd.specs.Tuples.{rotatedCAt, piAt, rcTuple, cxzTuple0, cxzTuple, cxzLeftTuple, dxzTuple}
+use Rattle.keccak_rnd.specs.Tuples.{thetaTuple, rotTuple, chiAndsTuple, chiTuple, iotaTuple}
 
 -- ---- the groups, by index
 unfoldable pub rcTuples : List ℕ → ℕ → Tuple

@@ -1,9 +1,10 @@
 -- What a scan of a row's lookups looks for, and how the scans of its groups are joined. Assumes nothing.
 --     unmatched      tuple i of a list of tuples needs a match and has none
---     aluOff         no operation on two bytes gives c: the test on the values alone
+--     aluOff         a and b are not both bytes, or op of them is not c: the test on the values alone
 --     bytesOff       not both are bytes
 --     afterPlace     the answer of a scan of n, or else of the scan behind it
--- A row's tuples are scanned in groups, one behind the other, that end at each of some indices and, the last of them, at n:
+-- A row's tuples are scanned in groups, one behind the other, that end at each of some indices and, the last of them, at
+-- n:
 --     from           a test, from index a on
 --     groupEnd       where the group of index i ends
 --     firstOfGroup   the lowest index in the group of index i at which a test passes; a is where the first group begins

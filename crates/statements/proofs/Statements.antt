@@ -1,7 +1,7 @@
--- The statements of the project on one page, each beside the sentence that asks for it. Each is proved in the crate that
--- it is about and only cited here, so what a reader reads is what the gate has checked. Assumes nothing.
--- Not here: demand 1, and "tables, values, tuples, counts and verdict match definitions", are the contracts of the calls
--- (docs/PROOFS.md).
+-- The statements of the project on one page, each beside the sentence that asks for it. Each is proved in the crate
+-- that it is about and only cited here, so what a reader reads is what the gate has checked. Assumes nothing.
+-- Not here: demand 1, and "tables, values, tuples, counts and verdict match definitions", are the contracts of the
+-- calls (docs/PROOFS.md).
 --     Lanes s            the 25 words of s are below 2^64
 --     bits s, Agree      their 1,600 bits as FIPS 202's state array; two such arrays have the same bits
 --     roundRow t r s     the row that is written for timestamp words t 0 and t 1, round r and the lanes s of START
@@ -66,7 +66,8 @@ use Rattle.op_file.proofs.Cases as file
 use Rattle.op_file.proofs.Laws.{reads-pieces}
 use Rattle.judge.proofs.Tied.{Answered, Wrote, holds-answered, ours-written, written-answers}
 
--- ---- demand 3: "Suppose a core table, whoever filled it, passes its constraints and lookups .." (verdict/specs/Claims.antt)
+-- ---- demand 3: "Suppose a core table, whoever filled it, passes its constraints and lookups .."
+-- (verdict/specs/Claims.antt)
 pub the-demand : (core : List ℕ) → Supposed core → Claims core
 the-demand = demand3
 
@@ -79,13 +80,15 @@ some-hold = witness-holds
 
 -- "the first failure in this order .. lowest row, then lowest index": the verdict is an answer exactly where `Says`
 -- (verdict/specs/Failures.antt) has it
-pub each-answer : (core round : List ℕ) (v : Verdict) → (verdictOf core round ≡ v) ↔ Says (coreKind 24) roundKind core round v
+pub each-answer : (core round : List ℕ) (v : Verdict) →
+    (verdictOf core round ≡ v) ↔ Says (coreKind 24) roundKind core round v
 each-answer = verdict-says 24
 
 -- ---- demand 2
--- "a written round row takes START through that round of FIPS 202": the lanes that it was written for are its START, and
--- what it sends on is the round of them
-pub written-start : (stamp : ℕ → ℕ) (r : ℕ) (s : List ℕ) → Lanes s → length s ≡ 25 → stateLanes START (roundRow stamp r s) ≡ s
+-- "a written round row takes START through that round of FIPS 202": the lanes that it was written for are its START,
+-- and what it sends on is the round of them
+pub written-start : (stamp : ℕ → ℕ) (r : ℕ) (s : List ℕ) → Lanes s → length s ≡ 25 →
+    stateLanes START (roundRow stamp r s) ≡ s
 written-start stamp r s h = start-state (roundRow stamp r s) r s h (written-cells stamp r s)
 
 pub written-round : (stamp : ℕ → ℕ) (r : ℕ) (s : List ℕ) → Lanes s → r < 24 →
@@ -93,7 +96,8 @@ pub written-round : (stamp : ℕ → ℕ) (r : ℕ) (s : List ℕ) → Lanes s �
 written-round stamp r s h l = round-fips (roundRow stamp r s) r s h (written-cells stamp r s) l
 
 -- "24 make Keccak-f[1600]": of the rows 24 i .. 24 i + 23 of the written table, which are those of operation i
-module _ (n : ℕ) (op : ℕ → KeccakOperation) (i : ℕ) (below : i < n) (lanes : Lanes ((op i) .input)) (size : length ((op i) .input) ≡ 25) where
+module _ (n : ℕ) (op : ℕ → KeccakOperation) (i : ℕ) (below : i < n)
+    (lanes : Lanes ((op i) .input)) (size : length ((op i) .input) ≡ 25) where
   abbrev row-of : ℕ → List ℕ
   row-of j = rowAt 1480 (roundTable 24 4 n op) (i * 24 + j)
 
@@ -102,20 +106,22 @@ module _ (n : ℕ) (op : ℕ → KeccakOperation) (i : ℕ) (below : i < n) (lan
   table-first = table-start n op 4 i below lanes size 0 (omega arith)
 
   pub table-next : (j : ℕ) → suc j < 24 → stateLanes START (row-of (suc j)) ≡ outLanes (row-of j)
-  table-next j l = table-start n op 4 i below lanes size (suc j) l ∙ sym (table-step n op 4 i below lanes j (omega arith))
+  table-next j l =
+      table-start n op 4 i below lanes size (suc j) l ∙ sym (table-step n op 4 i below lanes j (omega arith))
 
   -- and the last sends on Keccak-f[1600] of the input
   pub table-last : Agree (bits (outLanes (row-of 23))) (keccakF (bits ((op i) .input)))
   table-last = table-fips n op 4 i below lanes
 
--- "the sum of multiplicities that both tables send (Ecall: receive)": what `tally` answers when a file is fed to it in pieces and
--- finished is the first fault, or these sums over the tables as written (`tallyOf`, op_file/specs/File.antt)
+-- "the sum of multiplicities that both tables send (Ecall: receive)": what `tally` answers when a file is fed to it in
+-- pieces and finished is the first fault, or these sums over the tables as written (`tallyOf`, op_file/specs/File.antt)
 pub tally-sums : (syscall : ℕ) (a b : List ℕ) → finishOf (feedOf (feedOf start a) b) ≡ tallyOf syscall (a ++ b)
 tally-sums = reads-pieces
 
--- "Each refusal comes on its listed condition only": a call that takes a list and needs so many words is refused by none of its checks
--- exactly where none of the four conditions is met
-pub none-refused : (room needed : ℕ) (ops : List ℕ) → (operationsRefusal room needed ops ≡ accepted) ↔ Acceptable room needed ops
+-- "Each refusal comes on its listed condition only": a call that takes a list and needs so many words is refused by none
+-- of its checks exactly where none of the four conditions is met
+pub none-refused : (room needed : ℕ) (ops : List ℕ) →
+    (operationsRefusal room needed ops ≡ accepted) ↔ Acceptable room needed ops
 none-refused = accepted-is
 
 -- only one way to fill it: an active round row that passes is the written one, in all its words
@@ -161,11 +167,16 @@ pub case-bitwise-last : (word (bitwiseRow 1048575) SLL ≡ 32768) × (word (bitw
 case-bitwise-last = row-1048575
 
 -- "Round heights for n = 0, 1, 2,730, 2,731: 4, 32, 65,536, 131,072."
-pub case-heights : (roundHeight 24 4 0 ≡ 4) × (roundHeight 24 4 1 ≡ 32) × (roundHeight 24 4 2730 ≡ 65536) × (roundHeight 24 4 2731 ≡ 131072)
+pub case-heights :
+    (roundHeight 24 4 0 ≡ 4)
+    × (roundHeight 24 4 1 ≡ 32)
+    × (roundHeight 24 4 2730 ≡ 65536)
+    × (roundHeight 24 4 2731 ≡ 131072)
 case-heights = heights
 
 -- "`padding_are_bytes` 0, 1, 2: 0, 1,760, 3,520."
-pub case-padding : (padding-are-bytes 24 4 0 ≡ 0) × (padding-are-bytes 24 4 1 ≡ 1760) × (padding-are-bytes 24 4 2 ≡ 3520)
+pub case-padding :
+    (padding-are-bytes 24 4 0 ≡ 0) × (padding-are-bytes 24 4 1 ≡ 1760) × (padding-are-bytes 24 4 2 ≡ 3520)
 case-padding = paddings
 
 -- "2^32 × `INV_SHIFT_32` mod p is 1."
@@ -173,11 +184,14 @@ pub case-inverse : 2 ^ 32 * INV-SHIFT-32 % p ≡ 1
 case-inverse = inv-shift-32
 
 -- "Address 18446744073709551423 accepted; next refused by 4.": of a list of one operation, with any other words
-module _ (timestamp : ℕ) (input output : List ℕ) (in-size : length input ≡ 25) (out-size : length output ≡ 25) (room needed : ℕ) (fits : needed ≤ room) where
+module _ (timestamp : ℕ) (input output : List ℕ) (in-size : length input ≡ 25) (out-size : length output ≡ 25)
+    (room needed : ℕ) (fits : needed ≤ room) where
   pub case-highest : operationsRefusal room needed (timestamp ∷ 18446744073709551423 ∷ (input ++ output)) ≡ accepted
   case-highest = highest-accepted timestamp input output in-size out-size room needed fits
 
-  pub case-next : operationsRefusal room needed (timestamp ∷ 18446744073709551424 ∷ (input ++ output)) ≡ some (HighAddress 18446744073709551424)
+  pub case-next :
+      operationsRefusal room needed (timestamp ∷ 18446744073709551424 ∷ (input ++ output))
+      ≡ some (HighAddress 18446744073709551424)
   case-next = next-refused timestamp input output in-size out-size room needed fits
 
 -- the same of a record of an operation file
@@ -213,9 +227,11 @@ case-one-record = file.one-record
 pub case-too-many : (at : ℕ) (r : List ℕ) → faultOf 89478485 at r ≡ some (PastEnd 89478486)
 case-too-many = file.one-too-many
 
--- "Two core rows share a timestamp, outputs exchanged, otherwise honest: the verdict names the timestamp.": a row that repeats one
+-- "Two core rows share a timestamp, outputs exchanged, otherwise honest: the verdict names the timestamp.": a row that
+-- repeats one
 pub case-timestamp : (core round : List ℕ) → ToRepeat (coreKind 24) roundKind core round → (q r : ℕ) → q < r →
-    Active coreLayout core q → Active coreLayout core r → SameTimestamp (row coreLayout core q) (row coreLayout core r) →
+    Active coreLayout core q → Active coreLayout core r →
+    SameTimestamp (row coreLayout core q) (row coreLayout core r) →
     (s : ℕ) × (s ≤ r) × RepeatsAt coreLayout core s × (verdictOf core round ≡ Repeated s)
 case-timestamp = timestamp-twice (coreKind 24) roundKind
 
@@ -227,26 +243,35 @@ pub case-late-passes : (stamp : ℕ → ℕ) (s : List ℕ) → Lanes s →
     × (word (roundRow stamp 24 s) MU ≡ 1)
 case-late-passes stamp s h =
     let w = written-cells stamp 24 s in
-    let none : (b : ℕ) → byteAt (roundConstant 24) b ≡ 0 = λ b. ap (λ (c : ℕ). byteAt c b) (constant-past 24 (omega arith)) ∙ ap (λ (n : ℕ). n % 256) (zero-div (2 ^ (8 * b))) in
+    let none : (b : ℕ) → byteAt (roundConstant 24) b ≡ 0 =
+    λ b.
+    ap (λ (c : ℕ). byteAt c b) (constant-past 24 (omega arith))
+    ∙ ap (λ (n : ℕ). n % 256) (zero-div (2 ^ (8 * b))) in
     (round-written stamp 24 s h (omega arith), w .round-is, (λ b l. w .rc-is b l ∙ none b), w .mu-is)
 
 -- ".. and the bus is unbalanced.": in tables whose earlier checks find nothing
-pub case-late : (core round : List ℕ) → ToCoreBalance (coreKind 24) roundKind core round → (q : ℕ) → Active roundLayout round q →
+pub case-late : (core round : List ℕ) → ToCoreBalance (coreKind 24) roundKind core round →
+    (q : ℕ) → Active roundLayout round q →
     24 ≤ word (row roundLayout round q) ROUND →
     (r i : ℕ) × ((verdictOf core round ≡ Unbalanced Core r i) ⊎ (verdictOf core round ≡ Unbalanced Round r i))
 case-late = late-row 24
 
 -- ---- the code's tie to demand 3 (judge/proofs/Tied.antt: `Answered` and `Wrote` are the two contracts' words)
--- "exactly for such a round table the verdict is 'holds' with the number of active core rows": of what `verdict` answers
+-- "exactly for such a round table the verdict is 'holds' with the number of active core rows": of what `verdict`
+-- answers
 module _ (core : List ℕ) (supposed : Supposed core) where
-  pub code-holds : (round : List ℕ) (v : Verdict) → Answered core round v → (v ≡ Holds (actives coreLayout core)) ↔ Answers 24 core round
+  pub code-holds : (round : List ℕ) (v : Verdict) → Answered core round v →
+      (v ≡ Holds (actives coreLayout core)) ↔ Answers 24 core round
   code-holds = holds-answered core supposed
 
   -- "the table our writer makes from the active core rows is one of them": of what `generate_keccak_rnd_trace` writes
-  pub code-writes : (before after : List ℕ) → length before ≡ length (ourRounds 24 4 core) → Wrote (operations core) before after →
+  pub code-writes : (before after : List ℕ) → length before ≡ length (ourRounds 24 4 core) →
+      Wrote (operations core) before after →
       after ≡ ourRounds 24 4 core
   code-writes = ours-written core supposed
 
-  pub code-answers : EachActive (Computed 24) core → (before after : List ℕ) → length before ≡ length (ourRounds 24 4 core) →
-      Wrote (operations core) before after → (v : Verdict) → Answered core after v → Answers 24 core after × (v ≡ Holds (actives coreLayout core))
+  pub code-answers : EachActive (Computed 24) core →
+      (before after : List ℕ) → length before ≡ length (ourRounds 24 4 core) → Wrote (operations core) before after →
+      (v : Verdict) → Answered core after v →
+      Answers 24 core after × (v ≡ Holds (actives coreLayout core))
   code-answers = written-answers core supposed

@@ -22,11 +22,25 @@ roundLayout = record { width = round.NUM-COLUMNS; mu = round.MU }
 -- "52 values per core row", "84 per core row". The syscall number, here 0, stands in the Ecall tuple only, which is
 -- not looked up; nr stands in the Keccak tuple that a core row sends, at round 24 - nr.
 abbrev pub coreKind : ℕ → Kind
-coreKind nr = record { layout = coreLayout; values = CORE-VALUES; value = coreValue; tuples = CORE-TUPLES; tuple = coreTuple nr 0 }
+coreKind nr =
+    record {
+      layout = coreLayout;
+      values = CORE-VALUES;
+      value = coreValue;
+      tuples = CORE-TUPLES;
+      tuple = coreTuple nr 0;
+    }
 
 -- "141 per round row", "1,031 per round row"
 abbrev pub roundKind : Kind
-roundKind = record { layout = roundLayout; values = ROUND-VALUES; value = roundValue; tuples = ROUND-TUPLES; tuple = roundTuple }
+roundKind =
+    record {
+      layout = roundLayout;
+      values = ROUND-VALUES;
+      value = roundValue;
+      tuples = ROUND-TUPLES;
+      tuple = roundTuple;
+    }
 
 -- the verdict on a core table and a round table for nr rounds
 abbrev pub verdictAt : ℕ → List ℕ → List ℕ → Verdict

@@ -1,4 +1,4 @@
--- `keccak_rnd::keccak_rnd_height` meets its contract: the check, then the height. Assumes nothing.
+-- `keccak_rnd_trace::keccak_rnd_height` meets its contract: the check, then the height. Assumes nothing.
 use mathlib.Core.Path.{_≡_, refl, sym, ap, _∙_}
 use Prim.Native.Nat.{ℕ, _+_, _-_, _*_, _≤_, _<_}
 use native.Mathlib.Omega.{arith}

@@ -1,4 +1,4 @@
--- `keccak_rnd::padding_are_bytes` meets its contract: the check, then the rows past the operations'. Assumes nothing.
+-- `keccak_rnd_trace::padding_are_bytes` meets its contract: the check, then the rows past the operations'. Assumes nothing.
 use mathlib.Core.Path.{_≡_, refl, sym, ap, _∙_}
 use Prim.Native.Nat.{ℕ, _+_, _-_, _*_, _≤_, _<_}
 use native.Mathlib.Omega.{arith}
