@@ -1,11 +1,11 @@
 -- What the search for chains cites. Assumes nothing.
-use mathlib.Core.Path.{_≡_, refl, sym, ap, subst, _∙_}
+use mathlib.Core.Path.{_≡_, refl, sym, subst, _∙_}
 use mathlib.Core.Logic.{inl, inr}
 use mathlib.Core.Bool.{true, false}
 use mathlib.Core.List.{List}
-use Prim.Native.Nat.{ℕ, _+_, _-_, _%_, _≤_, _<_}
+use Prim.Native.Nat.{ℕ, _+_, _≤_, _<_}
 use native.Mathlib.Numerals.{add-one}
-use native.Mathlib.Nat.{eq-or-lt-of-le, le-of-suc-le-suc, mod-lt, mod-eq-of-lt, add-mod-right}
+use native.Mathlib.Nat.{eq-or-lt-of-le, le-of-suc-le-suc}
 use native.Mathlib.Omega.{arith}
 use Rattle.lists.proofs.Tests.{T-of, true-not-false}
 use Rattle.lists.specs.declared.Place.{Place}
@@ -14,44 +14,18 @@ use Rattle.bus.specs.Words.{wordsTest}
 use Rattle.bus.proofs.Words.{words-sound}
 use Rattle.verdict.specs.Kind.{rows, row, active}
 use Rattle.verdict.specs.CoreAndRound.{coreLayout, roundLayout}
-use Rattle.verdict.proofs.Judge.{is-active, active-is}
+use Rattle.verdict.proofs.Judge.{is-active}
 use Rattle.judge_tuples.specs.Port.{tupleOf}
-use Rattle.judge_tuples.specs.declared.Port.the-variants.{CoreReceive, RoundReceive, RoundSend}
-use Rattle.judge_links.specs.Even.{owedBy, Started}
-use Rattle.judge_chains.specs.Chain.{Follows, Linked, Chain, EachChain, Found}
+use Rattle.judge_tuples.specs.declared.Port.the-variants.{CoreReceive, RoundSend}
+use Rattle.judge_links.specs.Even.{Started}
+use Rattle.chains.specs.Chain.{Follows, Linked, Chain, EachChain, Found}
+use Rattle.chains.proofs.Found.{found-at, found-is}
 
--- ---- rows counted round the end
-pub rest-of : (x n : ℕ) → n ≤ x → x < n + n → x - n ≡ x % n
-rest-of x n l h =
-    let e : x - n + n ≡ x = omega arith in
-    sym (ap (λ (k : ℕ). k % n) (sym e) ∙ add-mod-right (x - n) n ∙ mod-eq-of-lt (omega arith))
-
-pub around-in : (x n k r : ℕ) → k < n → r ≡ x % n → r < n
-around-in x n k r l e = subst (λ (m : ℕ). m < n) (sym e) (mod-lt x (omega arith))
-
--- ---- what a search found
-module _ (P : ℕ → Type 0) where
-  pub found-nowhere : Found P Nowhere
-  unfolding Found
-  found-nowhere = tt
-
-  pub found-at : (k : ℕ) → P k → Found P (At k)
-  unfolding Found
-  found-at k h = h
-
-  pub found-is : (p : Place) (k : ℕ) → p ≡ At k → Found P p → P k
-  unfolding Found
-  found-is p k e h = subst (Found P) e h
-
+-- ---- the rows of a chain
 at-same : (q r : ℕ) → At q ≡ At r → q ≡ r
 at-same q r e = cc
 
--- ---- the rows of a chain
 module _ (core : List ℕ) (a : ℕ) (round : List ℕ) where
-  pub follows : (last : Place) (q : ℕ) → q < rows roundLayout round → active roundLayout round q ≡ true →
-      wordsTest (owedBy core a round last) (tupleOf RoundReceive (row roundLayout round q)) ≡ true → Follows core a round last q
-  follows last q l e t = record { active = active-is roundLayout round q l e; receives = words-sound _ _ (T-of _ t) }
-
   -- so many rows follow one another, and the search for the next one begins at row q
   pub record Rows (n : ℕ) (last : Place) (q : ℕ) : Type 0 where
     pub started : Started round last

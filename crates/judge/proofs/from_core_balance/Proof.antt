@@ -6,7 +6,7 @@ use Rattle.verdict.specs.declared.Verdict.the-variants.{Holds}
 use Rattle.verdict.proofs.Judge.{balanced-scan}
 use Rattle.verdict.proofs.Stages.{passes, answers}
 use Rattle.judge_scan.proofs.Scan.{spot-at, spot-nowhere}
-use Rattle.judge_chains.proofs.Balance.{chained-balanced}
+use Rattle.chains.proofs.Balance.{chained-balanced}
 use Rattle.judge.proofs.from_core_balance.Statement.{statement}
 use Rattle.judge.proofs.from_core_balance.Tie as tie
 

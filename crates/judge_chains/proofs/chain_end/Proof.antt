@@ -2,7 +2,8 @@
 use mathlib.Core.Path.{sym, _∙_}
 use native.Mathlib.Omega.{arith}
 use borrow.Author.Needs.{needs}
-use Rattle.judge_chains.proofs.Search.{found-nowhere, found-at, found-is, last-in, ends-chain}
+use Rattle.chains.proofs.Found.{found-nowhere, found-at, found-is}
+use Rattle.judge_chains.proofs.Search.{last-in, ends-chain}
 use Rattle.judge_chains.proofs.chain_end.Statement.{statement}
 use Rattle.judge_chains.proofs.chain_end.Tie as tie
 

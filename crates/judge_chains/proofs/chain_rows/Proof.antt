@@ -3,7 +3,8 @@ use mathlib.Core.Path.{refl}
 use Prim.Native.Nat.{_≤_, _-_}
 use native.Mathlib.Omega.{arith}
 use borrow.Author.Needs.{needs}
-use Rattle.judge_chains.proofs.Search.{found-nowhere, found-is, Rows, rows-start, rows-next, rows-end}
+use Rattle.chains.proofs.Found.{found-nowhere, found-is}
+use Rattle.judge_chains.proofs.Search.{Rows, rows-start, rows-next, rows-end}
 use Rattle.judge_chains.proofs.chain_rows.Statement.{statement}
 use Rattle.judge_chains.proofs.chain_rows.Tie as tie
 

@@ -1,11 +1,11 @@
--- `judge_chains::is_next` meets its contract: a row that it takes was tested. Assumes nothing.
+-- `judge_next::is_next` meets its contract: a row that it takes was tested. Assumes nothing.
 use mathlib.Core.Path.{sym, _∙_}
 use native.Mathlib.Omega.{arith}
 use borrow.Author.Tests.{not-false}
 use Rattle.lists.proofs.Tests.{true-not-false}
-use Rattle.judge_chains.proofs.Search.{follows}
-use Rattle.judge_chains.proofs.is_next.Statement.{statement}
-use Rattle.judge_chains.proofs.is_next.Tie as tie
+use Rattle.judge_next.proofs.Next.{follows}
+use Rattle.judge_next.proofs.is_next.Statement.{statement}
+use Rattle.judge_next.proofs.is_next.Tie as tie
 
 mul-if1 : tie.Need-mul-if1
 mul-if1 c = omega arith

@@ -34,8 +34,8 @@ use Rattle.judge_tuples.specs.declared.Port.the-variants.{CoreSend, CoreReceive
 use Rattle.judge_tuples.proofs.Ports.{tuple-is}
 use Rattle.judge_links.specs.Even.{carries, Even, owedBy}
 use Rattle.judge_links.proofs.Even.{even-to}
-use Rattle.judge_chains.specs.Chain.{Follows, Linked, Chain, EachChain, Chained}
-use Rattle.judge_chains.proofs.Counts.{count-none, count-put, count-full}
+use Rattle.chains.specs.Chain.{Follows, Linked, Chain, EachChain, Chained}
+use Rattle.chains.proofs.Counts.{count-none, count-put, count-full}
 
 -- ---- the words of a tuple that name its place in a chain
 module _ (s : Port) (x : List ℕ) where

@@ -1,9 +1,10 @@
--- `judge_chains::next_row` meets its contract: the row that it answers was tested. Assumes nothing.
+-- `judge_next::next_row` meets its contract: the row that it answers was tested. Assumes nothing.
 use Prim.Native.Nat.{_-_}
 use native.Mathlib.Omega.{arith}
-use Rattle.judge_chains.proofs.Search.{around-in, found-nowhere, found-at}
-use Rattle.judge_chains.proofs.next_row.Statement.{statement}
-use Rattle.judge_chains.proofs.next_row.Tie as tie
+use Rattle.judge_next.proofs.Next.{around-in}
+use Rattle.chains.proofs.Found.{found-nowhere, found-at}
+use Rattle.judge_next.proofs.next_row.Statement.{statement}
+use Rattle.judge_next.proofs.next_row.Tie as tie
 
 abbrev Inv-loop : tie.InvT-loop
 Inv-loop core a round last from rows k₀ k = Unit {0}

@@ -1,0 +1,3 @@
+pub mod Counts
+pub mod Balance
+pub mod Found
