@@ -22,7 +22,7 @@ ghost use mathlib.Core.Path.{_≡_};
 ghost use Prim.Native.Nat.{_≤_};
 ghost use Rattle.verdict.specs.Kind.{rows, DistinctTimestamps};
 ghost use Rattle.verdict.specs.CoreAndRound.{coreKind, roundKind, coreLayout, roundLayout, verdictOf};
-ghost use Rattle.verdict.specs.Failures.{Elements};
+ghost use Rattle.verdict.specs.Kind.{Elements};
 ghost use Rattle.verdict.specs.Verdict.{fromCoreValue, fromRoundValue, fromCoreBalance, fromRoundBalance};
 ghost use Rattle.judge_links.specs.Even.{Even};
 

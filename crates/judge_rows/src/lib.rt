@@ -12,7 +12,7 @@ use lists::Place;
 ghost use mathlib.Core.Path.{_≡_};
 ghost use Rattle.verdict.specs.Verdict.{firstValue, firstLookup};
 ghost use Rattle.verdict.specs.CoreAndRound.{coreKind, roundKind};
-ghost use Rattle.verdict.specs.Failures.{Elements};
+ghost use Rattle.verdict.specs.Kind.{Elements};
 ghost use Rattle.judge_scan.specs.Spot.{spotOf};
 
 // The first row of a core table with a value that is not 0, and the first such value in it.

@@ -17,7 +17,7 @@ use Rattle.lists.proofs.First.{first-more, first-hit, at-clear, at-found, row-n
 use Rattle.lists.proofs.Laws.{word-rowAt}
 use Rattle.field.specs.Field.{p}
 use Rattle.field.specs.Elements.{ElementRow}
-use Rattle.verdict.specs.Failures.{Elements}
+use Rattle.verdict.specs.Kind.{Elements}
 use Rattle.verdict.proofs.Parts.{row-ends, part-between}
 use Rattle.judge_scan.specs.Spot.{spotOf}
 use Rattle.judge_scan.specs.declared.Spot.the-variants as spot

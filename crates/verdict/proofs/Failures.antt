@@ -37,7 +37,8 @@ use Rattle.keccak.specs.Columns.{TIMESTAMP-0, TIMESTAMP-1}
 use Rattle.verdict.specs.Kind.{Layout, Kind, rows, row, isActive, active, actives, Active, SameTimestamp, sameStamp, DistinctTimestamps, Passes, onKeccak, sent, received, OnBus, BalancedAt, Balanced}
 use Rattle.verdict.specs.Verdict.{ragged, badValue, firstValue, badLookup, firstLookup, twin, repeats, firstRepeat, uneven, unevenTuple, badTuple, firstUnbalanced, stage, fromRoundBalance, fromCoreBalance, fromRoundLookup, fromRoundValue, fromRepeat, fromCoreLookup, fromCoreValue, fromRoundWords, fromCoreWords, judged}
 use Rattle.verdict.specs.CoreAndRound.{coreKind, roundKind, verdictAt}
-use Rattle.verdict.specs.Failures.{Whole, ZeroAt, MatchedAt, RepeatsAt, NewAt, FirstValue, FirstLookup, FirstRepeat, Values, Lookups, Elements, FirstNotElement, UnevenAt, EvenAt, FirstUnbalanced, Even, ToCoreValue, ToCoreLookup, ToRepeat, ToRoundValue, ToRoundLookup, ToCoreBalance, ToRoundBalance, Says}
+use Rattle.verdict.specs.Kind.{Whole, Elements, ZeroAt, MatchedAt, Values, Lookups}
+use Rattle.verdict.specs.Failures.{RepeatsAt, NewAt, FirstValue, FirstLookup, FirstRepeat, FirstNotElement, UnevenAt, EvenAt, FirstUnbalanced, Even, ToCoreValue, ToCoreLookup, ToRepeat, ToRoundValue, ToRoundLookup, ToCoreBalance, ToRoundBalance, Says}
 use Rattle.verdict.specs.declared.Table.the-variants.{Core, Round}
 use Rattle.verdict.specs.declared.Verdict.{Verdict}
 use Rattle.verdict.specs.declared.Verdict.the-variants.{Refused, Value, Lookup, Repeated, Unbalanced, Holds}

@@ -4,26 +4,21 @@
 use mathlib.Core.Path.{_≡_}
 use mathlib.Core.Logic.{_⊎_}
 use mathlib.Core.List.{List}
-use Prim.Native.Nat.{ℕ, zero, suc, _%_, _≤_, _<_}
+use Prim.Native.Nat.{ℕ, zero, suc, _≤_, _<_}
 use lib.ListN.{length}
 use Rattle.lists.specs.Tab.{word}
 use Rattle.lists.specs.Failure.{FirstAt, FirstIn}
 use Rattle.field.specs.Field.{p}
 use Rattle.lookup.specs.declared.Bus.the-variants.{Keccak}
-use Rattle.matching.specs.Matching.{Matched}
 use Rattle.answer.specs.declared.Refusal.the-variants.{PastEnd, NotWhole, TooShort, HighAddress, NotElement, BadRecord}
 use Rattle.verdict.specs.Kind.{Layout, Kind, rows, row, actives, Active, SameTimestamp, DistinctTimestamps}
-use Rattle.verdict.specs.Kind.{Passes, BalancedAt, Balanced}
+use Rattle.verdict.specs.Kind.{Whole, Elements, ZeroAt, MatchedAt, Values, Lookups, Passes, BalancedAt, Balanced}
 use Rattle.verdict.specs.declared.Table.the-variants.{Core, Round}
 use Rattle.verdict.specs.declared.Verdict.{Verdict}
 use Rattle.verdict.specs.declared.Verdict.the-variants.{Refused, Value, Lookup, Repeated, Unbalanced, Holds}
 
 -- ---- a table
 module _ (A : Layout) (ws : List ℕ) where
-  -- the words are "any number of whole rows, none included"
-  abbrev pub Whole : Type 0
-  Whole = length ws % A .width ≡ 0
-
   -- "an active core row whose timestamp an earlier active one has"
   pub record RepeatsAt (r : ℕ) : Type 0 where
     pub active : Active A ws r
@@ -40,39 +35,19 @@ module _ (A : Layout) (ws : List ℕ) where
   abbrev pub FirstRepeat : ℕ → Type 0
   FirstRepeat = FirstAt RepeatsAt NewAt (rows A ws)
 
--- every word is below p
-abbrev pub Elements : List ℕ → Type 0
-Elements ws = (k : ℕ) → k < length ws → word ws k < p
-
 -- word k is the first that is p or more
 abbrev pub FirstNotElement : List ℕ → ℕ → Type 0
 FirstNotElement ws = FirstAt (λ k. p ≤ word ws k) (λ k. word ws k < p) (length ws)
 
 -- ---- a table of a kind
 module _ (K : Kind) (ws : List ℕ) where
-  -- value i of row r is 0
-  abbrev pub ZeroAt : ℕ → ℕ → Type 0
-  ZeroAt r i = K .value (row (K .layout) ws r) i ≡ 0
-
-  -- tuple i of row r is found where it is looked up, unless its multiplicity is 0
-  abbrev pub MatchedAt : ℕ → ℕ → Type 0
-  MatchedAt r i = Matched (K .tuple (row (K .layout) ws r) i)
-
-  -- every value of every row is 0
-  abbrev pub Values : Type 0
-  Values = (r i : ℕ) → r < rows (K .layout) ws → i < K .values → ZeroAt r i
-
-  -- every tuple of every row is matched
-  abbrev pub Lookups : Type 0
-  Lookups = (r i : ℕ) → r < rows (K .layout) ws → i < K .tuples → MatchedAt r i
-
   -- value i of row r is the first that is not 0: "lowest row, then lowest index"
   abbrev pub FirstValue : ℕ → ℕ → Type 0
-  FirstValue = FirstIn (λ r i. ZeroAt r i → ⊥) ZeroAt (K .values) (rows (K .layout) ws)
+  FirstValue = FirstIn (λ r i. ZeroAt K ws r i → ⊥) (ZeroAt K ws) (K .values) (rows (K .layout) ws)
 
   -- tuple i of row r is the first that is not matched, likewise
   abbrev pub FirstLookup : ℕ → ℕ → Type 0
-  FirstLookup = FirstIn (λ r i. MatchedAt r i → ⊥) MatchedAt (K .tuples) (rows (K .layout) ws)
+  FirstLookup = FirstIn (λ r i. MatchedAt K ws r i → ⊥) (MatchedAt K ws) (K .tuples) (rows (K .layout) ws)
 
 -- ---- a core table of the kind K and a round table of the kind L
 module _ (K L : Kind) (core round : List ℕ) where
