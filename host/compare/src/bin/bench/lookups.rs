@@ -49,9 +49,9 @@ fn drawn(words: &mut Words) -> Lookup {
     }
 }
 
-/// Both times of `items` calls, and their ratio.
+/// Both times of `items` calls, keys or tuples, and their ratio.
 fn calls(name: &str, items: usize, mut ours: impl FnMut(), mut rust: impl FnMut()) {
-    println!("{name}: time of a call");
+    println!("{name}: time of one");
     let [ours, rust] = best(RUNS, [Box::new(|| time(&mut ours)), Box::new(|| time(&mut rust))]);
     line("ours", ours, items);
     line("the Rust", rust, items);
@@ -65,7 +65,7 @@ fn numbers(words: &[u64], lookups: &[Lookup]) {
     calls(
         "index",
         INPUTS,
-        || index(&|at| _ = black_box(bitwise::row_index(at.x, at.y, at.z))),
+        || index(&|at| _ = black_box(bitwise::row_index(at.x, at.y, at.z).expect("an index"))),
         || index(&|at| _ = black_box(tables::bitwise::row_index(at.x, at.y, at.z))),
     );
     calls(
@@ -78,13 +78,13 @@ fn numbers(words: &[u64], lookups: &[Lookup]) {
     calls(
         "padding",
         INPUTS,
-        || each(&|word| _ = black_box(keccak_rnd::padding_are_bytes(operations(word)))),
+        || each(&|word| _ = black_box(keccak_rnd::padding_are_bytes(operations(word)).expect("a number"))),
         || each(&|word| _ = black_box(tables::keccak_rnd::padding_are_bytes(operations(word)))),
     );
     let round = |word: u64| (word >> 59) as usize;
     let lent = |word: u64| {
         let mut row = [0; keccak_rc::NUM_PRECOMPUTED_COLS];
-        let _ = black_box(keccak_rc::generate_row(round(word), &mut row));
+        keccak_rc::generate_row(round(word), &mut row).expect("a row");
         black_box(&row);
     };
     calls(
@@ -100,7 +100,7 @@ fn counters(lookups: &[Lookup]) {
     let mut rust = Counters::new();
     let count = || {
         for at in black_box(lookups) {
-            let _ = black_box(bitwise::bump(&mut ours, at.kind, at.x, at.y, at.z));
+            bitwise::bump(&mut ours, at.kind, at.x, at.y, at.z).expect("a lookup");
         }
     };
     let rust = || black_box(lookups).iter().for_each(|&at| rust.bump(at));
@@ -120,7 +120,7 @@ fn keys(ops: &[u64]) {
         .collect();
     let mut lent = vec![1; theirs.len() * keccak::KEY_WORDS];
     let mut taken = lent.clone();
-    let ours = || _ = black_box(keccak::is_wh_keys(black_box(ops), black_box(&mut lent)));
+    let ours = || keccak::is_wh_keys(black_box(ops), black_box(&mut lent)).expect("keys");
     let rust = || {
         let keys = tables::keccak::is_wh_keys(black_box(&theirs));
         for (place, key) in taken.chunks_exact_mut(2).zip(keys) {
@@ -128,7 +128,8 @@ fn keys(ops: &[u64]) {
         }
         black_box(&taken);
     };
-    calls("keys", ops.len() / OP_WORDS, ours, rust);
+    calls("keys", ops.len() / OP_WORDS * 25, ours, rust);
+    assert_eq!(lent, taken, "the keys");
 }
 
 /// All tuples of a row, one by one.
@@ -137,7 +138,7 @@ fn tuples(name: &str, row: &[u64], call: impl TupleCall, interactions: &[BusInte
     let ours = || {
         let mut out = [0; 16];
         for index in (0..TIMES).flat_map(|_| 0..interactions.len()) {
-            let _ = black_box(call(black_box(row), index, &mut out));
+            black_box(call(black_box(row), index, &mut out)).expect("a tuple");
             black_box(&out);
         }
     };
