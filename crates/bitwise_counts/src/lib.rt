@@ -3,7 +3,7 @@ use answer::Answer;
 use answer::Refusal;
 use bitwise::NUM_COUNTERS;
 use bitwise::NUM_LOOKUP_TYPES;
-use bitwise::row_of;
+use bitwise_rows::row_of;
 use field::Fe;
 ghost use mathlib.Core.Path.{_≡_};
 ghost use Rattle.answer.specs.Refusal.{answerOf};

@@ -31,14 +31,14 @@ pub extern "C" fn keccak_tables_generate_bitwise_row(index: usize, row: &mut [u6
     ensures answer { λ r. ⌜ r ≡ flatAnswer (answerOf (bitwise-row.rowRefusal index (now (row .entry)))) ⌝ }
     ensures words { λ _. ⌜ now (row .exit) ≡ bitwise-row.bitwiseRowAfter index (now (row .entry)) ⌝ }
 {
-    flat_answer(bitwise::generate_bitwise_row(index, row))
+    flat_answer(bitwise_rows::generate_bitwise_row(index, row))
 }
 
 #[no_mangle]
 pub extern "C" fn keccak_tables_bitwise_row_index(x: u8, y: u8, z: u8) -> FlatNumber
     ensures { λ r. ⌜ r ≡ flatNumber (numberOf (row-index x y z) (indexRefusal z)) ⌝ }
 {
-    flat_number(bitwise::row_index(x, y, z))
+    flat_number(bitwise_rows::row_index(x, y, z))
 }
 
 #[no_mangle]
@@ -72,7 +72,7 @@ pub extern "C" fn keccak_tables_keccak_rc_generate_row(round: usize, out: &mut [
     ensures answer { λ r. ⌜ r ≡ flatAnswer (answerOf (rc-row.rowRefusal round (now (out .entry)))) ⌝ }
     ensures words { λ _. ⌜ now (out .exit) ≡ rc-row.rcRowAfter round (now (out .entry)) ⌝ }
 {
-    flat_answer(keccak_rc::generate_row(round, out))
+    flat_answer(keccak_rc_trace::generate_row(round, out))
 }
 
 #[no_mangle]
@@ -80,7 +80,7 @@ pub extern "C" fn keccak_tables_generate_keccak_rc_trace(table: &mut [u64]) -> F
     ensures answer { λ r. ⌜ r ≡ flatAnswer (answerOf (traceRefusal (now (table .entry)))) ⌝ }
     ensures words { λ _. ⌜ now (table .exit) ≡ rcTraceAfter (now (table .entry)) ⌝ }
 {
-    flat_answer(keccak_rc::generate_keccak_rc_trace(table))
+    flat_answer(keccak_rc_trace::generate_keccak_rc_trace(table))
 }
 
 #[no_mangle]
@@ -91,7 +91,7 @@ pub extern "C" fn keccak_tables_keccak_rc_update_multiplicities(
     ensures answer { λ r. ⌜ r ≡ flatAnswer (answerOf (updateRefusal (now (table .entry)) n)) ⌝ }
     ensures words { λ _. ⌜ now (table .exit) ≡ updateAfter (now (table .entry)) n ⌝ }
 {
-    flat_answer(keccak_rc::update_multiplicities(table, n))
+    flat_answer(keccak_rc_trace::update_multiplicities(table, n))
 }
 
 #[no_mangle]
@@ -103,7 +103,7 @@ pub extern "C" fn keccak_tables_keccak_rc_bus_interaction(
     ensures answer { λ r. ⌜ r ≡ flatTuple (tupleAnswerOf rc.NUM-COLUMNS rc-tuples.NUM-TUPLES rc-tuples.tupleAt (now (row .entry)) index (now (out .entry))) ⌝ }
     ensures words { λ _. ⌜ now (out .exit) ≡ tupleAfter rc.NUM-COLUMNS rc-tuples.NUM-TUPLES rc-tuples.tupleAt (now (row .entry)) index (now (out .entry)) ⌝ }
 {
-    flat_tuple(keccak_rc::bus_interaction(row, index, out))
+    flat_tuple(keccak_rc_tuples::bus_interaction(row, index, out))
 }
 
 #[no_mangle]

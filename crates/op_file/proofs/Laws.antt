@@ -4,7 +4,7 @@
 --     reads-file   `finish` after the whole file is `tallyOf`
 -- Assumes nothing.
 use Prim.Native.Nat.{ℕ, zero, suc, _+_, _*_, _/_, _-_, _^_, _<_, _≤_}
-use mathlib.Core.Path.{_≡_, refl, sym, ap, ap₂, _∙_}
+use mathlib.Core.Path.{_≡_, refl, sym, ap, _∙_}
 use mathlib.Core.Bool.{Bool, true, false}
 use mathlib.Core.List.{List, [], _∷_, _++_}
 use mathlib.Core.Option.{Option, none, some}
@@ -13,12 +13,13 @@ use native.Mathlib.Nat.{add-zero, div-div-eq-div-mul, pow-suc, mul-comm, div-one
 use native.Mathlib.Omega.{arith}
 use lib.Dec.{ltb, leb, eqb}
 use lib.ListN.{length, take, drop, getD, take-append-drop, length-take, length-drop, drop-of-length-le}
-use lib.Seq.{take-all, take-take, drop-drop, getD-take, getD-drop}
+use lib.Seq.{take-all, take-take, drop-drop}
 use borrow.Author.Tests.{lt-ltb, le-ltb, le-leb, lt-leb, eq-eqb, ne-eqb, leb-true, leb-false}
 use Rattle.lists.specs.Tab.{pick, word}
 use Rattle.lists.specs.First.{orElse}
 use Rattle.lists.proofs.Then.{by-le}
 use Rattle.bits.specs.Bits.{pack}
+use Rattle.bits.proofs.Bytes.{pack-by, pack-part, pack-cons}
 use Rattle.answer.specs.Limits.{MAX-OPS}
 use Rattle.answer.specs.Refusal.{refuseIf}
 use Rattle.answer.specs.declared.Refusal.{Refusal}
@@ -52,36 +53,6 @@ shifts a (b ∷ s) = shifts (shifted a b) s
 shifted-once : (a b : ℕ) → shifted a b ≡ (a + b * 18446744073709551616) / 256
 unfolding shifted
 shifted-once a b = omega arith
-
--- equal digits make equal numbers, wherever they stand
-pub pack-by : (n i j : ℕ) (f g : ℕ → ℕ) → ((b : ℕ) → b < n → f (i + b) ≡ g (j + b)) → pack n i f ≡ pack n j g
-unfolding pack
-pack-by zero i j f g h = refl
-pack-by (suc n) i j f g h =
-    ap₂ (λ (a b : ℕ). a * 256 + b)
-    (pack-by n (suc i) (suc j) f g (λ b l. ap f (next i b) ∙ h (suc b) (omega arith) ∙ ap g (sym (next j b))))
-    (ap f (sym (add-zero i)) ∙ h 0 (omega arith) ∙ ap g (add-zero j))
-  where
-    next : (k b : ℕ) → suc k + b ≡ k + suc b
-    next k b = omega arith
-
--- eight bytes of a list from a place on
-pub pack-part : (k : ℕ) (s : List ℕ) → pack 8 0 (word (take 8 (drop k s))) ≡ pack 8 k (word s)
-pack-part k s =
-    pack-by 8 0 k (word (take 8 (drop k s))) (word s)
-    (λ b l. ap (word (take 8 (drop k s))) (same b) ∙ getD-take 8 (drop k s) b 0 l ∙ getD-drop k s b 0)
-  where
-    same : (b : ℕ) → 0 + b ≡ b
-    same b = omega arith
-
-pack-cons : (b : ℕ) (s : List ℕ) → b + 256 * pack (length s) 0 (word s) ≡ pack (suc (length s)) 0 (word (b ∷ s))
-unfolding pack
-pack-cons b s =
-    let q : pack (length s) 1 (word (b ∷ s)) ≡ pack (length s) 0 (word s) = pack-by (length s) 1 0 (word (b ∷ s)) (word s) (λ d l. ap (word (b ∷ s)) (next d)) in
-    omega (arith, q)
-  where
-    next : (d : ℕ) → 1 + d ≡ suc (0 + d)
-    next d = omega arith
 
 shifts-none : (a : ℕ) → a ≡ (a + 18446744073709551616 * pack 0 0 (word [])) / 256 ^ 0
 unfolding pack
@@ -196,7 +167,7 @@ module _ (n : ℕ) (few : n < MAX-OPS) where
       let s2 : feedOf (Reading n 10 a) (take 8 u) ≡ Reading n 18 A =
       address 10 a (take 8 u) (omega arith) (omega arith)
       ∙ ap (λ (k : ℕ). Reading n k (shifts a (take 8 u))) (omega arith)
-      ∙ ap (λ (b : ℕ). Reading n 18 b) (shifts-eight a (take 8 u) l e2 ∙ pack-part 8 t)
+      ∙ ap (λ (b : ℕ). Reading n 18 b) (shifts-eight a (take 8 u) l e2 ∙ pack-part 8 8 t)
       in
       let s3 : feedOf (Reading n 18 A) (take 399 v) ≡ Reading n 417 A =
       skip 18 A (take 399 v) (omega arith) (λ k g h. plain-high k g) (omega arith) ∙ ap (λ (k : ℕ). Reading n k A) (omega arith)

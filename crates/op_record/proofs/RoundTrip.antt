@@ -13,9 +13,8 @@ use Rattle.lists.specs.Tab.{pick, tab, word}
 use Rattle.lists.proofs.Laws.{length-tab, sets-append, getD-tab, tab-same, list-tab}
 use Rattle.lists.proofs.Tests.{true-not-false}
 use Rattle.bits.specs.Bits.{byteAt, pack, laneOf}
-use Rattle.bits.proofs.Bytes.{lane-byteAt, lane-of-bytes}
+use Rattle.bits.proofs.Bytes.{pack-by, lane-byteAt, lane-of-bytes}
 use Rattle.op_file.specs.File.{isWhole, recordWord}
-use Rattle.op_file.proofs.Laws.{pack-by}
 use Rattle.op_record.specs.Record.{wordByte, recordBytes, Record}
 
 -- word j by its eight bytes

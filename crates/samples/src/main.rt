@@ -201,7 +201,7 @@ fn print_bitwise_tuples(number: u64, row: &[u64]) {
 // The row of an index, with ten multiplicities drawn after a word, and its tuples. Answers the last word drawn.
 fn print_drawn_bitwise(index: u64, before: u64) -> u64 {
     let mut row = [0u64; 21];
-    bitwise::generate_bitwise_row(index as usize, &mut row);
+    bitwise_rows::generate_bitwise_row(index as usize, &mut row);
     let last = put_drawn(&mut row, 11, 10, before);
     print_line(1, index, &row);
     print_bitwise_tuples(index, &row);
@@ -233,8 +233,8 @@ fn print_constant(round: u64, row: &[u64]) {
 
 fn constant_lookups() {
     let mut table = [0u64; 320];
-    keccak_rc::generate_keccak_rc_trace(&mut table);
-    keccak_rc::update_multiplicities(&mut table, 7);
+    keccak_rc_trace::generate_keccak_rc_trace(&mut table);
+    keccak_rc_trace::update_multiplicities(&mut table, 7);
     for round in 0..32 {
         print_constant(round as u64, &table[10 * round..10 * round + 10]);
     }

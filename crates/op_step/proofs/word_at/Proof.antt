@@ -1,5 +1,6 @@
 -- `op_step::word_at` meets its contract: after j turns j bytes are in. Assumes nothing.
-use Rattle.op_file.proofs.Laws.{shifts, shifts-more, shifts-eight, pack-part}
+use Rattle.bits.proofs.Bytes.{pack-part}
+use Rattle.op_file.proofs.Laws.{shifts, shifts-more, shifts-eight}
 use lib.Seq.{getD-drop}
 use lib.ListN.{take, drop, length, length-take, length-drop}
 use native.Mathlib.Omega.{arith}
@@ -46,7 +47,7 @@ returns c =
     let lp = c .before .loop in
     let e : lp .j ≡ 8 = omega arith in
     let l : length (take 8 (drop (st .k) (st .s .now))) ≡ 8 = simp (length-take, length-drop) (omega arith) in
-    lp .inv .1 ∙ ap (λ (j : ℕ). shifts 0 (take j (drop (st .k) (st .s .now)))) e ∙ shifts-eight 0 _ (omega arith) l ∙ pack-part (st .k) (st .s .now)
+    lp .inv .1 ∙ ap (λ (j : ℕ). shifts 0 (take j (drop (st .k) (st .s .now)))) e ∙ shifts-eight 0 _ (omega arith) l ∙ pack-part 8 (st .k) (st .s .now)
 
 pub word-at-spec : {M : Type 1} → statement M
 word-at-spec =

@@ -1,0 +1,69 @@
+-- `keccak_rc_trace::put_multiplicities` meets its contract: after r turns MU of the rounds below r is stored. Assumes nothing.
+use mathlib.Core.Path.{_≡_, refl, ap, _∙_}
+use Prim.Native.Nat.{ℕ, _-_, _≤_}
+use native.Mathlib.Omega.{arith}
+use lib.ListN.{length, length-set}
+use Rattle.keccak_rc.specs.Table.{withMu, lookups, updated}
+use Rattle.keccak_rc.proofs.Table.{withMu-more, lookups-24}
+use Rattle.keccak_rc_trace.proofs.put_multiplicities.Statement.{statement}
+use Rattle.keccak_rc_trace.proofs.put_multiplicities.Tie as tie
+
+abbrev Inv-loop : tie.InvT-loop
+Inv-loop table₀ n round₀ table round = (round ≤ 24) × ((length table ≡ length table₀) × (table ≡ withMu (lookups 24 n) round table₀))
+
+abbrev μ-loop : tie.MeasureT-loop
+μ-loop table₀ n round₀ table round = 24 - round
+
+loop-holds : tie.Need-loop-holds Inv-loop μ-loop
+unfolding withMu
+loop-holds c = (omega arith, (refl, refl))
+
+mul-table : tie.Need-mul-table Inv-loop μ-loop
+mul-table c = omega arith
+
+add-table : tie.Need-add-table Inv-loop μ-loop
+add-table c = omega arith
+
+mul-table-2 : tie.Need-mul-table-2 Inv-loop μ-loop
+mul-table-2 c = omega arith
+
+slice-write-table : tie.Need-slice-write-table Inv-loop μ-loop
+slice-write-table c = omega arith
+
+add-round : tie.Need-add-round Inv-loop μ-loop
+add-round c = omega arith
+
+loop-less : tie.Need-loop-less Inv-loop μ-loop
+loop-less c = omega arith
+
+loop-again : tie.Need-loop-again Inv-loop μ-loop
+loop-again c =
+    let h = c .before .loop .inv .1 in
+    (omega arith, (simp length-set (h .0), withMu-more (lookups 24 _) _ _ _ (h .1) (lookups-24 _ _)))
+
+same-length : tie.Need-same-length Inv-loop μ-loop
+same-length c = omega arith
+
+returns : tie.Need-returns Inv-loop μ-loop
+unfolding updated
+returns c =
+    let start = c .before .before in
+    let e : c .before .loop .round ≡ 24 = omega arith in
+    c .before .loop .inv .1 .1 ∙ ap (λ (r : ℕ). withMu (lookups 24 (start .args .n)) r (start .args .table .now)) e
+
+pub put-multiplicities-spec : {M : Type 1} → statement M
+put-multiplicities-spec =
+    tie.close
+    (tie.spec
+    Inv-loop
+    μ-loop
+    loop-holds
+    mul-table
+    add-table
+    mul-table-2
+    slice-write-table
+    add-round
+    loop-less
+    loop-again
+    same-length
+    returns)
