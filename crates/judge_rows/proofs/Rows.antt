@@ -60,6 +60,7 @@ module _ (K : Kind) (ends : List ℕ) (ws : List ℕ) (r i : ℕ) (l : r < rows 
   pub lookup-some : EndWithin ends (K .tuples) → (k : ℕ) → x ≡ At k → firstAt (badLookup K ws r) (K .tuples) ≡ some k
   lookup-some w k z = group-hit (badLookup K ws r) (K .tuples) i before 0 ends k (omega arith) w (place-at _ (sym z ∙ lookup-is))
 
+-- no group of either table ends past its last tuple
 pub core-ends : EndWithin coreEnds 84
 core-ends = (omega arith, (omega arith, tt))
 

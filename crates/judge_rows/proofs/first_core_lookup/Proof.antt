@@ -68,8 +68,7 @@ core-group-end-requires c κs = search needs
 
 loop-less : tie.Need-loop-less Inv-loop μ-loop Inv-rows μ-rows
 loop-less c =
-    let loop = c .before .before .before .before .before .before in
-    omega (arith, end-past coreEnds 84 (loop .loop .index) (c .before .before .before .before .before .loop-test .taken))
+    omega (arith, end-past coreEnds 84 (c .before .before .before .before .before .before .loop .index) (omega arith))
 
 loop-again : tie.Need-loop-again Inv-loop μ-loop Inv-rows μ-rows
 loop-again c =
@@ -91,7 +90,7 @@ rows-again : tie.Need-rows-again Inv-loop μ-loop Inv-rows μ-rows
 rows-again c =
     let v = c .before .loop .inv in
     let rows = c .before .before .before in
-    (omega arith, v .0, at-none-row _ _ _ (rows .rows .inv .2) (row-done _ _ 84 (c .loop-test .left) (v .1)))
+    (omega arith, v .0, at-none-row _ _ _ (rows .rows .inv .2) (row-done _ (c .before .loop .index) 84 (omega arith) (v .1)))
 
 returns : tie.Need-returns Inv-loop μ-loop Inv-rows μ-rows
 returns c = c .before .rows .inv .1 ∙ sym (ap spotOf (in-none _ _ _ _ (c .before .rows .inv .0) (c .rows-test .left) (c .before .rows .inv .2)))
