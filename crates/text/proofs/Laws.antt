@@ -59,7 +59,15 @@ digit-last d b i rest x l h f e =
     ∙ ap (λ (y : ℕ). y ∷ drop (i + 1) b) f
     ∙ sym (e ∙ ap (λ (k : ℕ). digitsOf k rest ++ drop (i + 1) b) (add-one i) ∙ simp (lt-ltb rest 10 h))
 
+drop-sets : (s a : List ℕ) (at r : ℕ) → at + length s ≤ r → drop r (sets a at s) ≡ drop r a
+drop-sets [] a at r h = refl
+drop-sets (x ∷ s) a at r h = drop-sets s (set a at x) (suc at) r (omega arith) ∙ drop-set-lt r a at x (omega arith)
+
 module _ {a s b : List ℕ} {at r : ℕ} where
+  -- the bytes past the text are those at entry
+  pub puts-past : Puts a at s b r → drop r b ≡ drop r a
+  puts-past p = ap (drop r) (p .is) ∙ drop-sets s a at r (omega (arith, p .ends))
+
   pub puts-as : {t : List ℕ} → Puts a at s b r → s ≡ t → Puts a at t b r
   puts-as p e = record { ends = p .ends ∙ ap (λ (x : List ℕ). at + length x) e; is = p .is ∙ ap (sets a at) e }
 
