@@ -46,6 +46,12 @@ iotaTuples row = iotaTuple row
 unfoldable pub chiPart : List ℕ → ℕ → Tuple
 chiPart row = then 200 (andsTuples row) (then 200 (chiTuples row) (iotaTuples row))
 
+unfoldable pub thetaPart : List ℕ → ℕ → Tuple
+thetaPart row = then 40 (dTuples row) (then 200 (thetaTuples row) (then 200 (rotTuples row) (chiPart row)))
+
+unfoldable pub parityPart : List ℕ → ℕ → Tuple
+parityPart row = then 40 (parityTuples row) (then 120 (stageTuples row) (then 20 (leftTuples row) (thetaPart row)))
+
 -- ---- computed first: the bytes of π, x outermost, 255 less each of them, and those of C rotated by one
 pub record PiOf (row pi : List ℕ) : Type 0 where
   pub long : 200 ≤ length pi
