@@ -26,7 +26,7 @@ use Rattle.answer.specs.Refusal.{accepted, refusalNumber}
 use Rattle.answer.specs.declared.Refusal.the-variants.{HighAddress, PastEnd}
 use Rattle.fips202.specs.Fips.{Agree, rnd, keccakF}
 use Rattle.bits.specs.Bits.{byteAt}
-use Rattle.fips202.specs.Lanes.{Lanes, bits}
+use Rattle.fips202.specs.Lanes.{Lanes, bits, roundsL}
 use Rattle.fips202.specs.Tables.{roundConstant}
 use Rattle.fips202.proofs.Tables.{constant-past}
 use Rattle.bitwise.specs.Columns.{SLL, SLLC}
@@ -103,6 +103,7 @@ module _ (n : ℕ) (op : ℕ → KeccakOperation) (i : ℕ) (below : i < n)
 
   -- START of the first is the operation's input, START of each other is what the one before it sends on
   pub table-first : stateLanes START (row-of 0) ≡ (op i) .input
+  unfolding roundsL
   table-first = table-start n op 4 i below lanes size 0 (omega arith)
 
   pub table-next : (j : ℕ) → suc j < 24 → stateLanes START (row-of (suc j)) ≡ outLanes (row-of j)
