@@ -7,9 +7,14 @@ use bits::put_dword_whh;
 use bits::put_dword_wl;
 use bits::put_lanes;
 use bits::put_zeros;
+use keccak::ADDR;
+use keccak::INPUT_STATE;
 use keccak::KeccakOperation;
+use keccak::MU;
 use keccak::NUM_COLUMNS;
 use keccak::OP_WORDS;
+use keccak::OUTPUT_STATE;
+use keccak::STATE_PTR;
 use operations::check_operations;
 use operations::operation_at;
 ghost use mathlib.Core.Path.{_≡_};
@@ -44,11 +49,11 @@ pub fn put_core_row(row: &mut [u64], at: usize, op: KeccakOperation)
     let input = op.input;
     let output = op.output;
     put_dword_wl(row, at, op.timestamp);
-    put_dword_bl(row, at + 2, addr);
-    put_lanes(row, at + 10, input);
-    put_lanes(row, at + 210, output);
-    put_pointers(row, at + 410, addr);
-    row[at + 485] = 1;
+    put_dword_bl(row, at + ADDR, addr);
+    put_lanes(row, at + INPUT_STATE, input);
+    put_lanes(row, at + OUTPUT_STATE, output);
+    put_pointers(row, at + STATE_PTR, addr);
+    row[at + MU] = 1;
 }
 
 // A padding row, from `at`.
@@ -56,9 +61,9 @@ pub fn put_pad_row(row: &mut [u64], at: usize)
     requires { ⌜ at + NUM-COLUMNS ≤ length (now row) ⌝ }
     ensures { λ _. ⌜ now (row .exit) ≡ sets (now (row .entry)) at corePad ⌝ }
 {
-    put_zeros(row, at, 410);
-    put_pointers(row, at + 410, 0);
-    row[at + 485] = 0;
+    put_zeros(row, at, STATE_PTR);
+    put_pointers(row, at + STATE_PTR, 0);
+    row[at + MU] = 0;
 }
 
 // The row of operation `index` of a list.
