@@ -238,7 +238,7 @@ ends n r a f l h =
     (λ (m : n < MAX-OPS).
     ⊎-elim
     (λ e. ap finishOf e)
-    (λ e. ap finishOf (e .1) ∙ simp (le-ltb MAX-OPS n (omega arith), ne-eqb (0 + length r) 0 (λ z. omega arith)))
+    (λ e. ap finishOf (e .1) ∙ simp (le-ltb MAX-OPS n (omega arith), lt-leb MAX-OPS n m, ne-eqb (0 + length r) 0 (λ z. omega arith)))
     (cut n m 0 0 r (omega arith))
     ∙ ap (λ (g : Option Refusal). unless (orElse g f) a) (sym (short-fault n (418 * n) r m h)))
 

@@ -72,13 +72,18 @@ countsOf n =
       ecall = n;
     }
 
--- what the end of the file makes of a reader: a record that it breaks off is cut
+-- what the end of the file makes of a reader: a record that it breaks off is cut, and one too many where the file has all
+-- the records that it may have
 unfoldable pub finishOf : Cursor → Tally
 finishOf (cursor.Refused r) = tally.Refused r
 finishOf (cursor.Reading n at addr) =
     pick (ltb MAX-OPS n)
     (tally.Refused (PastEnd (MAX-OPS + 1)))
-    (pick (eqb at 0) (tally.Counted (countsOf n)) (tally.Refused (BadRecord (RECORD-BYTES * n))))
+    (pick (eqb at 0)
+    (tally.Counted (countsOf n))
+    (pick (leb MAX-OPS n)
+    (tally.Refused (PastEnd (MAX-OPS + 1)))
+    (tally.Refused (BadRecord (RECORD-BYTES * n)))))
 
 -- a reader after the whole record n: at its fault, or before the next record
 abbrev pub after : Option Refusal → ℕ → Cursor

@@ -56,6 +56,9 @@ pub fn finish(c: Cursor) -> Tally
             if at == 0 {
                 return Tally::Counted(sum_up(n));
             }
+            if n >= MAX_OPS {
+                return Tally::Refused(Refusal::PastEnd(MAX_OPS + 1));
+            }
             Tally::Refused(Refusal::BadRecord(418 * n))
         }
     }

@@ -1,7 +1,7 @@
 -- `op_sums::finish` meets its contract: the cases of the cursor. Assumes nothing.
 use Rattle.op_file.specs.declared.Tally.the-variants.{Counted}
 use Rattle.op_file.specs.Reader.{finishOf}
-use borrow.Author.Tests.{lt-ltb, le-ltb, eq-eqb, ne-eqb}
+use borrow.Author.Tests.{lt-ltb, le-ltb, le-leb, lt-leb, eq-eqb, ne-eqb}
 use mathlib.Core.Path.{ap, sym, _∙_}
 use borrow.Author.Needs.{needs}
 use Rattle.op_sums.proofs.finish.Statement.{statement}
@@ -27,16 +27,23 @@ returns-2 : tie.Need-returns-2
 unfolding finishOf
 returns-2 c = ap Counted (c .sum-up .ensures) ∙ sym (ap finishOf (c .before .before .before .before .c2 .given .1) ∙ simp (le-ltb _ _ (c .before .before .if1 .left), eq-eqb _ _ (c .before .if2 .taken)))
 
-mul-t11 : tie.Need-mul-t11
-mul-t11 c = search needs
+add-t11 : tie.Need-add-t11
+add-t11 c = search needs
 
 returns-3 : tie.Need-returns-3
 unfolding finishOf
-returns-3 c = sym (ap finishOf (c .before .c .given .1))
+returns-3 c = sym (ap finishOf (c .before .before .before .before .c2 .given .1) ∙ simp (le-ltb _ _ (c .before .before .if1 .left), ne-eqb _ _ (c .before .if2 .left), le-leb _ _ (c .if3 .taken)))
+
+mul-t13 : tie.Need-mul-t13
+mul-t13 c = search needs
 
 returns-4 : tie.Need-returns-4
 unfolding finishOf
-returns-4 c = sym (ap finishOf (c .before .before .before .c2 .given .1) ∙ simp (le-ltb _ _ (c .before .if1 .left), ne-eqb _ _ (c .if2 .left)))
+returns-4 c = sym (ap finishOf (c .before .c .given .1))
+
+returns-5 : tie.Need-returns-5
+unfolding finishOf
+returns-5 c = sym (ap finishOf (c .before .before .before .before .c2 .given .1) ∙ simp (le-ltb _ _ (c .before .before .if1 .left), ne-eqb _ _ (c .before .if2 .left), lt-leb _ _ (c .if3 .left)))
 
 pub finish-spec : {M : Type 1} → statement M
 finish-spec =
@@ -48,6 +55,8 @@ finish-spec =
     returns
     sum-up-requires
     returns-2
-    mul-t11
+    add-t11
     returns-3
-    returns-4)
+    mul-t13
+    returns-4
+    returns-5)
