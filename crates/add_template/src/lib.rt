@@ -1,4 +1,5 @@
-// constraints/templates.rs: the ADD template on a row, over words mod P; IS_BIT and the words of an operand are handed on.
+// constraints/templates.rs: the ADD template on a row, over words mod P; IS_BIT and the words of an operand are handed
+// on.
 use bit_values::bit_under;
 pub use bit_values::emit_is_bit;
 pub use bit_values::is_bit;
@@ -45,8 +46,8 @@ pub fn add_pair_carry_hi(row: &[u64], lhs: AddOperand, rhs: AddOperand, sum: Add
     })
 }
 
-// Value `index` of the two of ADD: a carry is a bit. The Rust takes any number of condition columns; the tables ported here
-// have one or none.
+// Value `index` of the two of ADD: a carry is a bit. The Rust takes any number of condition columns; the tables ported
+// here have one or none.
 pub fn emit_add_pair(
     row: &[u64],
     cond: Cond,

@@ -2,18 +2,21 @@
 --     refusalNumber, refusalDetail   the number and the detail that the interface gives for a refusal
 --     refuseIf       one check of a call: refuse where the test passes, else go on with the checks that follow
 --     refuseAt       the same for a check that searches: refuse by the place that it found
+--     pastEnd, overLimit, tooShort   the checks that most calls share (proofs/Refusals.antt: when each refuses)
 --     answerOf       the answer of a call that only writes, from what its checks found
 --     numberOf       the answer of a call that gives a number
 --     overwrite      the new words, then the old words past them
 --     afterwards     what a lent slice holds after the call: the new words, or the old ones where it was refused
 -- A call's checks are one definition of its arguments, an `Option Refusal`; its answer and the slices that it leaves
 -- are both stated from that definition. Assumes nothing.
-use Prim.Native.Nat.{ℕ}
+use Prim.Native.Nat.{ℕ, _+_}
 use mathlib.Core.Bool.{Bool}
 use mathlib.Core.Option.{Option, none, some}
 use mathlib.Core.List.{List, _++_}
+use lib.Dec.{leb, ltb}
 use lib.ListN.{length, drop}
 use Rattle.lists.specs.Tab.{pick}
+use Rattle.answer.specs.Limits.{MAX-OPS}
 use Rattle.answer.specs.declared.Refusal.{Refusal}
 use Rattle.answer.specs.declared.Refusal.the-variants.{PastEnd, NotWhole, TooShort, HighAddress}
 use Rattle.answer.specs.declared.Refusal.the-variants.{NotElement, BadRecord}
@@ -49,6 +52,23 @@ refuseAt (some k) r later = some (r k)
 
 abbrev pub accepted : Option Refusal
 accepted = none
+
+-- 1: "an index, kind (≥ 10), Z (≥ 16), round to be written (≥ 24), constant row (≥ 32) .. past its end, detail the
+-- least number refused"
+abbrev pub pastEnd : ℕ → ℕ → Option Refusal → Option Refusal
+pastEnd limit i later = refuseIf (leb limit i) (PastEnd limit) later
+
+-- 1: "or n (> 89,478,485 ..) past its end, detail the least number refused"
+abbrev pub overLimit : ℕ → Option Refusal → Option Refusal
+overLimit n later = refuseIf (ltb MAX-OPS n) (PastEnd (MAX-OPS + 1)) later
+
+-- 3: "a lent slice too short, detail the length needed"
+abbrev pub tooShort : ℕ → ℕ → Option Refusal → Option Refusal
+tooShort room needed later = refuseIf (ltb room needed) (TooShort needed) later
+
+-- the checks of a call that takes a number of operations alone
+unfoldable pub countRefusal : ℕ → Option Refusal
+countRefusal n = overLimit n accepted
 
 unfoldable pub answerOf : Option Refusal → Answer
 answerOf none = Done

@@ -4,8 +4,8 @@ ghost use Rattle.answer.specs.Refusal.{refusalNumber, refusalDetail};
 
 // Each holds its detail. 1: an index, kind or count past its end: the least number refused. 2: a table or list that is
 // not whole rows or operations: 0 core, 1 round, 2 list. 3: a lent slice too short: the length needed. 4: an address
-// whose last lane would start past 2^64 - 1: the address. 5: a word that is no field element: its place in the slice. 6: a wrong mark or
-// a cut record: the byte where that record starts.
+// whose last lane would start past 2^64 - 1: the address. 5: a word that is no field element: its place in the slice.
+// 6: a wrong mark or a cut record: the byte where that record starts.
 pub enum Refusal {
     PastEnd(u64),
     NotWhole(u64),

@@ -24,18 +24,6 @@ kind-of-index kind.ByteAluAnd = refl
 kind-of-index kind.ByteAluOr = refl
 kind-of-index kind.ByteAluXor = refl
 
-pub index-lt : (k : BitwiseOperationType) → lookup-type-index k < NUM-LOOKUP-TYPES
-index-lt kind.Msb8 = omega arith
-index-lt kind.Msb16 = omega arith
-index-lt kind.Zero = omega arith
-index-lt kind.AreBytes = omega arith
-index-lt kind.IsHalf = omega arith
-index-lt kind.IsB20 = omega arith
-index-lt kind.Hwsl = omega arith
-index-lt kind.ByteAluAnd = omega arith
-index-lt kind.ByteAluOr = omega arith
-index-lt kind.ByteAluXor = omega arith
-
 -- past the ninth the kind is the last
 pub kind-last : (i : ℕ) → 9 ≤ i → kindAt i ≡ kind.ByteAluXor
 unfolding kindAt

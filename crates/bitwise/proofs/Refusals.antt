@@ -12,12 +12,12 @@ use Rattle.field.specs.Field.{p}
 use Rattle.answer.specs.Refusal.{accepted}
 use Rattle.answer.proofs.Laws.{refuse-yes, refuse-no, passed-if}
 use Rattle.answer.specs.declared.Refusal.the-variants.{PastEnd, TooShort, NotElement}
-use Rattle.bitwise.specs.Row.{rowRefusal, indexRefusal}
+use Rattle.bitwise.specs.Row.{bitwiseRowRefusal, indexRefusal}
 use Rattle.bitwise.specs.Counters.{counterAt, bumpRefusal}
 
 -- `generate_bitwise_row`
-pub row-accepted : (i : ℕ) (row : List ℕ) → (rowRefusal i row ≡ accepted) ↔ ((i < 1048576) × (11 ≤ length row))
-unfolding rowRefusal
+pub row-accepted : (i : ℕ) (row : List ℕ) → (bitwiseRowRefusal i row ≡ accepted) ↔ ((i < 1048576) × (11 ≤ length row))
+unfolding bitwiseRowRefusal
 row-accepted i row = (
   (λ e.
       let a = passed-if _ _ _ e in
@@ -26,12 +26,12 @@ row-accepted i row = (
   λ h. refuse-no _ (lt-leb 1048576 i (h .0)) (refuse-no _ (le-ltb (length row) 11 (h .1)) refl),
 )
 
-pub row-past : (i : ℕ) (row : List ℕ) → 1048576 ≤ i → rowRefusal i row ≡ some (PastEnd 1048576)
-unfolding rowRefusal
+pub row-past : (i : ℕ) (row : List ℕ) → 1048576 ≤ i → bitwiseRowRefusal i row ≡ some (PastEnd 1048576)
+unfolding bitwiseRowRefusal
 row-past i row h = refuse-yes _ _ (le-leb 1048576 i h)
 
-pub row-short : (i : ℕ) (row : List ℕ) → i < 1048576 → length row < 11 → rowRefusal i row ≡ some (TooShort 11)
-unfolding rowRefusal
+pub row-short : (i : ℕ) (row : List ℕ) → i < 1048576 → length row < 11 → bitwiseRowRefusal i row ≡ some (TooShort 11)
+unfolding bitwiseRowRefusal
 row-short i row l h = refuse-no _ (lt-leb 1048576 i l) (refuse-yes _ _ (lt-ltb (length row) 11 h))
 
 -- `row_index`

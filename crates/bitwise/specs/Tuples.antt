@@ -4,7 +4,7 @@ use mathlib.Core.List.{List, [], _∷_}
 use lib.ListN.{getD}
 use Rattle.lists.specs.Tab.{word}
 use Rattle.field.specs.Field.{fadd, fmul}
-use Rattle.lookup.specs.Tuple.{Tuple, receiver}
+use Rattle.lookup.specs.Tuple.{Tuple, receiver, ALU-AND, ALU-OR, ALU-XOR}
 use Rattle.lookup.specs.declared.Bus.{Bus}
 use Rattle.lookup.specs.declared.Bus.the-variants.{ByteAlu, AreBytes, IsHalfword, Msb8, Msb16, Zero, IsB20, Hwsl}
 use Rattle.bitwise.specs.declared.BitwiseOperationType.{BitwiseOperationType}
@@ -69,8 +69,7 @@ half row = fadd (word row X) (fmul 256 (word row Y))
 abbrev pub twenty : List ℕ → ℕ
 twenty row = fadd (half row) (fmul 65536 (word row Z))
 
--- The values of a kind: what is looked up, then what the row answers. The first value of ByteAlu is 0 for AND, 1 for OR
--- and 2 for XOR (the scope).
+-- The values of a kind: what is looked up, then what the row answers.
 abbrev pub kindValues : List ℕ → BitwiseOperationType → List ℕ
 kindValues row kind.Msb8 = word row X ∷ word row MSB8 ∷ []
 kindValues row kind.Msb16 = half row ∷ word row MSB16 ∷ []
@@ -79,9 +78,9 @@ kindValues row kind.AreBytes = word row X ∷ word row Y ∷ []
 kindValues row kind.IsHalf = half row ∷ []
 kindValues row kind.IsB20 = twenty row ∷ []
 kindValues row kind.Hwsl = half row ∷ word row Z ∷ word row SLL ∷ word row SLLC ∷ []
-kindValues row kind.ByteAluAnd = 0 ∷ word row X ∷ word row Y ∷ word row AND ∷ []
-kindValues row kind.ByteAluOr = 1 ∷ word row X ∷ word row Y ∷ word row OR ∷ []
-kindValues row kind.ByteAluXor = 2 ∷ word row X ∷ word row Y ∷ word row XOR ∷ []
+kindValues row kind.ByteAluAnd = ALU-AND ∷ word row X ∷ word row Y ∷ word row AND ∷ []
+kindValues row kind.ByteAluOr = ALU-OR ∷ word row X ∷ word row Y ∷ word row OR ∷ []
+kindValues row kind.ByteAluXor = ALU-XOR ∷ word row X ∷ word row Y ∷ word row XOR ∷ []
 
 -- How many values a kind has.
 abbrev pub kindSize : BitwiseOperationType → ℕ

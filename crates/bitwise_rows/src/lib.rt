@@ -12,7 +12,7 @@ ghost use lib.ListN.{length};
 ghost use lib.Seq.{sets};
 ghost use Rattle.lists.specs.Tab.{pick};
 ghost use Rattle.answer.specs.Refusal.{answerOf, numberOf};
-ghost use Rattle.bitwise.specs.Row.{rowOfXYZ, row-index, rowRefusal, indexRefusal, bitwiseRowAfter};
+ghost use Rattle.bitwise.specs.Row.{rowOfXYZ, row-index, bitwiseRowRefusal, indexRefusal, bitwiseRowAfter};
 
 // The halfword shifted left, nothing lost.
 fn shifted(half: u64, z: u64) -> u64
@@ -60,7 +60,7 @@ fn put_row(row: &mut [u64], x: u64, y: u64, z: u64)
 
 // The eleven fixed columns of row `index`.
 pub fn generate_bitwise_row(index: usize, row: &mut [u64]) -> Answer
-    ensures answer { λ r. ⌜ r ≡ answerOf (rowRefusal index (now (row .entry))) ⌝ }
+    ensures answer { λ r. ⌜ r ≡ answerOf (bitwiseRowRefusal index (now (row .entry))) ⌝ }
     ensures words { λ r. ⌜ now (row .exit) ≡ bitwiseRowAfter index (now (row .entry)) ⌝ }
 {
     if index >= NUM_ROWS {

@@ -1,5 +1,5 @@
-// Tuples of bytes: op(a, b) = c on the ByteAlu bus, and two bytes on the AreBytes bus. One as a call by index gives it, and as words: one, or
-// the eight of a lane.
+// Tuples of bytes: op(a, b) = c on the ByteAlu bus, and two bytes on the AreBytes bus. One as a call by index gives it,
+// and as words: one, or the eight of a lane.
 pub mod lane;
 pub mod send;
 pub mod words;

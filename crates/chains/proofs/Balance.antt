@@ -19,10 +19,10 @@ use Rattle.lists.proofs.Count.{count-same}
 use Rattle.lists.proofs.Tests.{true-not-false, not-true}
 use Rattle.lists.specs.declared.Place.{Place}
 use Rattle.lists.specs.declared.Place.the-variants.{At}
+use Rattle.lists.specs.Select.{wordsTest}
 use Rattle.field.proofs.Field.{fadd-small}
 use Rattle.keccak.specs.Tuples.{keccakValues}
 use Rattle.keccak_rnd.specs.Columns.{ROUND}
-use Rattle.bus.specs.Words.{wordsTest}
 use Rattle.verdict.specs.Kind.{rows, row, active, Active, SameTimestamp, DistinctTimestamps, Balanced}
 use Rattle.verdict.specs.CoreAndRound.{coreLayout, roundLayout, coreKind, roundKind}
 use Rattle.verdict.proofs.Judge.{is-active, active-is}
@@ -32,7 +32,7 @@ use Rattle.judge_tuples.specs.Port.{tupleOf, roundOf}
 use Rattle.judge_tuples.specs.declared.Port.{Port}
 use Rattle.judge_tuples.specs.declared.Port.the-variants.{CoreSend, CoreReceive, RoundReceive, RoundSend}
 use Rattle.judge_tuples.proofs.Ports.{tuple-is}
-use Rattle.judge_links.specs.Even.{carries, Even, owedBy}
+use Rattle.judge_links.specs.Even.{hasTuple, Even, owedBy}
 use Rattle.judge_links.proofs.Even.{even-to}
 use Rattle.chains.specs.Chain.{Follows, Linked, Chain, EachChain, Chained}
 use Rattle.chains.proofs.Counts.{count-none, count-put, count-full}
@@ -147,24 +147,24 @@ module _ (core round : List ℕ) where
 -- ---- the chain of an active core row
 -- how many of the first a core rows send v, and receive it
 abbrev sentBy : List ℕ → ℕ → List ℕ → ℕ
-sentBy core a v = count (carries coreLayout CoreSend core v) a
+sentBy core a v = count (hasTuple coreLayout CoreSend core v) a
 
 abbrev receivedBy : List ℕ → ℕ → List ℕ → ℕ
-receivedBy core a v = count (carries coreLayout CoreReceive core v) a
+receivedBy core a v = count (hasTuple coreLayout CoreReceive core v) a
 
 module _ (core : List ℕ) (a : ℕ) (port : Port) (v : List ℕ) where
-  core-one : active coreLayout core a ≡ true → count (carries coreLayout port core v) (a + 1) ≡ count (carries coreLayout port core v) a + one v (tupleOf port (row coreLayout core a))
-  unfolding carries one
+  core-one : active coreLayout core a ≡ true → count (hasTuple coreLayout port core v) (a + 1) ≡ count (hasTuple coreLayout port core v) a + one v (tupleOf port (row coreLayout core a))
+  unfolding hasTuple one
   core-one e = go (wordsTest v (tupleOf port (row coreLayout core a))) refl
     where
       go : (b : Bool) → wordsTest v (tupleOf port (row coreLayout core a)) ≡ b →
-          count (carries coreLayout port core v) (a + 1) ≡ count (carries coreLayout port core v) a + pick b 1 0
-      go true z = count-more (carries coreLayout port core v) a (rw (e, z))
-      go false z = count-skip (carries coreLayout port core v) a (rw (e, z)) ∙ omega arith
+          count (hasTuple coreLayout port core v) (a + 1) ≡ count (hasTuple coreLayout port core v) a + pick b 1 0
+      go true z = count-more (hasTuple coreLayout port core v) a (rw (e, z))
+      go false z = count-skip (hasTuple coreLayout port core v) a (rw (e, z)) ∙ omega arith
 
-  core-none : active coreLayout core a ≡ false → count (carries coreLayout port core v) (a + 1) ≡ count (carries coreLayout port core v) a
-  unfolding carries
-  core-none e = count-skip (carries coreLayout port core v) a (rw e)
+  core-none : active coreLayout core a ≡ false → count (hasTuple coreLayout port core v) (a + 1) ≡ count (hasTuple coreLayout port core v) a
+  unfolding hasTuple
+  core-none e = count-skip (hasTuple coreLayout port core v) a (rw e)
 
 -- the rows of the chains of the first a core rows
 abbrev TakenTo : List ℕ → List ℕ → ℕ → Type 0
@@ -253,7 +253,7 @@ module _ (core round : List ℕ) (apart : DistinctTimestamps coreLayout core) (c
   taken-to : (a : ℕ) → a ≤ rows coreLayout core → TakenTo core round a
   taken-to zero l =
       taken-as core round 0 (24 * 0) 0 (24 * count (active coreLayout core) 0) (λ v. 0) (λ v. 0) _ _ (omega arith) (omega (arith, count-start (active coreLayout core)))
-      (λ v. omega (arith, count-start (carries coreLayout CoreSend core v), count-start (carries coreLayout CoreReceive core v))) (taken-start core round (λ v. 0) (λ v. 0) (λ v. refl))
+      (λ v. omega (arith, count-start (hasTuple coreLayout CoreSend core v), count-start (hasTuple coreLayout CoreReceive core v))) (taken-start core round (λ v. 0) (λ v. 0) (λ v. refl))
   taken-to (suc a) l = subst (TakenTo core round) (add-one a) (core-taken a (omega arith) (taken-to a (omega arith)) (active coreLayout core a) refl)
 
   abbrev whole : TakenTo core round (rows coreLayout core)
@@ -264,8 +264,8 @@ module _ (core round : List ℕ) (apart : DistinctTimestamps coreLayout core) (c
   all-taken = count-full (whole .taken) (active roundLayout round) (λ r e. whole .member r e .on) (rows roundLayout round) (whole .size ∙ sym (c .number))
 
   carried : (port : Port) (v : List ℕ) →
-      count (λ r. whole .taken r && has round port v r) (rows roundLayout round) ≡ count (carries roundLayout port round v) (rows roundLayout round)
-  unfolding carries
+      count (λ r. whole .taken r && has round port v r) (rows roundLayout round) ≡ count (hasTuple roundLayout port round v) (rows roundLayout round)
+  unfolding hasTuple
   carried port v = count-same _ _ (rows roundLayout round) (λ r l. ap (λ (b : Bool). b && has round port v r) (all-taken r l))
 
   all-even : Even core round (rows coreLayout core) (rows roundLayout round)

@@ -39,6 +39,6 @@ pub record Chained (core round : List ℕ) : Type 0 where
   pub number : actives roundLayout round ≡ 24 * actives coreLayout core
 
 -- where a search found a place, it is one that was looked for
-unfoldable pub Found : (ℕ → Type 0) → Place → Type 0
-Found P Nowhere = Unit {0}
-Found P (At k) = P k
+unfoldable pub IfFound : (ℕ → Type 0) → Place → Type 0
+IfFound P Nowhere = Unit {0}
+IfFound P (At k) = P k

@@ -4,7 +4,7 @@ use mathlib.Core.Path.{_≡_, ap}
 use mathlib.Core.List.{List}
 use Prim.Native.Nat.{ℕ, _≤_}
 use lib.Dec.{ltb}
-use lib.ListN.{length, take}
+use lib.ListN.{length}
 use Rattle.lists.specs.Tab.{tab}
 use Rattle.lists.proofs.Laws.{tab-same}
 use Rattle.lists.proofs.Reading.{Alike, ReadsFirst, front-same}
@@ -13,14 +13,7 @@ use Rattle.answer.specs.declared.Refusal.the-variants.{TooShort, NotElement}
 use Rattle.field.specs.Elements.{firstNotElement}
 use Rattle.field.proofs.Reading.{elements-reads}
 use Rattle.lookup.proofs.Reading.{long-enough}
-use Rattle.evaluation.specs.Call.{valuesRefusal, valuesAnswer, valuesAfter}
-
--- 'A row may be lent longer than its columns; the rest is neither read nor written': not read
-abbrev pub RestNotRead : ℕ → ℕ → (List ℕ → ℕ → ℕ) → Type 0
-RestNotRead width count value =
-    (row out : List ℕ)
-    → (valuesAnswer width count (take width row) out ≡ valuesAnswer width count row out)
-    × (valuesAfter width count value (take width row) out ≡ valuesAfter width count value row out)
+use Rattle.evaluation.specs.Call.{RestNotRead, valuesRefusal, valuesAnswer, valuesAfter}
 
 module _ (width count : ℕ) (out row other : List ℕ) (h : width ≤ length row) (j : width ≤ length other) (same : Alike width row other) where
   checks : valuesRefusal width count row (length out) ≡ valuesRefusal width count other (length out)

@@ -6,7 +6,7 @@ use Rattle.answer.specs.Refusal.{refusalNumber, refusalDetail}
 use Rattle.answer.specs.declared.Refusal.{Refusal}
 use Rattle.answer.specs.declared.Refusal.the-variants.{PastEnd, NotWhole, TooShort, HighAddress, NotElement, BadRecord}
 use Rattle.op_file.specs.File.{tallyOf}
-use Rattle.op_file.specs.Reader.{feedOf, finishOf, start}
+use Rattle.op_file.specs.Reader.{feedOf, finishOf, fileStart}
 use Rattle.op_file.specs.declared.Cursor.{Cursor}
 use Rattle.op_file.specs.declared.Cursor.the-variants as cursor
 use Rattle.op_file.proofs.Laws.{feed-append, reads-file}
@@ -50,5 +50,5 @@ fed-stands c (s ∷ ss) =
     ∙ fed-stands (feedOf c s) ss
     ∙ sym (feed-append c s (joined ss))
 
-pub calls-tally : (syscall : ℕ) (ss : List (List ℕ)) → flatTally (finishOf (cursorOf (fed (flatCursor start) ss))) ≡ flatTally (tallyOf syscall (joined ss))
-calls-tally syscall ss = ap (λ (d : Cursor). flatTally (finishOf d)) (fed-stands start ss) ∙ ap flatTally (reads-file syscall (joined ss))
+pub calls-tally : (syscall : ℕ) (ss : List (List ℕ)) → flatTally (finishOf (cursorOf (fed (flatCursor fileStart) ss))) ≡ flatTally (tallyOf syscall (joined ss))
+calls-tally syscall ss = ap (λ (d : Cursor). flatTally (finishOf d)) (fed-stands fileStart ss) ∙ ap flatTally (reads-file syscall (joined ss))

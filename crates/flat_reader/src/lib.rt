@@ -5,8 +5,8 @@ use op_file::Tally;
 ghost use mathlib.Core.Path.{_≡_};
 ghost use Rattle.flat_reader.specs.FlatReader.{refusalOf, cursorOf, flatCursor, flatTally};
 
-// Where a reader stands: number and detail of the first fault, or 0 and 0 while there is none, and then the whole records,
-// the bytes of the next, and what its address bytes so far make.
+// Where a reader stands: number and detail of the first fault, or 0 and 0 while there is none, and then the whole
+// records, the bytes of the next, and what its address bytes so far make.
 #[repr(C)]
 pub struct FlatCursor {
     pub number: u64,

@@ -1,6 +1,7 @@
-// Halfwords: one of eight bytes; and one times a power of two, in its low sixteen bits and its carry, so that nothing is lost.
+// Halfwords: one of eight bytes; and one times a power of two, in its low sixteen bits and its carry, so that nothing
+// is lost.
 ghost use mathlib.Core.Path.{_≡_};
-ghost use Prim.Native.Nat.{ℕ, _+_, _*_, _^_, _<_};
+ghost use Prim.Native.Nat.{_+_, _*_, _^_, _<_};
 ghost use Rattle.lists.specs.Tab.{word};
 ghost use Rattle.bits.specs.Bits.{byteAt, laneOf, halfword, hwsl, hwslCarry, leftByte, rightByte};
 

@@ -6,7 +6,8 @@ use Rattle.lists.proofs.Reading.{ReadsFirst, then-same}
 use Rattle.field.specs.Field.{fadd, fmul}
 use Rattle.lookup.specs.Tuple.{sender, receiver}
 use Rattle.lookup.specs.declared.Bus.the-variants.{IsWh, IsHalfword, IsB20}
-use Rattle.lookup.proofs.Reading.{RestNotRead, tuple-rest}
+use Rattle.lookup.specs.Call.{RestNotRead}
+use Rattle.lookup.proofs.Reading.{tuple-rest}
 use Rattle.is_wh.specs.Columns.{MU, NUM-COLUMNS, value}
 use Rattle.is_wh.specs.Tuples.{NUM-TUPLES, isWhTuple}
 

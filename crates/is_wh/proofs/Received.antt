@@ -5,11 +5,9 @@ use mathlib.Core.List.{List, [], _∷_}
 use Prim.Native.Nat.{ℕ, zero, suc, _+_, _*_, _/_, _%_, _^_, _<_}
 use native.Mathlib.Nat.{mod-eq-of-lt}
 use native.Mathlib.Omega.{arith}
-use lib.ListN.{length}
 use Rattle.lists.specs.Tab.{word}
-use Rattle.field.specs.Field.{p, fadd, fmul}
+use Rattle.field.specs.Field.{fadd, fmul}
 use Rattle.lookup.specs.Tuple.{Tuple}
-use Rattle.is_wh.specs.declared.IsWhKey.{IsWhKey}
 use Rattle.is_wh.specs.Columns.{value}
 use Rattle.is_wh.specs.Key.{of-dword}
 use Rattle.is_wh.specs.Tuples.{isWhTuple, is-whh}

@@ -1,18 +1,16 @@
 -- What each tuple of an IS_WH row and of IS_WHH is: bus, side, multiplicity and values, by column numbers. And that they meet: what IS_WHH sends for a
 -- 64-bit value is what the row of its key receives. Assumes nothing.
-use mathlib.Core.Path.{_≡_, refl, sym, ap, ap₂, _∙_}
+use mathlib.Core.Path.{_≡_, refl, sym, ap, _∙_}
 use mathlib.Core.List.{List, [], _∷_}
-use Prim.Native.Nat.{ℕ, zero, suc, _+_, _-_, _*_, _/_, _%_, _^_, _≤_, _<_}
-use native.Mathlib.Nat.{mod-eq-of-lt}
+use Prim.Native.Nat.{ℕ, zero, suc, _+_, _-_, _≤_, _<_}
 use native.Mathlib.Omega.{arith}
 use lib.ListN.{length}
 use Rattle.lists.specs.Tab.{word}
 use Rattle.lists.proofs.Then.{then-lt, then-past}
-use Rattle.field.specs.Field.{p, fadd, fmul}
+use Rattle.field.specs.Field.{fadd, fmul}
 use Rattle.lookup.specs.Tuple.{Tuple}
 use Rattle.lookup.specs.declared.Bus.the-variants.{IsWh, IsHalfword, IsB20}
 use Rattle.lookup.specs.declared.Side.the-variants.{Sender, Receiver}
-use Rattle.is_wh.specs.Key.{of-dword}
 use Rattle.is_wh.specs.Tuples.{isWhTuple, is-whh}
 
 module _ (row : List ℕ) where

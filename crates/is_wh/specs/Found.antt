@@ -6,7 +6,7 @@ use mathlib.Core.Path.{_≡_}
 use lib.Dec.{eqb, ltb}
 use lib.ListN.{length, getD}
 
--- a 32-bit word and a 16-bit half
+-- "IsWh must be a 32-bit word and a 16-bit half": a statement, and the test of it
 unfoldable pub IsWhFound : List ℕ → Type 0
 IsWhFound vs = (length vs ≡ 2) × (getD vs 0 0 < 2 ^ 32) × (getD vs 1 0 < 2 ^ 16)
 

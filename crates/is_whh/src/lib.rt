@@ -8,7 +8,6 @@ ghost use mathlib.Core.Path.{_≡_};
 ghost use Prim.Native.Nat.{_+_, _≤_};
 ghost use lib.ListN.{length};
 ghost use Rattle.answer.specs.Refusal.{overwrite};
-ghost use Rattle.lookup.specs.Tuple.{Tuple};
 ghost use Rattle.lookup.specs.Call.{interactionOf};
 ghost use Rattle.is_wh.specs.Tuples.{is-whh};
 

@@ -15,7 +15,7 @@ use Rattle.answer.specs.declared.Refusal.{Refusal}
 use Rattle.keccak.specs.Row.{opAt}
 use Rattle.keccak.specs.Refusals.{opCount}
 use Rattle.keccak_rnd.specs.Row.{roundTable, roundHeight, roundRowAt}
-use Rattle.keccak_rnd.specs.Refusals.{traceRefusal}
+use Rattle.keccak_rnd.specs.Refusals.{roundTraceRefusal}
 use Rattle.keccak_rnd.specs.Calls.{roundTraceAfter}
 use Rattle.verdict.specs.Kind.{actives}
 use Rattle.verdict.specs.CoreAndRound.{coreLayout, verdictOf}
@@ -52,7 +52,7 @@ module _ (core : List ℕ) (supposed : Supposed core) where
   -- the writer, called with the active core rows as operations and a table as long as ours, writes our table
   pub ours-written : (before after : List ℕ) → length before ≡ length (ourRounds 24 4 core) → Wrote (operations core) before after →
       after ≡ ourRounds 24 4 core
-  unfolding traceRefusal afterwards ourRounds roundTable
+  unfolding roundTraceRefusal afterwards ourRounds roundTable
   ours-written before after e w =
       let h : ℕ = roundHeight 24 4 (opCount (operations core)) in
       let n : h * 1480 ≤ length before = omega (arith, e, length-table h 1480 (roundRowAt 24 (opCount (operations core)) (opAt (operations core)))) in

@@ -13,7 +13,7 @@ use borrow.Author.Tests.{eqb-true, eq-eqb, ne-eqb}
 use lib.Dec.{eqb}
 use lib.ListN.{length}
 use Rattle.lists.specs.Tab.{then, word, rowAt}
-use Rattle.lists.specs.First.{first, inRow, firstIn}
+use Rattle.lists.specs.First.{first, inRow}
 use Rattle.lists.proofs.First.{first-more, first-hit, in-none}
 use Rattle.keccak.specs.Tuples.{coreTuple}
 use Rattle.keccak_rnd.specs.Tuples.{roundTuple}

@@ -1,4 +1,5 @@
-// The first unbalanced tuple on the Keccak bus of a core table and a round table: counts of the rows that the walk left.
+// The first unbalanced tuple on the Keccak bus of a core table and a round table: counts of the rows that the walk
+// left.
 use judge_counts::Counts;
 use judge_counts::count;
 use judge_links::row_at;
@@ -32,7 +33,8 @@ struct Unbalanced {
     second: bool,
 }
 
-// Which of the tuples s and q of the row x are. What the walk passed is even, so only the rows that it left are counted.
+// Which of the tuples s and q of the row x are. What the walk passed is even, so only the rows that it left are
+// counted.
 fn unbalanced_tuples(
     core: &[u64],
     round: &[u64],
@@ -65,8 +67,8 @@ fn index_of(port: Port) -> usize
     }
 }
 
-// The first active row of a table, the core table or the round table, with an unbalanced tuple: tuple s, or else tuple q.
-// MU is the last word of a row of either table.
+// The first active row of a table, the core table or the round table, with an unbalanced tuple: tuple s, or else tuple
+// q. MU is the last word of a row of either table.
 fn first_unbalanced(
     core: &[u64],
     round: &[u64],

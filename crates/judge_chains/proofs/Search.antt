@@ -10,15 +10,15 @@ use native.Mathlib.Omega.{arith}
 use Rattle.lists.proofs.Tests.{T-of, true-not-false}
 use Rattle.lists.specs.declared.Place.{Place}
 use Rattle.lists.specs.declared.Place.the-variants.{At, Nowhere}
-use Rattle.bus.specs.Words.{wordsTest}
-use Rattle.bus.proofs.Words.{words-sound}
+use Rattle.lists.specs.Select.{wordsTest}
+use Rattle.lists.proofs.Select.{words-sound}
 use Rattle.verdict.specs.Kind.{rows, row, active}
 use Rattle.verdict.specs.CoreAndRound.{coreLayout, roundLayout}
 use Rattle.verdict.proofs.Judge.{is-active}
 use Rattle.judge_tuples.specs.Port.{tupleOf}
 use Rattle.judge_tuples.specs.declared.Port.the-variants.{CoreReceive, RoundSend}
 use Rattle.judge_links.specs.Even.{Started}
-use Rattle.chains.specs.Chain.{Follows, Linked, Chain, EachChain, Found}
+use Rattle.chains.specs.Chain.{Follows, Linked, Chain, EachChain, IfFound}
 use Rattle.chains.proofs.Found.{found-at, found-is}
 
 -- ---- the rows of a chain
@@ -36,7 +36,7 @@ module _ (core : List ℕ) (a : ℕ) (round : List ℕ) where
   unfolding Started Linked
   rows-start q l = record { started = tt; inside = l; linked = refl }
 
-  pub rows-next : (n : ℕ) (last : Place) (q : ℕ) → Rows n last q → (p : Place) (r : ℕ) → p ≡ At r → Found (Follows core a round last) p →
+  pub rows-next : (n : ℕ) (last : Place) (q : ℕ) → Rows n last q → (p : Place) (r : ℕ) → p ≡ At r → IfFound (Follows core a round last) p →
       (next : Place) (d : ℕ) → next ≡ At r → d ≡ r + 1 → Rows (n + 1) next d
   unfolding Started Linked
   rows-next n last q h p r e f next d z w =
@@ -48,12 +48,12 @@ module _ (core : List ℕ) (a : ℕ) (round : List ℕ) where
         linked = subst (λ (k : ℕ). Linked core a round k (At r)) (sym (add-one n)) (last, r, h .linked, g, refl);
       })
 
-  pub rows-end : (n : ℕ) (last : Place) (q : ℕ) → n ≤ 24 → 24 ≤ n → Rows n last q → Found (λ (r : ℕ). Linked core a round 24 (At r)) last
+  pub rows-end : (n : ℕ) (last : Place) (q : ℕ) → n ≤ 24 → 24 ≤ n → Rows n last q → IfFound (λ (r : ℕ). Linked core a round 24 (At r)) last
   unfolding Linked
   rows-end n last q l g h =
       let e : n ≡ 24 = omega arith in
       let x : Linked core a round 24 last = subst (λ (k : ℕ). Linked core a round k last) e (h .linked) in
-      subst (Found (λ (r : ℕ). Linked core a round 24 (At r))) (sym (x .4))
+      subst (IfFound (λ (r : ℕ). Linked core a round 24 (At r))) (sym (x .4))
       (found-at (λ (r : ℕ). Linked core a round 24 (At r)) (x .1) (subst (Linked core a round 24) (x .4) x))
 
   -- the last row of 24
@@ -85,7 +85,7 @@ module _ (core round : List ℕ) where
   pub chains-off : (n : ℕ) → active coreLayout core n ≡ false → (from d : ℕ) → d ≡ from → (from ≤ rows roundLayout round) × ChainsTo core round n → (d ≤ rows roundLayout round) × ChainsTo core round (n + 1)
   chains-off n e from d z h = (omega (arith, h .0), chains-more n (h .1) (λ f. absurd (true-not-false (sym f ∙ e))))
 
-  pub chains-on : (n : ℕ) → ChainsTo core round n → (p : Place) (k : ℕ) → p ≡ At k → Found (λ (q : ℕ). (q ≤ rows roundLayout round) × Chain core round n) p →
+  pub chains-on : (n : ℕ) → ChainsTo core round n → (p : Place) (k : ℕ) → p ≡ At k → IfFound (λ (q : ℕ). (q ≤ rows roundLayout round) × Chain core round n) p →
       (d : ℕ) → d ≡ k → (d ≤ rows roundLayout round) × ChainsTo core round (n + 1)
   chains-on n h p k e f d z =
       let g = found-is (λ (q : ℕ). (q ≤ rows roundLayout round) × Chain core round n) p k e f in

@@ -1,4 +1,5 @@
-// Whether each core row has its chain of 24 round rows, wherever these stand: a search that shows the Keccak bus balanced.
+// Whether each core row has its chain of 24 round rows, wherever these stand: a search that shows the Keccak bus
+// balanced.
 use judge_links::ends;
 use judge_next::next_row;
 use judge_scan::active_core_rows;
@@ -14,12 +15,12 @@ ghost use Prim.Native.Nat.{ℕ, _+_, _≤_, _<_};
 ghost use Rattle.lists.specs.declared.Place.the-variants.{At};
 ghost use Rattle.verdict.specs.Kind.{rows, actives};
 ghost use Rattle.verdict.specs.CoreAndRound.{coreLayout, roundLayout};
-ghost use Rattle.chains.specs.Chain.{Linked, Chain, EachChain, Chained, Found};
+ghost use Rattle.chains.specs.Chain.{Linked, Chain, EachChain, Chained, IfFound};
 
 // The last of 24 rows that follow one another in the chain of core row a.
 fn chain_rows(core: &[u64], a: usize, round: &[u64], from: usize) -> Place
     requires { ⌜ (a < rows coreLayout (now core)) × (from ≤ rows roundLayout (now round)) ⌝ }
-    ensures { λ r. ⌜ Found (λ (q : ℕ). Linked (now (core .entry)) a (now (round .entry)) 24 (At q)) r ⌝ }
+    ensures { λ r. ⌜ IfFound (λ (q : ℕ). Linked (now (core .entry)) a (now (round .entry)) 24 (At q)) r ⌝ }
 {
     let mut last = Place::Nowhere;
     let mut q = from;
@@ -42,7 +43,7 @@ fn chain_rows(core: &[u64], a: usize, round: &[u64], from: usize) -> Place
 // The row after the last one of the chain of core row a.
 fn chain_end(core: &[u64], a: usize, round: &[u64], from: usize) -> Place
     requires { ⌜ (a < rows coreLayout (now core)) × (from ≤ rows roundLayout (now round)) ⌝ }
-    ensures { λ r. ⌜ Found (λ (q : ℕ). (q ≤ rows roundLayout (now (round .entry))) × Chain (now (core .entry)) (now (round .entry)) a) r ⌝ }
+    ensures { λ r. ⌜ IfFound (λ (q : ℕ). (q ≤ rows roundLayout (now (round .entry))) × Chain (now (core .entry)) (now (round .entry)) a) r ⌝ }
 {
     if let Place::At(r) = chain_rows(core, a, round, from) {
         if ends(core, a, round, r) {

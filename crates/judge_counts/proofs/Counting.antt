@@ -9,15 +9,15 @@ use lib.Dec.{eqb}
 use lib.ListN.{length}
 use Rattle.lists.specs.Tab.{pick, word, rowAt}
 use Rattle.lists.specs.First.{count}
+use Rattle.lists.specs.Select.{wordsTest}
 use Rattle.lists.proofs.First.{count-more, count-skip, count-le, count-end}
 use Rattle.lists.proofs.Laws.{length-rowAt}
 use Rattle.lists.proofs.Tests.{true-not-false, false-and}
-use Rattle.bus.specs.Words.{wordsTest}
 use Rattle.verdict.specs.Kind.{rows, row, active, isActive, sameStamp}
 use Rattle.judge_tuples.specs.Port.{tupleOf, widthOf}
 use Rattle.judge_tuples.specs.declared.Port.{Port}
 use Rattle.judge_tuples.proofs.Ports.{front-fits, stamp-apart}
-use Rattle.judge_links.specs.Even.{layoutOf, carries}
+use Rattle.judge_links.specs.Even.{layoutOf, hasTuple}
 use Rattle.judge_links.proofs.Even.{width-is, mu-is, row-wide}
 use Rattle.judge_counts.specs.Counting.{withRow, Counted, CountedRows}
 use Rattle.judge_counts.specs.declared.Counts.{Counts}
@@ -119,11 +119,11 @@ module _ (send : Port) (w : ℕ) (ew : w ≡ layoutOf send .width) where
     pub rows-end : r ≤ length ws / w → length ws / w ≤ r → CountedRows send receive ws v from (rows (layoutOf send) ws) t
     rows-end l m =
         subst (λ (k : ℕ). CountedRows send receive ws v from (length ws / k) t) ew
-        (counts-end (carries (layoutOf send) send ws v) (carries (layoutOf send) receive ws v) from r t h (length ws / w) l m)
+        (counts-end (hasTuple (layoutOf send) send ws v) (hasTuple (layoutOf send) receive ws v) from r t h (length ws / w) l m)
 
     pub rows-small : r < length ws / w → length ws < 2 ^ 63 → (t .sent < 2 ^ 63) × (t .received < 2 ^ 63)
     rows-small l m =
-        let g = counts-le (carries (layoutOf send) send ws v) (carries (layoutOf send) receive ws v) from r t h in
+        let g = counts-le (hasTuple (layoutOf send) send ws v) (hasTuple (layoutOf send) receive ws v) from r t h in
         let d = div-le-self (length ws) w in (omega arith, omega arith)
 
   -- row r, as the code finds it: one test for all of its tuples, then each tuple
@@ -137,14 +137,14 @@ module _ (send : Port) (w : ℕ) (ew : w ≡ layoutOf send .width) where
         let em : w - 1 ≡ layoutOf send .mu = omega (arith, mu-is send) in
         sym (eb ∙ (λ i. eqb (word (here i) (em i)) 1 && sameStamp x (here i)))
 
-    carried : (s port : Port) → b ≡ true → wordsTest (tupleOf s x) (tupleOf port y) ≡ carries (layoutOf send) port ws (tupleOf s x) r
-    unfolding carries
+    carried : (s port : Port) → b ≡ true → wordsTest (tupleOf s x) (tupleOf port y) ≡ hasTuple (layoutOf send) port ws (tupleOf s x) r
+    unfolding hasTuple
     carried s port e =
         ap (λ (z : List ℕ). wordsTest (tupleOf s x) (tupleOf port z)) here
         ∙ on-and (active (layoutOf send) ws r) (sameStamp x (row (layoutOf send) ws r)) (wordsTest (tupleOf s x) (tupleOf port (row (layoutOf send) ws r))) (tested ∙ e)
 
-    other : (s port : Port) → b ≡ false → carries (layoutOf send) port ws (tupleOf s x) r ≡ false
-    unfolding carries
+    other : (s port : Port) → b ≡ false → hasTuple (layoutOf send) port ws (tupleOf s x) r ≡ false
+    unfolding hasTuple
     other s port e =
         off-and (active (layoutOf send) ws r) (sameStamp x (row (layoutOf send) ws r)) (wordsTest (tupleOf s x) (tupleOf port (row (layoutOf send) ws r))) (tested ∙ e)
         (stamp-apart s x port (row (layoutOf send) ws r))

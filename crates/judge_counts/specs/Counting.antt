@@ -7,7 +7,7 @@ use Prim.Native.Nat.{ℕ, _+_}
 use Rattle.lists.specs.Tab.{pick}
 use Rattle.lists.specs.First.{count}
 use Rattle.judge_tuples.specs.declared.Port.{Port}
-use Rattle.judge_links.specs.Even.{layoutOf, carries}
+use Rattle.judge_links.specs.Even.{layoutOf, hasTuple}
 use Rattle.judge_counts.specs.declared.Counts.{Counts}
 
 -- counts of rows that send and of rows that receive, with one row more
@@ -26,4 +26,4 @@ pub record Counted (f g : ℕ → Bool) (from n : ℕ) (t : Counts) : Type 0 whe
 -- those of the tuple v over the rows of a table that sends `send` and receives `receive`
 abbrev pub CountedRows : Port → Port → List ℕ → List ℕ → ℕ → ℕ → Counts → Type 0
 CountedRows send receive ws v from n t =
-    Counted (carries (layoutOf send) send ws v) (carries (layoutOf send) receive ws v) from n t
+    Counted (hasTuple (layoutOf send) send ws v) (hasTuple (layoutOf send) receive ws v) from n t

@@ -10,7 +10,7 @@ ghost use Prim.Native.Nat.{_+_, _^_, _≤_, _<_};
 ghost use lib.Dec.{eqb};
 ghost use lib.ListN.{length};
 ghost use Rattle.lists.specs.Tab.{pick, word};
-ghost use Rattle.bus.specs.Words.{wordsTest};
+ghost use Rattle.lists.specs.Select.{wordsTest};
 ghost use Rattle.verdict.specs.Kind.{rows, sameStamp};
 ghost use Rattle.judge_tuples.specs.Port.{widthOf, tupleOf};
 ghost use Rattle.judge_links.specs.Even.{layoutOf};

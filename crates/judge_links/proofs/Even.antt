@@ -5,17 +5,17 @@
 use mathlib.Core.Path.{_≡_, refl, sym, ap, subst, _∙_}
 use mathlib.Core.Bool.{Bool}
 use mathlib.Core.List.{List}
-use Prim.Native.Nat.{ℕ, _+_, _-_, _*_, _/_, _≤_, _<_}
+use Prim.Native.Nat.{ℕ, _+_, _-_, _≤_, _<_}
 use native.Mathlib.Omega.{arith}
-use lib.ListN.{length, take, drop}
+use lib.ListN.{length}
 use Rattle.lists.specs.Tab.{then, rowAt}
 use Rattle.lists.specs.First.{count}
 use Rattle.lists.proofs.Laws.{length-rowAt}
 use Rattle.lists.specs.declared.Place.{Place}
 use Rattle.lists.specs.declared.Place.the-variants.{At}
+use Rattle.lists.specs.Select.{wordsTest}
 use Rattle.keccak.specs.Tuples.{coreTuple}
 use Rattle.keccak_rnd.specs.Tuples.{roundTuple}
-use Rattle.bus.specs.Words.{wordsTest}
 use Rattle.verdict.specs.Kind.{rows}
 use Rattle.verdict.specs.CoreAndRound.{coreLayout, roundLayout, coreKind, roundKind}
 use Rattle.verdict.proofs.Tuples.{carriesAt, core-bus, round-bus}
@@ -23,7 +23,7 @@ use Rattle.verdict.proofs.Walk.{EvenTo}
 use Rattle.judge_tuples.specs.Port.{tupleOf, widthOf}
 use Rattle.judge_tuples.specs.declared.Port.{Port}
 use Rattle.judge_tuples.specs.declared.Port.the-variants.{CoreSend, CoreReceive, RoundReceive, RoundSend}
-use Rattle.judge_links.specs.Even.{layoutOf, carries, Even, Started}
+use Rattle.judge_links.specs.Even.{layoutOf, hasTuple, Even, Started}
 
 -- ---- rows by port
 pub width-is : (s : Port) → widthOf s ≡ layoutOf s .width
@@ -57,20 +57,20 @@ unfolding Started
 started-in round last r e s = subst (Started round) e s
 
 -- ---- the tuples of the two kinds by port
-pub core-sends : (core v : List ℕ) → carries coreLayout CoreSend core v ≡ carriesAt (coreKind 24) 2 core v
-unfolding carries carriesAt tupleOf coreTuple then
+pub core-sends : (core v : List ℕ) → hasTuple coreLayout CoreSend core v ≡ carriesAt (coreKind 24) 2 core v
+unfolding hasTuple carriesAt tupleOf coreTuple then
 core-sends core v = refl
 
-pub core-receives : (core v : List ℕ) → carries coreLayout CoreReceive core v ≡ carriesAt (coreKind 24) 3 core v
-unfolding carries carriesAt tupleOf coreTuple then
+pub core-receives : (core v : List ℕ) → hasTuple coreLayout CoreReceive core v ≡ carriesAt (coreKind 24) 3 core v
+unfolding hasTuple carriesAt tupleOf coreTuple then
 core-receives core v = refl
 
-pub round-sends : (round v : List ℕ) → carries roundLayout RoundSend round v ≡ carriesAt roundKind 1 round v
-unfolding carries carriesAt tupleOf roundTuple then
+pub round-sends : (round v : List ℕ) → hasTuple roundLayout RoundSend round v ≡ carriesAt roundKind 1 round v
+unfolding hasTuple carriesAt tupleOf roundTuple then
 round-sends round v = refl
 
-pub round-receives : (round v : List ℕ) → carries roundLayout RoundReceive round v ≡ carriesAt roundKind 0 round v
-unfolding carries carriesAt tupleOf roundTuple then
+pub round-receives : (round v : List ℕ) → hasTuple roundLayout RoundReceive round v ≡ carriesAt roundKind 0 round v
+unfolding hasTuple carriesAt tupleOf roundTuple then
 round-receives round v = refl
 
 pub counts : {f g : ℕ → Bool} → f ≡ g → (n : ℕ) → count f n ≡ count g n

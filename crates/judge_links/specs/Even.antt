@@ -8,7 +8,7 @@ use Prim.Native.Nat.{ℕ, _+_, _<_}
 use Rattle.lists.specs.First.{count}
 use Rattle.lists.specs.declared.Place.{Place}
 use Rattle.lists.specs.declared.Place.the-variants.{At, Nowhere}
-use Rattle.bus.specs.Words.{wordsTest}
+use Rattle.lists.specs.Select.{wordsTest}
 use Rattle.verdict.specs.Kind.{Layout, rows, row, active}
 use Rattle.verdict.specs.CoreAndRound.{coreLayout, roundLayout}
 use Rattle.judge_tuples.specs.Port.{tupleOf}
@@ -23,14 +23,14 @@ layoutOf RoundReceive = roundLayout
 layoutOf RoundSend = roundLayout
 
 -- whether row r of a table is active and has, as its tuple `port`, the tuple v
-unfoldable pub carries : Layout → Port → List ℕ → List ℕ → ℕ → Bool
-carries A port ws v r = active A ws r && wordsTest v (tupleOf port (row A ws r))
+unfoldable pub hasTuple : Layout → Port → List ℕ → List ℕ → ℕ → Bool
+hasTuple A port ws v r = active A ws r && wordsTest v (tupleOf port (row A ws r))
 
 -- each tuple is sent as often as received by the first a core rows and the first b round rows
 unfoldable pub Even : List ℕ → List ℕ → ℕ → ℕ → Type 0
 Even core round a b =
-    (v : List ℕ) → count (carries coreLayout CoreSend core v) a + count (carries roundLayout RoundSend round v) b
-    ≡ count (carries coreLayout CoreReceive core v) a + count (carries roundLayout RoundReceive round v) b
+    (v : List ℕ) → count (hasTuple coreLayout CoreSend core v) a + count (hasTuple roundLayout RoundSend round v) b
+    ≡ count (hasTuple coreLayout CoreReceive core v) a + count (hasTuple roundLayout RoundReceive round v) b
 
 -- the tuple that is owed in the chain of core row a: what the last round row of the chain sent, or what row a sent
 unfoldable pub owedBy : List ℕ → ℕ → List ℕ → Place → List ℕ

@@ -1,5 +1,5 @@
-// Rows by the ports of their tuples, and whether one row of the Keccak bus receives what another one sends: the links of
-// the chain of a core row.
+// Rows by the ports of their tuples, and whether one row of the Keccak bus receives what another one sends: the links
+// of the chain of a core row.
 use judge_tuples::Port;
 use judge_tuples::same_tuple;
 use keccak;
@@ -9,7 +9,7 @@ ghost use mathlib.Core.Path.{_≡_};
 ghost use Prim.Native.Nat.{_/_, _<_};
 ghost use lib.ListN.{length};
 ghost use Rattle.lists.specs.Tab.{rowAt};
-ghost use Rattle.bus.specs.Words.{wordsTest};
+ghost use Rattle.lists.specs.Select.{wordsTest};
 ghost use Rattle.verdict.specs.Kind.{rows, row};
 ghost use Rattle.verdict.specs.CoreAndRound.{coreLayout, roundLayout};
 ghost use Rattle.judge_tuples.specs.Port.{tupleOf};

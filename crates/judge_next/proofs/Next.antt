@@ -7,8 +7,8 @@ use native.Mathlib.Nat.{mod-lt, mod-eq-of-lt, add-mod-right}
 use native.Mathlib.Omega.{arith}
 use Rattle.lists.proofs.Tests.{T-of}
 use Rattle.lists.specs.declared.Place.{Place}
-use Rattle.bus.specs.Words.{wordsTest}
-use Rattle.bus.proofs.Words.{words-sound}
+use Rattle.lists.specs.Select.{wordsTest}
+use Rattle.lists.proofs.Select.{words-sound}
 use Rattle.verdict.specs.Kind.{rows, row, active}
 use Rattle.verdict.specs.CoreAndRound.{roundLayout}
 use Rattle.verdict.proofs.Judge.{active-is}

@@ -10,7 +10,7 @@ ghost use Prim.Native.Nat.{_+_, _%_, _≤_, _<_};
 ghost use Rattle.verdict.specs.Kind.{rows};
 ghost use Rattle.verdict.specs.CoreAndRound.{coreLayout, roundLayout};
 ghost use Rattle.judge_links.specs.Even.{Started};
-ghost use Rattle.chains.specs.Chain.{Follows, Found};
+ghost use Rattle.chains.specs.Chain.{Follows, IfFound};
 
 // Whether round row q is active and receives what is owed. The first word of a timestamp, one word along a chain, tells
 // most rows apart; MU stands far behind it in the row, so it is read last.
@@ -35,10 +35,11 @@ fn around(x: usize, n: usize) -> usize
     if x < n { x } else { x - n }
 }
 
-// The next row of a chain. The search begins at row `from` and goes both ways: rows in the writer's order, or in the reversed one, are found at once.
+// The next row of a chain. The search begins at row `from` and goes both ways: rows in the writer's order, or in the
+// reversed one, are found at once.
 pub fn next_row(core: &[u64], a: usize, round: &[u64], last: Place, from: usize) -> Place
     requires { ⌜ (a < rows coreLayout (now core)) × Started (now round) last × (from ≤ rows roundLayout (now round)) ⌝ }
-    ensures { λ r. ⌜ Found (Follows (now (core .entry)) a (now (round .entry)) last) r ⌝ }
+    ensures { λ r. ⌜ IfFound (Follows (now (core .entry)) a (now (round .entry)) last) r ⌝ }
 {
     let rows = round.len() / keccak_rnd::NUM_COLUMNS;
     let mut k = 0;

@@ -41,8 +41,9 @@ pub fn first_core_value(core: &[u64]) -> Spot
     found
 }
 
-// The first row of a core table with a tuple that needs a match and has none, and the first such tuple in it. The indexes of a row are
-// gone through a group at a time, because a group is tested by its columns and no index is decoded.
+// The first row of a core table with a tuple that needs a match and has none, and the first such tuple in it. The
+// indexes of a row are gone through a group at a time, because a group is tested by its columns and no index is
+// decoded.
 pub fn first_core_lookup(core: &[u64]) -> Spot
     ensures { λ r. ⌜ r ≡ spotOf (firstLookup (coreKind 24) (now (core .entry))) ⌝ }
 {
@@ -91,7 +92,8 @@ pub fn first_round_value(round: &[u64]) -> Spot
     found
 }
 
-// The first row of a round table with a tuple that needs a match and has none, and the first such tuple in it, in the same way.
+// The first row of a round table with a tuple that needs a match and has none, and the first such tuple in it, in the
+// same way.
 pub fn first_round_lookup(round: &[u64]) -> Spot
     requires { ⌜ Elements (now round) ⌝ }
     ensures { λ r. ⌜ r ≡ spotOf (firstLookup roundKind (now (round .entry))) ⌝ }

@@ -11,20 +11,20 @@ use lib.Dec.{T, eqb, ltb}
 use lib.ListN.{getD}
 use Rattle.lists.specs.Tab.{word, pick, tab}
 use Rattle.lists.specs.First.{any}
+use Rattle.lists.specs.Select.{wordsTest}
 use Rattle.lists.proofs.First.{any-clear, any-nothing}
 use Rattle.lists.proofs.Tests.{T-of, and-true, true-and}
 use Rattle.lists.proofs.Then.{T-true}
 use Rattle.lists.proofs.Laws.{getD-tab, tab-same}
+use Rattle.lists.proofs.Select.{words-same, words-sound}
 use Rattle.keccak.specs.Columns.{byXYB}
 use Rattle.keccak.specs.Tuples.{keccakValues, coreSent, coreReceived}
 use Rattle.keccak_rnd.specs.Tuples.{out, roundReceived, roundSent}
 use Rattle.keccak_rnd.proofs.Active.{of-200}
 use Rattle.keccak_rnd.proofs.Step.{keccak-same}
-use Rattle.bus.specs.Words.{wordsTest}
-use Rattle.bus.proofs.Words.{words-sound, words-same}
 use Rattle.verdict.specs.Kind.{sameStamp}
 use Rattle.verdict.proofs.Rows.{lt-or-ge}
-use Rattle.judge_tuples.specs.Port.{tupleOf, widthOf, roundOf, laneAt, restAt, apart, sameState}
+use Rattle.judge_tuples.specs.Port.{tupleOf, widthOf, roundOf, laneAt, restAt, wordsDiffer, sameState}
 use Rattle.judge_tuples.specs.declared.Port.{Port}
 use Rattle.judge_tuples.specs.declared.Port.the-variants.{CoreSend, CoreReceive, RoundReceive, RoundSend}
 
@@ -149,21 +149,21 @@ module _ (s : Port) (x : List ℕ) (q : Port) (y : List ℕ) where
   words-spread h = tab-same 200 (byXYB (cell s x)) (byXYB (cell q y)) (λ i l. h ((i / 40 + 5 * (i / 8 % 5)) * 8 + i % 8) (omega arith))
 
   columns-words : sameState s x q y ≡ true → SameWords
-  unfolding sameState apart
+  unfolding sameState wordsDiffer
   columns-words e k l =
-      let b = and-true (not (any (apart x (laneAt s) y (laneAt q)) 8)) (not (any (apart x (restAt s + 8) y (restAt q + 8)) 192)) e in
+      let b = and-true (not (any (wordsDiffer x (laneAt s) y (laneAt q)) 8)) (not (any (wordsDiffer x (restAt s + 8) y (restAt q + 8)) 192)) e in
       elim (lt-or-ge k 8) [
-        | inl g ↦ early s x k g ∙ eqb-true _ _ (not-false _ (any-clear (apart x (laneAt s) y (laneAt q)) 8 k (not-true _ (b .0)) g)) ∙ sym (early q y k g)
+        | inl g ↦ early s x k g ∙ eqb-true _ _ (not-false _ (any-clear (wordsDiffer x (laneAt s) y (laneAt q)) 8 k (not-true _ (b .0)) g)) ∙ sym (early q y k g)
         | inr g ↦
             let z : restAt s + k ≡ restAt s + 8 + (k - 8) = omega arith in
             let w : restAt q + k ≡ restAt q + 8 + (k - 8) = omega arith in
             late s x k g ∙ ap (word x) z
-            ∙ eqb-true _ _ (not-false _ (any-clear (apart x (restAt s + 8) y (restAt q + 8)) 192 (k - 8) (not-true _ (b .1)) (omega arith)))
+            ∙ eqb-true _ _ (not-false _ (any-clear (wordsDiffer x (restAt s + 8) y (restAt q + 8)) 192 (k - 8) (not-true _ (b .1)) (omega arith)))
             ∙ sym (ap (word y) w) ∙ sym (late q y k g)
       ]
 
   words-columns : SameWords → sameState s x q y ≡ true
-  unfolding sameState apart
+  unfolding sameState wordsDiffer
   words-columns h =
       true-and _ _
       (ap not (any-nothing _ 8 (λ k l. ap not (eq-eqb _ _ (sym (early s x k l) ∙ h k (omega arith) ∙ early q y k l)))))
@@ -197,16 +197,16 @@ module _ (s : Port) (x : List ℕ) (q : Port) (y : List ℕ) where
     by-state z = sym (tuple-test ∙ rw (e, eq-eqb (roundOf s x) (roundOf q y) (sym ea ∙ z ∙ eb)))
 
   -- the states, likewise: the first lane, then the others
-  module _ (i j : ℕ) (ei : i ≡ laneAt s) (ej : j ≡ laneAt q) (b : Bool) (eb : b ≡ not (any (apart x i y j) 8)) where
-    first-lane : b ≡ not (any (apart x (laneAt s) y (laneAt q)) 8)
-    first-lane = eb ∙ ap₂ (λ (i j : ℕ). not (any (apart x i y j) 8)) ei ej
+  module _ (i j : ℕ) (ei : i ≡ laneAt s) (ej : j ≡ laneAt q) (b : Bool) (eb : b ≡ not (any (wordsDiffer x i y j) 8)) where
+    first-lane : b ≡ not (any (wordsDiffer x (laneAt s) y (laneAt q)) 8)
+    first-lane = eb ∙ ap₂ (λ (i j : ℕ). not (any (wordsDiffer x i y j) 8)) ei ej
 
     pub lane-apart : b ≡ false → false ≡ sameState s x q y
     unfolding sameState
     lane-apart z = sym (rw (sym first-lane ∙ z))
 
-    pub by-rest : b ≡ true → (m n : ℕ) (c : Bool) → m ≡ restAt s + 8 → n ≡ restAt q + 8 → c ≡ not (any (apart x m y n) 192) →
+    pub by-rest : b ≡ true → (m n : ℕ) (c : Bool) → m ≡ restAt s + 8 → n ≡ restAt q + 8 → c ≡ not (any (wordsDiffer x m y n) 192) →
         c ≡ sameState s x q y
     unfolding sameState
     by-rest z m n c em en ec =
-        ec ∙ ap₂ (λ (i j : ℕ). not (any (apart x i y j) 192)) em en ∙ sym (rw (sym first-lane ∙ z))
+        ec ∙ ap₂ (λ (i j : ℕ). not (any (wordsDiffer x i y j) 192)) em en ∙ sym (rw (sym first-lane ∙ z))

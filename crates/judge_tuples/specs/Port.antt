@@ -48,10 +48,10 @@ restAt RoundReceive = round.START
 restAt RoundSend = round.CHI
 
 -- word k of a from i on is not word k of b from j on
-unfoldable pub apart : List ℕ → ℕ → List ℕ → ℕ → ℕ → Bool
-apart a i b j k = not (eqb (word a (i + k)) (word b (j + k)))
+unfoldable pub wordsDiffer : List ℕ → ℕ → List ℕ → ℕ → ℕ → Bool
+wordsDiffer a i b j k = not (eqb (word a (i + k)) (word b (j + k)))
 
 -- whether the states of two tuples have the same words, by their columns
 unfoldable pub sameState : Port → List ℕ → Port → List ℕ → Bool
 sameState s x q y =
-    not (any (apart x (laneAt s) y (laneAt q)) 8) && not (any (apart x (restAt s + 8) y (restAt q + 8)) 192)
+    not (any (wordsDiffer x (laneAt s) y (laneAt q)) 8) && not (any (wordsDiffer x (restAt s + 8) y (restAt q + 8)) 192)

@@ -7,13 +7,13 @@ ghost use mathlib.Core.Bool.{not};
 ghost use Prim.Native.Nat.{_+_, _≤_};
 ghost use lib.ListN.{length};
 ghost use Rattle.lists.specs.First.{any};
+ghost use Rattle.lists.specs.Select.{wordsTest};
 ghost use Rattle.field.specs.Field.{fadd};
-ghost use Rattle.bus.specs.Words.{wordsTest};
 ghost use Rattle.verdict.specs.Kind.{sameStamp};
-ghost use Rattle.judge_tuples.specs.Port.{widthOf, laneAt, restAt, roundOf, tupleOf, apart, sameState};
+ghost use Rattle.judge_tuples.specs.Port.{widthOf, laneAt, restAt, roundOf, tupleOf, wordsDiffer, sameState};
 
-// The four Keccak tuples: a core row sends INPUT and receives OUTPUT, a round row receives START and sends the state after
-// its round.
+// The four Keccak tuples: a core row sends INPUT and receives OUTPUT, a round row receives START and sends the state
+// after its round.
 pub enum Port {
     CoreSend,
     CoreReceive,
@@ -21,7 +21,8 @@ pub enum Port {
     RoundSend,
 }
 
-// The column of lane (0, 0), and where that of the other lanes would begin: a round row has lane (0, 0) after iota apart.
+// The column of lane (0, 0), and where that of the other lanes would begin: a round row has lane (0, 0) after iota
+// apart.
 fn lane_at(port: Port) -> usize
     ensures { λ r. ⌜ r ≡ laneAt port ⌝ }
 {
@@ -71,7 +72,7 @@ fn round_of(row: &[u64], port: Port) -> u64
 // Whether the n words of a from i on are those of b from j on.
 fn same_words(a: &[u64], i: usize, b: &[u64], j: usize, n: usize) -> bool
     requires { ⌜ (i + n ≤ length (now a)) × (j + n ≤ length (now b)) ⌝ }
-    ensures { λ r. ⌜ r ≡ not (any (apart (now (a .entry)) i (now (b .entry)) j) n) ⌝ }
+    ensures { λ r. ⌜ r ≡ not (any (wordsDiffer (now (a .entry)) i (now (b .entry)) j) n) ⌝ }
 {
     let mut k = 0;
     while k < n {

@@ -8,10 +8,10 @@ use Rattle.lists.specs.Tab.{then}
 use Rattle.lists.proofs.Tests.{T-of}
 use Rattle.lists.specs.declared.Place.{Place}
 use Rattle.lists.specs.declared.Place.the-variants.{At, Nowhere}
+use Rattle.lists.specs.Select.{wordsTest}
+use Rattle.lists.proofs.Select.{words-sound}
 use Rattle.keccak.specs.Tuples.{coreTuple}
 use Rattle.keccak_rnd.specs.Tuples.{roundTuple}
-use Rattle.bus.specs.Words.{wordsTest}
-use Rattle.bus.proofs.Words.{words-sound}
 use Rattle.verdict.specs.Kind.{rows, row, active}
 use Rattle.verdict.specs.CoreAndRound.{coreLayout, roundLayout}
 use Rattle.verdict.proofs.Tuples.{core-bus, round-bus}

@@ -4,7 +4,7 @@ use mathlib.Core.List.{List}
 use Prim.Native.Nat.{ℕ, _+_, _≤_}
 use Rattle.lists.specs.declared.Place.{Place}
 use Rattle.lists.specs.declared.Place.the-variants.{At, Nowhere}
-use Rattle.verdict.specs.Kind.{rows, row}
+use Rattle.verdict.specs.Kind.{rows}
 use Rattle.verdict.specs.CoreAndRound.{roundLayout}
 use Rattle.judge_links.specs.Even.{Even}
 

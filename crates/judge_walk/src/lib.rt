@@ -9,7 +9,7 @@ use lists::Place;
 ghost use mathlib.Core.Path.{_≡_};
 ghost use mathlib.Core.Bool.{true};
 ghost use Prim.Native.Nat.{_+_, _≤_, _<_};
-ghost use Rattle.verdict.specs.Kind.{rows, row, active};
+ghost use Rattle.verdict.specs.Kind.{rows, active};
 ghost use Rattle.verdict.specs.CoreAndRound.{coreLayout, roundLayout};
 ghost use Rattle.judge_links.specs.Even.{Even};
 ghost use Rattle.judge_walk.specs.Reach.{Reaches};

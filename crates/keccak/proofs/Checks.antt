@@ -8,10 +8,10 @@ use borrow.Author.Tests.{ltb-false, eqb-true, not-false}
 use lib.ListN.{length}
 use Rattle.lists.specs.First.{firstAt}
 use Rattle.lists.proofs.First.{at-clear}
-use Rattle.answer.specs.Refusal.{accepted}
+use Rattle.answer.specs.Refusal.{accepted, tooShort}
 use Rattle.answer.proofs.Laws.{passed-if, passed-at}
 use Rattle.keccak.specs.Row.{OP-WORDS, LAST-ADDRESS}
-use Rattle.keccak.specs.Refusals.{opCount, addressAt, highAt, notWhole, tooShort, tooHigh}
+use Rattle.keccak.specs.Refusals.{opCount, addressAt, highAt, notWhole, tooHigh}
 
 -- the pointers of an operation whose address is not too high
 pub address-fits : (ops : List ℕ) (n i : ℕ) → firstAt (highAt ops) n ≡ none → i < n → addressAt ops i + 192 < 2 ^ 64

@@ -14,16 +14,16 @@ use Rattle.lists.specs.Tab.{word, tab}
 use Rattle.lists.proofs.Laws.{tab-same}
 use Rattle.bits.specs.Bits.{byteAt, wordAt, limbAt}
 use Rattle.bits.proofs.Bytes.{byte-lt}
-use Rattle.lookup.specs.Tuple.{Tuple, sender, receiver}
+use Rattle.lookup.specs.Tuple.{sender, receiver}
 use Rattle.lookup.specs.declared.Bus.the-variants.{Memw, Ecall}
 use Rattle.templates.proofs.Operand.{two-sum}
 use Rattle.keccak.specs.Columns.{ADDR, MU, addr, input-state, output-state, state-ptr}
-use Rattle.keccak.specs.Row.{coreRow, coreAddress, corePointer, is-wh-key, is-wh-keys}
+use Rattle.keccak.specs.Row.{coreRow, coreAddress, is-wh-key, is-wh-keys}
 use Rattle.keccak.specs.Values.{wordOfBytes, wordOfHalves}
 use Rattle.keccak.specs.Tuples.{ecallTuple, addrMemw, laneMemw, pointerTuple}
 use Rattle.keccak.specs.Passes.{CoreCells}
 use Rattle.keccak.specs.declared.KeccakOperation.{KeccakOperation}
-use Rattle.keccak.proofs.Words.{Ranged, limb-next, address-split, lo-bytes, hi-bytes, lo-lt, hi-lt}
+use Rattle.keccak.proofs.Words.{Ranged, limb-next, address-split, lo-bytes, hi-bytes, lo-lt}
 use Rattle.keccak.proofs.Cells.{read-t0, read-t1, read-addr, read-input, read-output, read-pointer, read-mu, key-sent, address-is, pointer-is}
 
 -- a number as its low and its high word

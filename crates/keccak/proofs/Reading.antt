@@ -13,7 +13,8 @@ use Rattle.templates.specs.declared.AddTerms.{AddTerms}
 use Rattle.is_wh.specs.Tuples.{is-whh}
 use Rattle.lookup.specs.Tuple.{sender, receiver}
 use Rattle.lookup.specs.declared.Bus.the-variants.{ByteAlu, AreBytes, Memw, Keccak, Ecall, IsWh, IsHalfword}
-use Rattle.lookup.proofs.Reading.{RestNotRead, tuple-rest}
+use Rattle.lookup.specs.Call.{RestNotRead}
+use Rattle.lookup.proofs.Reading.{tuple-rest}
 use Rattle.keccak.specs.Columns.{NUM-COLUMNS, TIMESTAMP-0, TIMESTAMP-1, ADDR, MU, addr, state-ptr, input-state, output-state, byXYB}
 use Rattle.keccak.specs.Values.{NUM-VALUES, pointerValue, wordOfBytes, wordOfHalves, topValue, coreValue}
 use Rattle.keccak.specs.Tuples.{NUM-TUPLES, ecallTuple, addrMemw, keccakValues, coreSent, coreReceived, pointerTuple, alignTuple, addrBytesTuple, laneMemw, coreTuple}

@@ -2,15 +2,14 @@
 --     many-refused, ragged-refused, short-refused, high-refused   each refusal with its detail, where no earlier one comes
 --     accepted-is                       the call is accepted exactly where none of the four conditions holds
 --     row-accepted, index-past          the same of `keccak_row`, which takes an index too
---     count-accepted, count-refused     the same of a call that takes a number of operations
 --     op-words                          operation i of a list is what its 52 words say
 --     highest-accepted, next-refused    P: address 18446744073709551423 is accepted, the next is refused by 4
 use mathlib.Core.Path.{_≡_, refl, sym, ap, subst, _∙_}
 use mathlib.Core.Logic.{_↔_}
-use mathlib.Core.Bool.{Bool, true, false, not}
-use mathlib.Core.Option.{Option, none, some}
+use mathlib.Core.Bool.{not}
+use mathlib.Core.Option.{Option, some}
 use mathlib.Core.List.{List, _∷_, _++_}
-use Prim.Native.Nat.{ℕ, suc, _+_, _*_, _%_, _^_, _≤_, _<_}
+use Prim.Native.Nat.{ℕ, suc, _+_, _*_, _%_, _≤_, _<_}
 use native.Mathlib.Omega.{arith}
 use borrow.Author.Tests.{leb-false, ltb-false, le-leb, lt-leb, lt-ltb, le-ltb, eqb-true, eq-eqb, ne-eqb, not-false}
 use lib.ListN.{length, getD, length-append, List·getD-append}
@@ -19,21 +18,14 @@ use Rattle.lists.specs.Tab.{tab}
 use Rattle.lists.proofs.First.{at-clear, at-hit, at-nothing}
 use Rattle.lists.proofs.Laws.{tab-same, list-tab}
 use Rattle.answer.specs.Limits.{MAX-OPS}
-use Rattle.answer.specs.Refusal.{accepted}
+use Rattle.answer.specs.Refusal.{accepted, tooShort}
 use Rattle.answer.specs.declared.Refusal.{Refusal}
 use Rattle.answer.proofs.Laws.{refuse-yes, refuse-no, at-yes, at-no, passed-if, passed-at}
 use Rattle.answer.specs.declared.Refusal.the-variants.{PastEnd, NotWhole, TooShort, HighAddress}
 use Rattle.keccak.specs.Row.{OP-WORDS, opAt, LAST-ADDRESS}
-use Rattle.keccak.specs.Refusals.{opCount, addressAt, highAt, tooShort, tooHigh, notWhole}
-use Rattle.keccak.specs.Refusals.{operationsRefusal, rowRefusal, countRefusal}
+use Rattle.keccak.specs.Refusals.{opCount, addressAt, highAt, tooHigh, notWhole}
+use Rattle.keccak.specs.Refusals.{Acceptable, operationsRefusal, coreRowRefusal}
 use Rattle.keccak.specs.declared.KeccakOperation.{KeccakOperation}
-
--- none of the four conditions
-pub record Acceptable (room needed : ℕ) (ops : List ℕ) : Type 0 where
-  pub few : opCount ops ≤ MAX-OPS
-  pub whole : length ops % OP-WORDS ≡ 0
-  pub long : needed ≤ room
-  pub low : (i : ℕ) → i < opCount ops → addressAt ops i ≤ LAST-ADDRESS
 
 module _ (room needed : ℕ) (ops : List ℕ) where
   -- ---- the refusals, in their order
@@ -92,8 +84,8 @@ module _ (room needed : ℕ) (ops : List ℕ) where
 
 -- ---- `keccak_row`: those four, and the index
 module _ (room : ℕ) (ops : List ℕ) (index : ℕ) where
-  pub row-accepted : (rowRefusal room ops index ≡ accepted) ↔ (Acceptable room 486 ops × (index < opCount ops))
-  unfolding rowRefusal operationsRefusal
+  pub row-accepted : (coreRowRefusal room ops index ≡ accepted) ↔ (Acceptable room 486 ops × (index < opCount ops))
+  unfolding coreRowRefusal operationsRefusal
   row-accepted = (
     (λ e.
         let a = passed-if _ _ _ e in
@@ -105,18 +97,9 @@ module _ (room : ℕ) (ops : List ℕ) (index : ℕ) where
   )
 
   -- the detail is the number of operations
-  pub index-past : opCount ops ≤ MAX-OPS → opCount ops ≤ index → rowRefusal room ops index ≡ some (PastEnd (opCount ops))
-  unfolding rowRefusal
+  pub index-past : opCount ops ≤ MAX-OPS → opCount ops ≤ index → coreRowRefusal room ops index ≡ some (PastEnd (opCount ops))
+  unfolding coreRowRefusal
   index-past few h = refuse-no _ (le-ltb MAX-OPS (opCount ops) few) (refuse-yes _ _ (le-leb (opCount ops) index h))
-
--- ---- a call that takes a number of operations
-pub count-accepted : (n : ℕ) → (countRefusal n ≡ accepted) ↔ (n ≤ MAX-OPS)
-unfolding countRefusal
-count-accepted n = ((λ e. ltb-false MAX-OPS n (passed-if _ _ _ e .0)), λ h. refuse-no _ (le-ltb MAX-OPS n h) refl)
-
-pub count-refused : (n : ℕ) → MAX-OPS < n → countRefusal n ≡ some (PastEnd 89478486)
-unfolding countRefusal
-count-refused n h = refuse-yes _ _ (lt-ltb MAX-OPS n h)
 
 -- ---- the words of an operation
 module _ (timestamp address : ℕ) (input output : List ℕ) (in-size : length input ≡ 25) (out-size : length output ≡ 25) where

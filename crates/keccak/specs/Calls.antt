@@ -1,22 +1,23 @@
--- What each call that writes core rows leaves in the slice that it is lent: the new words and then the old ones past
--- them, or, where it is refused (Refusals.antt), the old ones. Assumes nothing.
+-- What each call that writes core rows or keys leaves in the slice that it is lent: the new words and then the old ones
+-- past them, or, where it is refused (Refusals.antt), the old ones. Assumes nothing.
 use Prim.Native.Nat.{ℕ}
 use mathlib.Core.List.{List}
 use lib.ListN.{length}
 use Rattle.answer.specs.Refusal.{overwrite, afterwards}
 use Rattle.keccak.specs.Height.{MIN-ROWS}
 use Rattle.keccak.specs.Row.{opAt, coreRow, coreTable, keyWords}
-use Rattle.keccak.specs.Refusals.{opCount, rowRefusal, traceRefusal, keysRefusal}
+use Rattle.keccak.specs.Refusals.{opCount, coreRowRefusal, coreTraceRefusal, keysRefusal}
 
 -- `keccak_row`: the row of operation `index` of a list
 abbrev pub coreRowAfter : List ℕ → ℕ → List ℕ → List ℕ
 coreRowAfter ops index row =
-    afterwards (rowRefusal (length row) ops index) (overwrite (coreRow (opAt ops index)) row) row
+    afterwards (coreRowRefusal (length row) ops index) (overwrite (coreRow (opAt ops index)) row) row
 
 -- `generate_keccak_trace`: the table of a list
 abbrev pub coreTraceAfter : List ℕ → List ℕ → List ℕ
 coreTraceAfter ops table =
-    afterwards (traceRefusal (length table) ops) (overwrite (coreTable MIN-ROWS (opCount ops) (opAt ops)) table) table
+    afterwards (coreTraceRefusal (length table) ops)
+    (overwrite (coreTable MIN-ROWS (opCount ops) (opAt ops)) table) table
 
 -- `is_wh_keys`: the keys of a list
 abbrev pub keysAfter : List ℕ → List ℕ → List ℕ

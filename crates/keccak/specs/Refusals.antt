@@ -1,20 +1,21 @@
 -- The refusals of a call that takes a list of operations: one definition for every such call. Assumes nothing.
---     tooMany, notWhole, tooShort, tooHigh   one check each, followed by the checks after it
+--     tooMany, notWhole, tooHigh             one check each, followed by the checks after it
 --     operationsRefusal                      the checks of a call that takes a list and a slice to write to
---     traceRefusal, keysRefusal, rowRefusal, countRefusal   the checks of each call of the core table
+--     coreTraceRefusal, keysRefusal, coreRowRefusal   the checks of each call of the core table
 -- A call that takes an index too puts its check between `tooMany` and `notWhole`: "in number order, then argument
 -- order".
-use Prim.Native.Nat.{ℕ, _+_, _*_, _/_, _%_}
+use Prim.Native.Nat.{ℕ, _*_, _/_, _%_, _≤_, _<_}
+use mathlib.Core.Path.{_≡_}
 use mathlib.Core.Bool.{Bool, not}
 use mathlib.Core.Option.{Option}
 use mathlib.Core.List.{List}
-use lib.Dec.{eqb, leb, ltb}
+use lib.Dec.{eqb, ltb}
 use lib.ListN.{length}
 use Rattle.lists.specs.First.{firstAt}
 use Rattle.answer.specs.Limits.{MAX-OPS}
-use Rattle.answer.specs.Refusal.{refuseIf, refuseAt, accepted}
+use Rattle.answer.specs.Refusal.{refuseIf, refuseAt, accepted, pastEnd, overLimit, tooShort}
 use Rattle.answer.specs.declared.Refusal.{Refusal}
-use Rattle.answer.specs.declared.Refusal.the-variants.{PastEnd, NotWhole, TooShort, HighAddress}
+use Rattle.answer.specs.declared.Refusal.the-variants.{NotWhole, HighAddress}
 use Rattle.keccak.specs.Columns.{NUM-COLUMNS}
 use Rattle.keccak.specs.Height.{height, MIN-ROWS}
 use Rattle.keccak.specs.Row.{OP-WORDS, opAt, LAST-ADDRESS, KEY-WORDS}
@@ -23,25 +24,20 @@ use Rattle.keccak.specs.Row.{OP-WORDS, opAt, LAST-ADDRESS, KEY-WORDS}
 abbrev pub opCount : List ℕ → ℕ
 opCount ops = length ops / OP-WORDS
 
--- the address of operation i, and whether it is above 2^64 - 193, so that the state's last lane would start past 2^64
--- - 1
+-- the address of operation i, and whether it is so high that the state's last lane would start past 2^64 - 1
 abbrev pub addressAt : List ℕ → ℕ → ℕ
 addressAt ops i = opAt ops i .«state_addr»
 
 unfoldable pub highAt : List ℕ → ℕ → Bool
 highAt ops i = ltb LAST-ADDRESS (addressAt ops i)
 
--- 1: "n (> 89,478,485 ..) past its end, detail the least number refused"
+-- 1 on the number of operations
 abbrev pub tooMany : List ℕ → Option Refusal → Option Refusal
-tooMany ops later = refuseIf (ltb MAX-OPS (opCount ops)) (PastEnd (MAX-OPS + 1)) later
+tooMany ops later = overLimit (opCount ops) later
 
 -- 2: "a list, that is not whole .. operations, detail .. 2 list"
 abbrev pub notWhole : List ℕ → Option Refusal → Option Refusal
 notWhole ops later = refuseIf (not (eqb (length ops % OP-WORDS) 0)) (NotWhole 2) later
-
--- 3: "a lent slice too short, detail the length needed"
-abbrev pub tooShort : ℕ → ℕ → Option Refusal → Option Refusal
-tooShort room needed later = refuseIf (ltb room needed) (TooShort needed) later
 
 -- 4: "address above 2^64 − 193, .. detail the first such address"
 abbrev pub tooHigh : List ℕ → Option Refusal → Option Refusal
@@ -56,9 +52,17 @@ operationsRefusal room needed ops =
     (tooHigh ops
     accepted)))
 
+-- None of the four conditions holds. proofs/Refusals.antt: `accepted-is`, the checks pass exactly then; and each
+-- refusal with its detail.
+pub record Acceptable (room needed : ℕ) (ops : List ℕ) : Type 0 where
+  pub few : opCount ops ≤ MAX-OPS
+  pub whole : length ops % OP-WORDS ≡ 0
+  pub long : needed ≤ room
+  pub low : (i : ℕ) → i < opCount ops → addressAt ops i ≤ LAST-ADDRESS
+
 -- `generate_keccak_trace`: a table of `room` words is to hold the rows up to the height
-unfoldable pub traceRefusal : ℕ → List ℕ → Option Refusal
-traceRefusal room ops = operationsRefusal room (height MIN-ROWS (opCount ops) * NUM-COLUMNS) ops
+unfoldable pub coreTraceRefusal : ℕ → List ℕ → Option Refusal
+coreTraceRefusal room ops = operationsRefusal room (height MIN-ROWS (opCount ops) * NUM-COLUMNS) ops
 
 -- `is_wh_keys`: a slice of `room` words is to hold the keys of the list
 unfoldable pub keysRefusal : ℕ → List ℕ → Option Refusal
@@ -66,15 +70,11 @@ keysRefusal room ops = operationsRefusal room (opCount ops * KEY-WORDS) ops
 
 -- `keccak_row`: a list, the index of one of its operations, and a slice of `room` words for that operation's row. 1 on
 -- the index: "detail the least number refused", which is the number of operations
-unfoldable pub rowRefusal : ℕ → List ℕ → ℕ → Option Refusal
-rowRefusal room ops index =
+unfoldable pub coreRowRefusal : ℕ → List ℕ → ℕ → Option Refusal
+coreRowRefusal room ops index =
     tooMany ops
-    (refuseIf (leb (opCount ops) index) (PastEnd (opCount ops))
+    (pastEnd (opCount ops) index
     (notWhole ops
     (tooShort room NUM-COLUMNS
     (tooHigh ops
     accepted))))
-
--- a call that takes the number of operations alone
-unfoldable pub countRefusal : ℕ → Option Refusal
-countRefusal n = refuseIf (ltb MAX-OPS n) (PastEnd (MAX-OPS + 1)) accepted

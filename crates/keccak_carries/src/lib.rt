@@ -1,5 +1,5 @@
-// tables/keccak.rs, eval: the carries of a lane's pointer, of which the values of a core row are made. The address's two words
-// are handed over, where the Rust makes an operand of its eight bytes for each lane.
+// tables/keccak.rs, eval: the carries of a lane's pointer, of which the values of a core row are made. The address's
+// two words are handed over, where the Rust makes an operand of its eight bytes for each lane.
 use add_template::INV_SHIFT_32;
 use field::Fe;
 use keccak::STATE_PTR;

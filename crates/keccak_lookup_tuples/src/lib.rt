@@ -1,5 +1,5 @@
-// tables/keccak.rs, bus_interactions: the lookups of a core row, which are its tuples 4 to 58: the halves of the pointers and the
-// bytes of the address.
+// tables/keccak.rs, bus_interactions: the lookups of a core row, which are its tuples 4 to 58: the halves of the
+// pointers and the bytes of the address.
 use keccak::ADDR;
 use keccak::MU;
 use keccak::STATE_PTR;

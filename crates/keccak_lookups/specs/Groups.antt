@@ -2,7 +2,7 @@
 use Prim.Native.Nat.{ℕ}
 use mathlib.Core.List.{List, [], _∷_}
 
--- the pointers and what stands before them, of which nothing is asked; the address's lowest byte; and, up to the last
--- tuple, the address's bytes and the lanes, of which nothing is asked
+-- up to 54 the pointers' limbs, and before them four tuples that need no match; then the address's lowest byte; then,
+-- up to the last tuple, the address's bytes, and the lanes in memory, which need no match
 abbrev pub coreEnds : List ℕ
 coreEnds = 54 ∷ 55 ∷ []

@@ -1,10 +1,11 @@
-// The tuples of a core row that need a match and have none, group by group: the columns are tested, and no tuple is made.
+// The tuples of a core row that need a match and have none, group by group: the columns are tested, and no tuple is
+// made.
 use keccak::ADDR;
 use keccak::MU;
 use keccak::STATE_PTR;
 use lists::Place;
 ghost use mathlib.Core.Path.{_≡_};
-ghost use Prim.Native.Nat.{ℕ, _≤_};
+ghost use Prim.Native.Nat.{_≤_};
 ghost use lib.ListN.{length};
 ghost use Rattle.lists.specs.Tab.{word};
 ghost use Rattle.lists.specs.First.{firstAt, placeOf};

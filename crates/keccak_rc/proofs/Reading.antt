@@ -6,16 +6,17 @@ use Rattle.lists.proofs.Laws.{tab-same}
 use Rattle.lists.proofs.Reading.{ReadsFirst}
 use Rattle.lookup.specs.Tuple.{receiver}
 use Rattle.lookup.specs.declared.Bus.the-variants.{KeccakRc}
-use Rattle.lookup.proofs.Reading.{RestNotRead, tuple-rest}
+use Rattle.lookup.specs.Call.{RestNotRead}
+use Rattle.lookup.proofs.Reading.{tuple-rest}
 use Rattle.keccak_rc.specs.Columns.{MU, NUM-COLUMNS}
-use Rattle.keccak_rc.specs.Tuples.{NUM-TUPLES, rcTuple, tupleAt}
+use Rattle.keccak_rc.specs.Tuples.{NUM-TUPLES, rcTuple}
 
-pub tuple-reads : ReadsFirst NUM-COLUMNS NUM-TUPLES tupleAt
-unfolding tupleAt rcTuple
+pub tuple-reads : ReadsFirst NUM-COLUMNS NUM-TUPLES rcTuple
+unfolding rcTuple
 tuple-reads row other same i l =
     let mu = same MU (omega arith) in
     let values : tab 9 (word row) ≡ tab 9 (word other) = tab-same 9 (word row) (word other) (λ k h. same k (omega arith)) in
     λ t. receiver KeccakRc (mu t) (values t)
 
-pub rest-not-read : RestNotRead NUM-COLUMNS NUM-TUPLES tupleAt
-rest-not-read = tuple-rest NUM-COLUMNS NUM-TUPLES tupleAt tuple-reads
+pub rest-not-read : RestNotRead NUM-COLUMNS NUM-TUPLES rcTuple
+rest-not-read = tuple-rest NUM-COLUMNS NUM-TUPLES rcTuple tuple-reads

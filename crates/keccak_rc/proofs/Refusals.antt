@@ -11,13 +11,13 @@ use Rattle.answer.specs.Limits.{MAX-OPS}
 use Rattle.answer.specs.Refusal.{accepted}
 use Rattle.answer.proofs.Laws.{refuse-yes, refuse-no, passed-if}
 use Rattle.answer.specs.declared.Refusal.the-variants.{PastEnd, TooShort}
-use Rattle.keccak_rc.specs.Row.{rowRefusal}
-use Rattle.keccak_rc.specs.Table.{traceRefusal, updateRefusal}
+use Rattle.keccak_rc.specs.Row.{rcRowRefusal}
+use Rattle.keccak_rc.specs.Table.{rcTraceRefusal, updateRefusal}
 
 -- `generate_row`
 module _ (r : ℕ) (out : List ℕ) where
-  pub row-accepted : (rowRefusal r out ≡ accepted) ↔ ((r < 32) × (9 ≤ length out))
-  unfolding rowRefusal
+  pub row-accepted : (rcRowRefusal r out ≡ accepted) ↔ ((r < 32) × (9 ≤ length out))
+  unfolding rcRowRefusal
   row-accepted = (
     (λ e.
         let a = passed-if _ _ _ e in
@@ -26,22 +26,22 @@ module _ (r : ℕ) (out : List ℕ) where
     λ h. refuse-no _ (lt-leb 32 r (h .0)) (refuse-no _ (le-ltb (length out) 9 (h .1)) refl),
   )
 
-  pub row-past : 32 ≤ r → rowRefusal r out ≡ some (PastEnd 32)
-  unfolding rowRefusal
+  pub row-past : 32 ≤ r → rcRowRefusal r out ≡ some (PastEnd 32)
+  unfolding rcRowRefusal
   row-past h = refuse-yes _ _ (le-leb 32 r h)
 
-  pub row-short : r < 32 → length out < 9 → rowRefusal r out ≡ some (TooShort 9)
-  unfolding rowRefusal
+  pub row-short : r < 32 → length out < 9 → rcRowRefusal r out ≡ some (TooShort 9)
+  unfolding rcRowRefusal
   row-short l h = refuse-no _ (lt-leb 32 r l) (refuse-yes _ _ (lt-ltb (length out) 9 h))
 
 -- `generate_keccak_rc_trace`
 module _ (table : List ℕ) where
-  pub trace-accepted : (traceRefusal table ≡ accepted) ↔ (320 ≤ length table)
-  unfolding traceRefusal
+  pub trace-accepted : (rcTraceRefusal table ≡ accepted) ↔ (320 ≤ length table)
+  unfolding rcTraceRefusal
   trace-accepted = ((λ e. ltb-false (length table) 320 (passed-if _ _ _ e .0)), λ h. refuse-no _ (le-ltb (length table) 320 h) refl)
 
-  pub trace-short : length table < 320 → traceRefusal table ≡ some (TooShort 320)
-  unfolding traceRefusal
+  pub trace-short : length table < 320 → rcTraceRefusal table ≡ some (TooShort 320)
+  unfolding rcTraceRefusal
   trace-short h = refuse-yes _ _ (lt-ltb (length table) 320 h)
 
   -- `update_multiplicities`

@@ -14,7 +14,7 @@ use Rattle.lists.proofs.Laws.{length-table, rowAt-table}
 use Rattle.lists.proofs.Then.{by-le}
 use Rattle.keccak_rc.specs.Columns.{MU, NUM-COLUMNS, NUM-REAL-ROWS, NUM-ROWS, NUM-PRECOMPUTED-COLS, TABLE-WORDS}
 use Rattle.keccak_rc.specs.Row.{rcRow}
-use Rattle.keccak_rc.specs.Table.{rcTable, withMu, lookups, updated}
+use Rattle.keccak_rc.specs.Table.{rcTable, withMu, timesLookedUp, updated}
 use Rattle.keccak_rc.proofs.Found.{rc-length}
 
 -- ---- MU of the rows below m
@@ -53,8 +53,8 @@ withMu-at f (suc m) table r l h =
     (λ g. getD-set-other (withMu f m table) (m * NUM-COLUMNS + MU) (r * NUM-COLUMNS + MU) (f m) 0 (λ e. omega arith) ∙ withMu-at f m table r g (omega arith))
 
 -- today every round is looked up by every operation
-pub lookups-24 : (n r : ℕ) → n ≡ lookups 24 n r
-unfolding lookups
+pub lookups-24 : (n r : ℕ) → n ≡ timesLookedUp 24 n r
+unfolding timesLookedUp
 lookups-24 n r = sym (ap (λ (t : Bool). pick t 0 n) (le-ltb r 0 (omega arith)))
 
 -- ---- the table updated for n operations of nr rounds
@@ -62,33 +62,33 @@ lookups-24 n r = sym (ap (λ (t : Bool). pick t 0 n) (le-ltb r 0 (omega arith)))
 module _ (nr n : ℕ) (table : List ℕ) where
   pub updated-length : length (updated nr n table) ≡ length table
   unfolding updated
-  updated-length = length-withMu (lookups nr n) NUM-REAL-ROWS table
+  updated-length = length-withMu (timesLookedUp nr n) NUM-REAL-ROWS table
 
   -- the rounds 24 - nr to 23 are looked up n times
   pub updated-used : TABLE-WORDS ≤ length table → (r : ℕ) → NUM-REAL-ROWS - nr ≤ r → r < NUM-REAL-ROWS
       → getD (updated nr n table) (r * NUM-COLUMNS + MU) 0 ≡ n
-  unfolding updated lookups
+  unfolding updated timesLookedUp
   updated-used h r l g =
-      withMu-at (lookups nr n) NUM-REAL-ROWS table r g (omega arith) ∙ ap (λ (t : Bool). pick t 0 n) (le-ltb r (NUM-REAL-ROWS - nr) l)
+      withMu-at (timesLookedUp nr n) NUM-REAL-ROWS table r g (omega arith) ∙ ap (λ (t : Bool). pick t 0 n) (le-ltb r (NUM-REAL-ROWS - nr) l)
 
   -- the rounds before them never
   pub updated-early : TABLE-WORDS ≤ length table → (r : ℕ) → r < NUM-REAL-ROWS - nr
       → getD (updated nr n table) (r * NUM-COLUMNS + MU) 0 ≡ 0
-  unfolding updated lookups
+  unfolding updated timesLookedUp
   updated-early h r l =
-      withMu-at (lookups nr n) NUM-REAL-ROWS table r (omega arith) (omega arith) ∙ ap (λ (t : Bool). pick t 0 n) (lt-ltb r (NUM-REAL-ROWS - nr) l)
+      withMu-at (timesLookedUp nr n) NUM-REAL-ROWS table r (omega arith) (omega arith) ∙ ap (λ (t : Bool). pick t 0 n) (lt-ltb r (NUM-REAL-ROWS - nr) l)
 
   -- the rows from 24 on keep their MU
   pub updated-late : (r : ℕ) → NUM-REAL-ROWS ≤ r
       → getD (updated nr n table) (r * NUM-COLUMNS + MU) 0 ≡ getD table (r * NUM-COLUMNS + MU) 0
   unfolding updated
-  updated-late r h = withMu-other (lookups nr n) NUM-REAL-ROWS table (r * NUM-COLUMNS + MU) (λ q l e. omega arith)
+  updated-late r h = withMu-other (timesLookedUp nr n) NUM-REAL-ROWS table (r * NUM-COLUMNS + MU) (λ q l e. omega arith)
 
   -- every row keeps its nine fixed words
   pub updated-fixed : (r k : ℕ) → k < NUM-PRECOMPUTED-COLS
       → getD (updated nr n table) (r * NUM-COLUMNS + k) 0 ≡ getD table (r * NUM-COLUMNS + k) 0
   unfolding updated
-  updated-fixed r k h = withMu-other (lookups nr n) NUM-REAL-ROWS table (r * NUM-COLUMNS + k) (λ q l e. omega arith)
+  updated-fixed r k h = withMu-other (timesLookedUp nr n) NUM-REAL-ROWS table (r * NUM-COLUMNS + k) (λ q l e. omega arith)
 
 -- ---- the table as it is generated
 

@@ -8,7 +8,7 @@ use lib.ListN.{length, getD}
 use Rattle.lists.specs.Sum.{all}
 use Rattle.bits.specs.Bits.{byteAt}
 use Rattle.fips202.specs.Tables.{roundConstant}
-use Rattle.keccak_rc.specs.Columns.{NUM-ROWS}
+use Rattle.keccak_rc.specs.Columns.{NUM-ROWS, NUM-PRECOMPUTED-COLS}
 use Rattle.keccak_rc.specs.Row.{rcRow}
 use Rattle.keccak_rc.specs.Tuples.{rcTuple}
 
@@ -16,10 +16,10 @@ use Rattle.keccak_rc.specs.Tuples.{rcTuple}
 pub record RcFound (vs : List ℕ) : Type 0 where
   pub index : ℕ
   pub index-lt : index < NUM-ROWS
-  pub values : (rcTuple (rcRow index ++ (0 ∷ []))) .values ≡ vs
+  pub values : (rcTuple (rcRow index ++ (0 ∷ [])) 0) .values ≡ vs
 
 -- The test of it: nine values, a row below 32, and the eight bytes of that row's constant.
 unfoldable pub rcFound : List ℕ → Bool
 rcFound vs =
-    eqb (length vs) 9
+    eqb (length vs) NUM-PRECOMPUTED-COLS
     && (ltb (getD vs 0 0) NUM-ROWS && all 8 (λ b. eqb (getD vs (suc b) 0) (byteAt (roundConstant (getD vs 0 0)) b)))

@@ -5,10 +5,8 @@ use mathlib.Core.Option.{Option}
 use lib.Dec.{ltb}
 use lib.ListN.{length, set}
 use Rattle.lists.specs.Tab.{tableOf, pick}
-use Rattle.answer.specs.Refusal.{refuseIf, accepted, overwrite, afterwards}
-use Rattle.answer.specs.Limits.{MAX-OPS}
+use Rattle.answer.specs.Refusal.{accepted, overwrite, afterwards, overLimit, tooShort}
 use Rattle.answer.specs.declared.Refusal.{Refusal}
-use Rattle.answer.specs.declared.Refusal.the-variants.{PastEnd, TooShort}
 use Rattle.keccak_rc.specs.Columns.{MU, NUM-COLUMNS, NUM-REAL-ROWS, NUM-ROWS, TABLE-WORDS}
 use Rattle.keccak_rc.specs.Row.{rcRow}
 
@@ -17,12 +15,12 @@ unfoldable pub rcTable : List ℕ
 rcTable = tableOf NUM-ROWS NUM-COLUMNS (λ r. rcRow r ++ (0 ∷ []))
 
 -- What it refuses: 3 a table shorter than 32 rows.
-unfoldable pub traceRefusal : List ℕ → Option Refusal
-traceRefusal table = refuseIf (ltb (length table) TABLE-WORDS) (TooShort TABLE-WORDS) accepted
+unfoldable pub rcTraceRefusal : List ℕ → Option Refusal
+rcTraceRefusal table = tooShort (length table) TABLE-WORDS accepted
 
 -- What it leaves: the table, or the old words where it is refused.
 abbrev pub rcTraceAfter : List ℕ → List ℕ
-rcTraceAfter table = afterwards (traceRefusal table) (overwrite rcTable table) table
+rcTraceAfter table = afterwards (rcTraceRefusal table) (overwrite rcTable table) table
 
 -- A table with MU of the rows 0 to m - 1 set, that of row r to f r, and every other word as it was.
 unfoldable pub withMu : (ℕ → ℕ) → ℕ → List ℕ → List ℕ
@@ -30,18 +28,19 @@ withMu f zero table = table
 withMu f (suc r) table = set (withMu f r table) (r * NUM-COLUMNS + MU) (f r)
 
 -- How often n operations of nr rounds look up round r, below 24: the rounds 24 - nr to 23 once each, the others never.
-unfoldable pub lookups : ℕ → ℕ → ℕ → ℕ
-lookups nr n r = pick (ltb r (NUM-REAL-ROWS - nr)) 0 n
+unfoldable pub timesLookedUp : ℕ → ℕ → ℕ → ℕ
+timesLookedUp nr n r = pick (ltb r (NUM-REAL-ROWS - nr)) 0 n
 
--- `update_multiplicities` for n operations of nr rounds: MU of the rounds 0 to 23, and nothing else.
+-- "`update_multiplicities` there sets MU of rounds 0 to 23 to the operation count", for n operations of nr rounds; and
+-- nothing else.
 unfoldable pub updated : ℕ → ℕ → List ℕ → List ℕ
-updated nr n table = withMu (lookups nr n) NUM-REAL-ROWS table
+updated nr n table = withMu (timesLookedUp nr n) NUM-REAL-ROWS table
 
 -- What it refuses: 1 more operations than the limit, 3 a table shorter than 32 rows.
 unfoldable pub updateRefusal : List ℕ → ℕ → Option Refusal
 updateRefusal table n =
-    refuseIf (ltb MAX-OPS n) (PastEnd (MAX-OPS + 1))
-    (refuseIf (ltb (length table) TABLE-WORDS) (TooShort TABLE-WORDS)
+    overLimit n
+    (tooShort (length table) TABLE-WORDS
     accepted)
 
 -- What it leaves: the table with its MU, or the old words where it is refused.

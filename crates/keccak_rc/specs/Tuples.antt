@@ -4,16 +4,12 @@ use mathlib.Core.List.{List}
 use Rattle.lists.specs.Tab.{tab, word}
 use Rattle.lookup.specs.Tuple.{Tuple, receiver}
 use Rattle.lookup.specs.declared.Bus.the-variants.{KeccakRc}
-use Rattle.keccak_rc.specs.Columns.{MU}
-
--- The tuple of a row of ten words: its nine fixed words, as often as MU says.
-unfoldable pub rcTuple : List ℕ → Tuple
-rcTuple row = receiver KeccakRc (word row MU) (tab 9 (word row))
-
--- The same by its index: a row has one tuple, which is tuple 0.
-unfoldable pub tupleAt : List ℕ → ℕ → Tuple
-tupleAt row i = rcTuple row
+use Rattle.keccak_rc.specs.Columns.{MU, NUM-PRECOMPUTED-COLS}
 
 -- How many tuples a row has.
 abbrev pub NUM-TUPLES : ℕ
 NUM-TUPLES = 1
+
+-- Tuple i of a row of ten words, which is tuple 0: its nine fixed words, as often as MU says.
+unfoldable pub rcTuple : List ℕ → ℕ → Tuple
+rcTuple row i = receiver KeccakRc (word row MU) (tab NUM-PRECOMPUTED-COLS (word row))

@@ -16,8 +16,8 @@ ghost use Prim.Native.Nat.{_+_, _≤_};
 ghost use lib.ListN.{length};
 ghost use lib.Seq.{sets};
 ghost use Rattle.answer.specs.Refusal.{answerOf};
-ghost use Rattle.keccak_rc.specs.Row.{rcRow, rowRefusal, rcRowAfter};
-ghost use Rattle.keccak_rc.specs.Table.{rcTable, traceRefusal, updated, updateRefusal, rcTraceAfter, updateAfter};
+ghost use Rattle.keccak_rc.specs.Row.{rcRow, rcRowRefusal, rcRowAfter};
+ghost use Rattle.keccak_rc.specs.Table.{rcTable, rcTraceRefusal, updated, updateRefusal, rcTraceAfter, updateAfter};
 
 // The nine fixed words of a row, from `at` on.
 fn put_row(row: &mut [u64], at: usize, round: usize)
@@ -31,7 +31,7 @@ fn put_row(row: &mut [u64], at: usize, round: usize)
 
 // The nine fixed words of row `round`.
 pub fn generate_row(round: usize, out: &mut [u64]) -> Answer
-    ensures answer { λ r. ⌜ r ≡ answerOf (rowRefusal round (now (out .entry))) ⌝ }
+    ensures answer { λ r. ⌜ r ≡ answerOf (rcRowRefusal round (now (out .entry))) ⌝ }
     ensures words { λ r. ⌜ now (out .exit) ≡ rcRowAfter round (now (out .entry)) ⌝ }
 {
     if round >= NUM_ROWS {
@@ -66,7 +66,7 @@ fn put_table(table: &mut [u64])
 
 // The whole table, each MU being 0.
 pub fn generate_keccak_rc_trace(table: &mut [u64]) -> Answer
-    ensures answer { λ r. ⌜ r ≡ answerOf (traceRefusal (now (table .entry))) ⌝ }
+    ensures answer { λ r. ⌜ r ≡ answerOf (rcTraceRefusal (now (table .entry))) ⌝ }
     ensures words { λ r. ⌜ now (table .exit) ≡ rcTraceAfter (now (table .entry)) ⌝ }
 {
     if table.len() < TABLE_WORDS {

@@ -12,12 +12,12 @@ use lookup::check::check_tuple;
 ghost use mathlib.Core.Path.{_≡_};
 ghost use Rattle.lookup.specs.Call.{tupleAnswerOf, tupleAfter};
 ghost use Rattle.keccak_rc.specs.Columns.{NUM-COLUMNS};
-ghost use Rattle.keccak_rc.specs.Tuples.{NUM-TUPLES, tupleAt};
+ghost use Rattle.keccak_rc.specs.Tuples.{NUM-TUPLES, rcTuple};
 
 // Tuple `index` of a row of ten columns, of which it has one: its values go into `out`.
 pub fn bus_interaction(row: &[u64], index: usize, out: &mut [u64]) -> TupleAnswer
-    ensures answer { λ r. ⌜ r ≡ tupleAnswerOf NUM-COLUMNS NUM-TUPLES tupleAt (now (row .entry)) index (now (out .entry)) ⌝ }
-    ensures words { λ r. ⌜ now (out .exit) ≡ tupleAfter NUM-COLUMNS NUM-TUPLES tupleAt (now (row .entry)) index (now (out .entry)) ⌝ }
+    ensures answer { λ r. ⌜ r ≡ tupleAnswerOf NUM-COLUMNS NUM-TUPLES rcTuple (now (row .entry)) index (now (out .entry)) ⌝ }
+    ensures words { λ r. ⌜ now (out .exit) ≡ tupleAfter NUM-COLUMNS NUM-TUPLES rcTuple (now (row .entry)) index (now (out .entry)) ⌝ }
 {
     let room = out.len();
     if let Answer::Refused(refusal) = check_tuple(

@@ -14,24 +14,25 @@ use Rattle.lists.proofs.Laws.{tab-same}
 use Rattle.lists.proofs.Reading.{Alike, ReadsFirst, front-same, then-same, pick-lt}
 use Rattle.field.specs.Field.{fadd, fsub, fmul}
 use Rattle.bits.specs.Bits.{wordAt}
-use Rattle.answer.specs.Refusal.{refuseIf, refuseAt, accepted, overwrite, afterwards}
+use Rattle.answer.specs.Refusal.{refuseIf, refuseAt, accepted, overwrite, afterwards, tooShort}
 use Rattle.answer.specs.declared.Refusal.the-variants.{PastEnd, NotWhole, TooShort, HighAddress}
 use Rattle.answer.specs.Limits.{MAX-OPS}
 use Rattle.fips202.specs.Lanes.{roundsL}
 use Rattle.templates.specs.Templates.{isBit}
 use Rattle.lookup.specs.Tuple.{sender, receiver}
 use Rattle.lookup.specs.declared.Bus.the-variants.{ByteAlu, KeccakRc, Keccak}
-use Rattle.lookup.proofs.Reading.{RestNotRead, long-enough, tuple-rest}
+use Rattle.lookup.specs.Call.{RestNotRead}
+use Rattle.lookup.proofs.Reading.{long-enough, tuple-rest}
 use Rattle.keccak.specs.Height.{MIN-ROWS}
 use Rattle.keccak.specs.Row.{OP-WORDS, LAST-ADDRESS, opAt}
-use Rattle.keccak.specs.Refusals.{opCount, addressAt, highAt, tooShort, operationsRefusal}
+use Rattle.keccak.specs.Refusals.{opCount, addressAt, highAt, operationsRefusal}
 use Rattle.keccak.proofs.Reading.{by-xyb-same, keccak-same}
 use Rattle.keccak_rnd.specs.Columns.{NUM-COLUMNS, TIMESTAMP-0, TIMESTAMP-1, ROUND, MU, start, cxz, cxz-left, cxz-right-bit, cxz-right-bit-for-byte, dxz, theta, rot-left, rot-right, chi-ands, chi, rc, iota, pi-left, pi-right}
 use Rattle.keccak_rnd.specs.Row.{rnc, roundRow, roundPad, opRow, roundRowAt, roundHeight, roundTable}
-use Rattle.keccak_rnd.specs.Refusals.{rowRefusal, traceRefusal}
+use Rattle.keccak_rnd.specs.Refusals.{roundRowRefusal, roundTraceRefusal}
 use Rattle.keccak_rnd.specs.Calls.{roundRowAfter, roundTraceAfter}
 use Rattle.keccak_rnd.specs.Values.{NUM-VALUES, halfwordAt, identity, thetaValue, rhoValue, roundValue}
-use Rattle.keccak_rnd.specs.Tuples.{NUM-TUPLES, roundReceived, out, roundSent, alu, areBytes, rotatedCAt, piAt, notPiAt, rcTuple, cxzTuple0, cxzTuple, cxzLeftTuple, dxzTuple, thetaTuple, rotTuple, chiAndsTuple, chiTuple, iotaTuple, roundTuple}
+use Rattle.keccak_rnd.specs.Tuples.{NUM-TUPLES, roundReceived, out, roundSent, alu, areBytes, rotatedCAt, piAt, notPiAt, constantTuple, cxzTuple0, cxzTuple, cxzLeftTuple, dxzTuple, thetaTuple, rotTuple, chiAndsTuple, chiTuple, iotaTuple, roundTuple}
 
 module _ (row other : List ℕ) (same : Alike NUM-COLUMNS row other) where
   mu : word row MU ≡ word other MU
@@ -76,7 +77,7 @@ module _ (row other : List ℕ) (same : Alike NUM-COLUMNS row other) where
   bytes-same : {a b a′ b′ : ℕ} → a ≡ a′ → b ≡ b′ → areBytes a b ≡ areBytes a′ b′
   bytes-same a b = λ t. areBytes (a t) (b t)
 
-  rc-tuple : rcTuple row ≡ rcTuple other
+  rc-tuple : constantTuple row ≡ constantTuple other
   rc-tuple =
       let r = same ROUND (omega arith) in
       let v = tab-same 8 (λ b. word row (rc b)) (λ b. word other (rc b)) (λ b h. same (rc b) (omega arith)) in
@@ -166,8 +167,8 @@ rest-not-read = tuple-rest NUM-COLUMNS NUM-TUPLES roundTuple tuple-reads
 -- ---- `keccak_rnd_row`, which may be lent a START that is longer than its 25 lanes
 module _ (timestamp round : ℕ) (row : List ℕ) where
   module _ (start other : List ℕ) (h : 25 ≤ length start) (j : 25 ≤ length other) (same : Alike 25 start other) where
-    checks : rowRefusal round start row ≡ rowRefusal round other row
-    unfolding rowRefusal
+    checks : roundRowRefusal round start row ≡ roundRowRefusal round other row
+    unfolding roundRowRefusal
     checks = ap (λ (b : Bool). refuseIf (leb 24 round) (PastEnd 24) (refuseIf b (TooShort 25) (tooShort (length row) NUM-COLUMNS accepted))) (long-enough 25 start other h j)
 
     lanes : tab 25 (word start) ≡ tab 25 (word other)
@@ -177,10 +178,10 @@ module _ (timestamp round : ℕ) (row : List ℕ) where
     after = λ t. afterwards (checks t) (overwrite (roundRow (wordAt timestamp) round (lanes t)) row) row
 
   pub start-rest : (start : List ℕ)
-      → (rowRefusal round (take 25 start) row ≡ rowRefusal round start row)
+      → (roundRowRefusal round (take 25 start) row ≡ roundRowRefusal round start row)
       × (roundRowAfter timestamp (take 25 start) round row ≡ roundRowAfter timestamp start round row)
   start-rest start = (
-    front-same (λ (s : List ℕ). rowRefusal round s row) 25 checks start,
+    front-same (λ (s : List ℕ). roundRowRefusal round s row) 25 checks start,
     front-same (λ (s : List ℕ). roundRowAfter timestamp s round row) 25 after start,
   )
 
@@ -200,8 +201,8 @@ module _ (ops other : List ℕ) (long : length ops ≡ length other)
   unfolding opAt
   input-same i = tab-same 25 _ _ (λ k h. let e : OP-WORDS * i + 2 + k ≡ OP-WORDS * i + (2 + k) = omega arith in rw e (same i (2 + k) (omega arith)))
 
-  refusal-output : (room : ℕ) → traceRefusal room ops ≡ traceRefusal room other
-  unfolding traceRefusal operationsRefusal highAt
+  refusal-output : (room : ℕ) → roundTraceRefusal room ops ≡ roundTraceRefusal room other
+  unfolding roundTraceRefusal operationsRefusal highAt
   refusal-output room =
       λ t. refuseIf (ltb MAX-OPS (long t / OP-WORDS)) (PastEnd (MAX-OPS + 1))
       (refuseIf (not (eqb (long t % OP-WORDS) 0)) (NotWhole 2)
@@ -216,7 +217,7 @@ module _ (ops other : List ℕ) (long : length ops ≡ length other)
       (roundRow (wordAt (timestamp-same (q / 24) t)) (24 - 24 + q % 24) (roundsL (24 - 24) (q % 24) (input-same (q / 24) t))) roundPad)
 
   pub output-not-read : (table : List ℕ)
-      → (traceRefusal (length table) ops ≡ traceRefusal (length table) other) × (roundTraceAfter ops table ≡ roundTraceAfter other table)
+      → (roundTraceRefusal (length table) ops ≡ roundTraceRefusal (length table) other) × (roundTraceAfter ops table ≡ roundTraceAfter other table)
   output-not-read table =
       let c = refusal-output (length table) in
       (c, λ t. afterwards (c t) (overwrite (table-output t) table) table)

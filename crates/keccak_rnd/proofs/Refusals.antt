@@ -1,6 +1,6 @@
--- `keccak_rnd_row` is accepted exactly where none of its conditions holds; and its refusals with their details, in their order.
--- Assumes nothing.
-use mathlib.Core.Path.{_≡_, refl}
+-- `keccak_rnd_row` is accepted exactly where none of its conditions holds; and its refusals with their details, in their
+-- order. What `generate_keccak_rnd_trace` needs. Assumes nothing.
+use mathlib.Core.Path.{_≡_, refl, sym, subst}
 use mathlib.Core.Logic.{_↔_}
 use mathlib.Core.List.{List}
 use mathlib.Core.Option.{some}
@@ -10,11 +10,17 @@ use lib.ListN.{length}
 use Rattle.answer.specs.Refusal.{accepted}
 use Rattle.answer.proofs.Laws.{refuse-yes, refuse-no, passed-if}
 use Rattle.answer.specs.declared.Refusal.the-variants.{PastEnd, TooShort}
-use Rattle.keccak_rnd.specs.Refusals.{rowRefusal}
+use Rattle.keccak.specs.Height.{MIN-ROWS}
+use Rattle.keccak.specs.Row.{opAt}
+use Rattle.keccak.specs.Refusals.{opCount, Acceptable}
+use Rattle.keccak.proofs.Refusals.{accepted-is}
+use Rattle.keccak_rnd.specs.Row.{roundTable}
+use Rattle.keccak_rnd.specs.Refusals.{roundRowRefusal, roundTraceRefusal}
+use Rattle.keccak_rnd.proofs.Table.{length-round-table}
 
 module _ (round : ℕ) (start row : List ℕ) where
-  pub row-accepted : (rowRefusal round start row ≡ accepted) ↔ ((round < 24) × (25 ≤ length start) × (1480 ≤ length row))
-  unfolding rowRefusal
+  pub row-accepted : (roundRowRefusal round start row ≡ accepted) ↔ ((round < 24) × (25 ≤ length start) × (1480 ≤ length row))
+  unfolding roundRowRefusal
   row-accepted = (
     (λ e.
         let a = passed-if _ _ _ e in
@@ -26,16 +32,24 @@ module _ (round : ℕ) (start row : List ℕ) where
         (refuse-no _ (le-ltb (length start) 25 (h .1)) (refuse-no _ (le-ltb (length row) 1480 (h .2)) refl)),
   )
 
-  pub round-past : 24 ≤ round → rowRefusal round start row ≡ some (PastEnd 24)
-  unfolding rowRefusal
+  pub round-past : 24 ≤ round → roundRowRefusal round start row ≡ some (PastEnd 24)
+  unfolding roundRowRefusal
   round-past h = refuse-yes _ _ (le-leb 24 round h)
 
   module _ (l : round < 24) where
-    pub start-short : length start < 25 → rowRefusal round start row ≡ some (TooShort 25)
-    unfolding rowRefusal
+    pub start-short : length start < 25 → roundRowRefusal round start row ≡ some (TooShort 25)
+    unfolding roundRowRefusal
     start-short h = refuse-no _ (lt-leb 24 round l) (refuse-yes _ _ (lt-ltb (length start) 25 h))
 
-    pub row-short : 25 ≤ length start → length row < 1480 → rowRefusal round start row ≡ some (TooShort 1480)
-    unfolding rowRefusal
+    pub row-short : 25 ≤ length start → length row < 1480 → roundRowRefusal round start row ≡ some (TooShort 1480)
+    unfolding roundRowRefusal
     row-short m h =
         refuse-no _ (lt-leb 24 round l) (refuse-no _ (le-ltb (length start) 25 m) (refuse-yes _ _ (lt-ltb (length row) 1480 h)))
+
+-- what `generate_keccak_rnd_trace` needs is as long as what it writes, so a table of exactly that length is accepted
+pub trace-accepted : (room : ℕ) (ops : List ℕ) →
+    (roundTraceRefusal room ops ≡ accepted) ↔ Acceptable room (length (roundTable 24 MIN-ROWS (opCount ops) (opAt ops))) ops
+unfolding roundTraceRefusal
+trace-accepted room ops =
+    subst (λ (n : ℕ). (roundTraceRefusal room ops ≡ accepted) ↔ Acceptable room n ops)
+    (sym (length-round-table 24 (opCount ops) (opAt ops) MIN-ROWS)) (accepted-is room _ ops)

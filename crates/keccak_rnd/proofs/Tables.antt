@@ -16,7 +16,7 @@ use Rattle.fips202.specs.Fips.{RHO}
 use Rattle.fips202.specs.Lanes.{lane, grid, Lanes}
 use Rattle.fips202.proofs.Steps.{lane-of, lane-grid, grid-same}
 use Rattle.keccak_rnd.specs.Row.{cxzByte, cByte, cxzRightBit, rotatedC, dByte, thetaLanes, rotLeftByte, rotRightByte, piLanes, chiLanes, byLane, roundGroups}
-use Rattle.keccak_rnd.specs.Parts.{stagesOf, cxzTable, leftTable, rightTable, dTable, parityBytes, leftBytes, rightBits, joined, Joins, turnBytes, stageCell, byteCell, bitCell, frontGroups, rhoGroups, chiGroups, leftLane, rightLane}
+use Rattle.keccak_rnd.specs.Parts.{stagesOf, cxzTable, leftTable, rightTable, dTable, parityBytes, leftBytes, rightBits, rotatedFrom, Joins, turnBytes, stageCell, byteCell, bitCell, frontGroups, rhoGroups, chiGroups, leftLane, rightLane}
 use Rattle.keccak_rnd.proofs.Lanes.{rotated-lt}
 
 -- ---- an array of four, five, eight elements by its places
@@ -91,8 +91,8 @@ turn-eight c r g e = eight (λ b. bitXor (word c b) (g b)) (at 0 (omega arith)) 
 cell : (n m : ℕ) (f : ℕ → ℕ → ℕ) (x b : ℕ) → x < n → b < m → word (getD (tab n (λ x. tab m (f x))) x []) b ≡ f x b
 cell n m f x b hx hb = ap (λ (l : List ℕ). word l b) (getD-tab n (λ x. tab m (f x)) x [] hx) ∙ getD-tab m (f x) b 0 hb
 
-even-joined : (l r : List ℕ) (h : ℕ) → joined l r (2 * h) ≡ word l (2 * h) + word r ((h + 3) % 4)
-unfolding joined
+even-joined : (l r : List ℕ) (h : ℕ) → rotatedFrom l r (2 * h) ≡ word l (2 * h) + word r ((h + 3) % 4)
+unfolding rotatedFrom
 even-joined l r h = ap₂ (λ (m k : ℕ). word l (2 * h) + pick (eqb m 0) (word r k) 0) (e₁ h) (e₂ h)
   where
     e₁ : (h : ℕ) → 2 * h % 2 ≡ 0
@@ -137,8 +137,8 @@ module _ (s : List ℕ) where
   unfolding dTable
   d-word x b hx hb = cell 5 8 (dByte s) x b hx hb
 
-  joined-is : (x b : ℕ) → x < 5 → b < 8 → joined (getD (leftTable s) x []) (getD (rightTable s) x []) b ≡ rotatedC s x b
-  unfolding joined rotatedC
+  joined-is : (x b : ℕ) → x < 5 → b < 8 → rotatedFrom (getD (leftTable s) x []) (getD (rightTable s) x []) b ≡ rotatedC s x b
+  unfolding rotatedFrom rotatedC
   joined-is x b hx hb =
       ap₂ (λ (m n : ℕ). m + pick (eqb (b % 2) 0) n 0) (left-word x b hx hb) (right-word x ((b / 2 + 3) % 4) hx (omega arith))
 
@@ -152,7 +152,7 @@ module _ (s : List ℕ) where
   d-table-is =
       tab-same 5 (turnBytes (cxzTable s) (leftTable s) (rightTable s)) (λ x. tab 8 (dByte s x))
       (λ x hx. tab-same 8
-      (λ b. bitXor (word (parityBytes (cxzTable s) ((x + 4) % 5)) b) (joined (getD (leftTable s) ((x + 1) % 5) []) (getD (rightTable s) ((x + 1) % 5) []) b))
+      (λ b. bitXor (word (parityBytes (cxzTable s) ((x + 4) % 5)) b) (rotatedFrom (getD (leftTable s) ((x + 1) % 5) []) (getD (rightTable s) ((x + 1) % 5) []) b))
       (dByte s x)
       (λ b hb. ap₂ bitXor (parity-word ((x + 4) % 5) (omega arith) b hb) (joined-is ((x + 1) % 5) b (omega arith) hb)))
 

@@ -10,16 +10,16 @@ use Rattle.keccak.specs.Height.{MIN-ROWS}
 use Rattle.keccak.specs.Row.{opAt}
 use Rattle.keccak.specs.Refusals.{opCount}
 use Rattle.keccak_rnd.specs.Row.{roundRow, roundTable}
-use Rattle.keccak_rnd.specs.Refusals.{rowRefusal, traceRefusal}
+use Rattle.keccak_rnd.specs.Refusals.{roundRowRefusal, roundTraceRefusal}
 
 -- `keccak_rnd_row`: the row of a round, START being the first 25 words of `start`
 abbrev pub roundRowAfter : ℕ → List ℕ → ℕ → List ℕ → List ℕ
 roundRowAfter timestamp start round row =
-    afterwards (rowRefusal round start row)
+    afterwards (roundRowRefusal round start row)
     (overwrite (roundRow (wordAt timestamp) round (tab 25 (word start))) row) row
 
 -- `generate_keccak_rnd_trace`: the table of a list
 abbrev pub roundTraceAfter : List ℕ → List ℕ → List ℕ
 roundTraceAfter ops table =
-    afterwards (traceRefusal (length table) ops)
+    afterwards (roundTraceRefusal (length table) ops)
     (overwrite (roundTable 24 MIN-ROWS (opCount ops) (opAt ops)) table) table

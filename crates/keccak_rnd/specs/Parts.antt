@@ -41,8 +41,8 @@ unfoldable pub rightBits : List ℕ → List ℕ
 rightBits c = tab 4 (λ h. hwslCarry (halfword (word c) h) 1)
 
 -- the sum of the two parts at a byte: an even byte takes the carry of the halfword below it, byte 0 that of halfword 3
-unfoldable pub joined : List ℕ → List ℕ → ℕ → ℕ
-joined left right b = word left b + pick (eqb (b % 2) 0) (word right (cxz-right-bit-for-byte b)) 0
+unfoldable pub rotatedFrom : List ℕ → List ℕ → ℕ → ℕ
+rotatedFrom left right b = word left b + pick (eqb (b % 2) 0) (word right (cxz-right-bit-for-byte b)) 0
 
 -- the two parts share no bit, so that each sum is a byte
 abbrev pub Joins : List ℕ → List ℕ → Type 0
@@ -54,7 +54,7 @@ turnBytes cxz left right x =
     tab 8
     (λ b.
     bitXor (word (parityBytes cxz ((x + 4) % 5)) b)
-    (joined (getD left ((x + 1) % 5) []) (getD right ((x + 1) % 5) []) b))
+    (rotatedFrom (getD left ((x + 1) % 5) []) (getD right ((x + 1) % 5) []) b))
 
 -- what each cell of a table's group holds
 unfoldable pub stageCell : List (List (List ℕ)) → ℕ → ℕ

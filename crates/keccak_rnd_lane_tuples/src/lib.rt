@@ -1,4 +1,5 @@
-// tables/keccak_rnd.rs, bus_interactions: a tuple of a byte of a lane of a round row: of θ, of ρ's parts, of χ's ands, of χ, of ι.
+// tables/keccak_rnd.rs, bus_interactions: a tuple of a byte of a lane of a round row: of θ, of ρ's parts, of χ's ands,
+// of χ, of ι.
 use byte_tuples::AND;
 use byte_tuples::XOR;
 use byte_tuples::lane::lane_byte;

@@ -1,5 +1,5 @@
-// tables/keccak_rnd.rs, bus_interactions: the tuples of the lanes of a round row as words, group by group: θ, ρ's parts, χ's ands, χ and ι. In
-// each loop lane l is lane (l / 5, l % 5).
+// tables/keccak_rnd.rs, bus_interactions: the tuples of the lanes of a round row as words, group by group: θ, ρ's
+// parts, χ's ands, χ and ι. In each loop lane l is lane (l / 5, l % 5).
 use byte_tuples::AND;
 use byte_tuples::XOR;
 use byte_tuples::words::put_alu_lane;

@@ -1,5 +1,5 @@
-// tables/keccak_rnd.rs, bus_interactions: the lookups of a round row by index, which are its tuples from 3 on: 808 on the ByteAlu bus and 220
-// on the AreBytes bus.
+// tables/keccak_rnd.rs, bus_interactions: the lookups of a round row by index, which are its tuples from 3 on: 808 on
+// the ByteAlu bus and 220 on the AreBytes bus.
 use keccak_rnd_lane_tuples::chi_ands_tuple;
 use keccak_rnd_lane_tuples::chi_tuple;
 use keccak_rnd_lane_tuples::iota_tuple;

@@ -25,7 +25,7 @@ use Rattle.lookup.specs.declared.Bus.the-variants.{ByteAlu, KeccakRc, Keccak}
 use Rattle.keccak_rc.specs.Found.{rcFound}
 use Rattle.matching.specs.Matching.{foundOn, matched}
 use Rattle.keccak_rnd.specs.Columns.{MU}
-use Rattle.keccak_rnd.specs.Tuples.{roundReceived, roundSent, rcTuple, roundTuple}
+use Rattle.keccak_rnd.specs.Tuples.{roundReceived, roundSent, constantTuple, roundTuple}
 use Rattle.scan.specs.Scan.{unmatched, afterPlace, from}
 use Rattle.scan.proofs.Scans.{first-then, none-off, sent-off, free-off}
 use Rattle.scan.proofs.Groups.{from-all, from-group}
@@ -62,9 +62,6 @@ rc-off m r f h =
     (λ b l. ap (λ (v : ℕ). eqb v (byteAt (roundConstant r) b)) (getD-tab 8 f b 0 l)))
 
 module _ (row : List ℕ) where
-  bytes : ℕ → ℕ → Bool
-  bytes constant b = eqb (word row (1463 + b)) (byteAt constant b)
-
   pub rc-none : word row MU ≡ 0 → Nowhere ≡ placeOf (firstAt (unmatched (rcTuples row)) 1)
   unfolding unmatched rcTuples
   rc-none e = sym (ap placeOf (at-nothing _ 1 (λ i l. none-off KeccakRc _ _ e)))
@@ -78,7 +75,7 @@ module _ (row : List ℕ) where
         ∙ ap (λ (q : Bool). not (q && all 8 (λ b. eqb (word row (1463 + b)) (byteAt (roundConstant (word row 2)) b)))) (le-ltb (word row 2) 32 h))))
 
     tested : {k : ℕ} {t : Bool} → word row 2 < 32 → k ≡ roundConstant (word row 2) → t ≡ not (all 8 (λ b. eqb (word row (1463 + b)) (byteAt k b)))
-        → not (matched (rcTuple row)) ≡ t
+        → not (matched (constantTuple row)) ≡ t
     tested {k} {t} l e d =
         rc-off (word row MU) (word row 2) (λ b. word row (1463 + b)) active
         ∙ ap (λ (q : Bool). not (q && all 8 (λ b. eqb (word row (1463 + b)) (byteAt (roundConstant (word row 2)) b)))) (lt-ltb (word row 2) 32 l)

@@ -70,7 +70,8 @@ fn left_group_failure(row: &[u64], index: usize) -> Place
     rot_group_failure(row, index)
 }
 
-// The first tuple that needs a match and has none in the group of tuple `index`. The two of the bus between the tables need none.
+// The first tuple that needs a match and has none in the group of tuple `index`. The two of the bus between the tables
+// need none.
 pub fn round_group_failure(row: &[u64], index: usize) -> Place
     requires { ⌜ ElementRow NUM-COLUMNS (now row) ⌝ }
     ensures { λ r. ⌜ r ≡ placeOf (firstOfGroup 0 roundEnds NUM-TUPLES (unmatched (roundTuple (now (row .entry)))) index) ⌝ }

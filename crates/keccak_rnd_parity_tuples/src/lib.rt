@@ -1,4 +1,5 @@
-// tables/keccak_rnd.rs, bus_interactions: a tuple of the column parities of a round row: of C in its stages, of C's shifted halfwords, of D.
+// tables/keccak_rnd.rs, bus_interactions: a tuple of the column parities of a round row: of C in its stages, of C's
+// shifted halfwords, of D.
 use byte_tuples::XOR;
 use byte_tuples::lane::lane_byte;
 use byte_tuples::send::send_alu;

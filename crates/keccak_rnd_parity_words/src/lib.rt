@@ -1,5 +1,5 @@
-// tables/keccak_rnd.rs, bus_interactions: the tuples of the column parities of a round row as words, group by group: the parities in their
-// stages, C rotated by one, and D.
+// tables/keccak_rnd.rs, bus_interactions: the tuples of the column parities of a round row as words, group by group:
+// the parities in their stages, C rotated by one, and D.
 use byte_tuples::XOR;
 use byte_tuples::words::put_alu_lane;
 use byte_tuples::words::put_bytes;

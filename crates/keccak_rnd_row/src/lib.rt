@@ -26,14 +26,14 @@ use keccak_rnd_theta::d_table;
 use operations::lanes_at;
 use permutation::State;
 ghost use mathlib.Core.Path.{_≡_};
-ghost use Prim.Native.Nat.{ℕ, _+_, _≤_};
+ghost use Prim.Native.Nat.{_+_, _≤_};
 ghost use lib.ListN.{length};
 ghost use lib.Seq.{sets};
 ghost use Rattle.lists.specs.Tab.{tab, rowOf};
 ghost use Rattle.bits.specs.Bits.{wordAt};
 ghost use Rattle.answer.specs.Refusal.{answerOf};
 ghost use Rattle.keccak_rnd.specs.Row.{roundRow};
-ghost use Rattle.keccak_rnd.specs.Refusals.{rowRefusal};
+ghost use Rattle.keccak_rnd.specs.Refusals.{roundRowRefusal};
 ghost use Rattle.keccak_rnd.specs.Calls.{roundRowAfter};
 ghost use Rattle.keccak_rnd.specs.Parts.{stageCell, byteCell, bitCell, cxzTable, leftTable, rightTable, dTable, frontGroups, rhoGroups, chiGroups};
 
@@ -172,7 +172,7 @@ pub fn put_round_row(row: &mut [u64], at: usize, timestamp: u64, round: usize, s
 
 // The row of a round: START is the first 25 words of `start`.
 pub fn keccak_rnd_row(timestamp: u64, start: &[u64], round: usize, row: &mut [u64]) -> Answer
-    ensures answer { λ r. ⌜ r ≡ answerOf (rowRefusal round (now (start .entry)) (now (row .entry))) ⌝ }
+    ensures answer { λ r. ⌜ r ≡ answerOf (roundRowRefusal round (now (start .entry)) (now (row .entry))) ⌝ }
     ensures words { λ r. ⌜ now (row .exit) ≡ roundRowAfter timestamp (now (start .entry)) round (now (row .entry)) ⌝ }
 {
     if round >= ROUNDS {

@@ -9,12 +9,12 @@ ghost use lib.ListN.{getD};
 ghost use Rattle.lists.specs.Tab.{tab, word};
 ghost use Rattle.bits.specs.Bits.{laneOf};
 ghost use Rattle.fips202.specs.Lanes.{grid, lane};
-ghost use Rattle.keccak_rnd.specs.Parts.{Joins, joined, turnBytes};
+ghost use Rattle.keccak_rnd.specs.Parts.{Joins, rotatedFrom, turnBytes};
 
 // C[x] rotated by one: an even byte takes the carry of the halfword below it, byte 0 that of halfword 3.
 fn rotated(left: [u8; 8], right: [u8; 4]) -> [u8; 8]
     requires { ⌜ Joins left right ⌝ }
-    ensures { λ r. ⌜ r ≡ tab 8 (joined left right) ⌝ }
+    ensures { λ r. ⌜ r ≡ tab 8 (rotatedFrom left right) ⌝ }
 {
     [
         left[0] + right[3],
@@ -31,7 +31,7 @@ fn rotated(left: [u8; 8], right: [u8; 4]) -> [u8; 8]
 // D of one column: C of the column before it, plus the rotated C of the column after it.
 fn turn(before: [u8; 8], left: [u8; 8], right: [u8; 4]) -> [u8; 8]
     requires { ⌜ Joins left right ⌝ }
-    ensures { λ r. ⌜ r ≡ tab 8 (λ b. bitXor (word before b) (joined left right b)) ⌝ }
+    ensures { λ r. ⌜ r ≡ tab 8 (λ b. bitXor (word before b) (rotatedFrom left right b)) ⌝ }
 {
     let r = rotated(left, right);
     [

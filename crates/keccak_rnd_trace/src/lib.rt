@@ -16,17 +16,16 @@ use operations::lanes_at;
 use operations::table_height;
 use permutation::State;
 ghost use mathlib.Core.Path.{_≡_};
-ghost use Prim.Native.Nat.{ℕ, _+_, _*_, _/_, _%_, _≤_};
+ghost use Prim.Native.Nat.{_+_, _*_, _/_, _%_, _≤_};
 ghost use lib.ListN.{length};
 ghost use lib.Seq.{sets};
 ghost use Rattle.lists.specs.Tab.{tableOf};
-ghost use Rattle.answer.specs.Refusal.{answerOf, numberOf};
+ghost use Rattle.answer.specs.Refusal.{answerOf, numberOf, countRefusal};
 ghost use Rattle.keccak.specs.Height.{MIN-ROWS};
 ghost use Rattle.keccak.specs.Row.{OP-WORDS, opAt};
-ghost use Rattle.keccak.specs.Refusals.{countRefusal};
 ghost use Rattle.keccak_rnd.specs.Columns.{NUM-COLUMNS};
 ghost use Rattle.keccak_rnd.specs.Row.{opRow, roundRowAt, roundHeight, padding-are-bytes};
-ghost use Rattle.keccak_rnd.specs.Refusals.{traceRefusal};
+ghost use Rattle.keccak_rnd.specs.Refusals.{roundTraceRefusal};
 ghost use Rattle.keccak_rnd.specs.Calls.{roundTraceAfter};
 ghost use Rattle.keccak_rnd.specs.Parts.{rowAfter};
 
@@ -71,7 +70,7 @@ fn put_round_rows(ops: &[u64], n: usize, h: usize, table: &mut [u64])
 
 // The round table of a list of operations.
 pub fn generate_keccak_rnd_trace(ops: &[u64], table: &mut [u64]) -> Answer
-    ensures answer { λ r. ⌜ r ≡ answerOf (traceRefusal (length (now (table .entry))) (now (ops .entry))) ⌝ }
+    ensures answer { λ r. ⌜ r ≡ answerOf (roundTraceRefusal (length (now (table .entry))) (now (ops .entry))) ⌝ }
     ensures words { λ r. ⌜ now (table .exit) ≡ roundTraceAfter (now (ops .entry)) (now (table .entry)) ⌝ }
 {
     let n = ops.len() / OP_WORDS;

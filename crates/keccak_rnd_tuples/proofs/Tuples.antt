@@ -14,7 +14,7 @@ use Rattle.lookup.specs.declared.Side.the-variants.{Sender, Receiver}
 use Rattle.lookup.specs.Call.{interactionOf}
 use Rattle.keccak.specs.Tuples.{keccakValues}
 use Rattle.keccak_rnd.specs.Columns.{start, rc}
-use Rattle.keccak_rnd.specs.Tuples.{roundReceived, roundSent, rcTuple, roundTuple}
+use Rattle.keccak_rnd.specs.Tuples.{roundReceived, roundSent, constantTuple, roundTuple}
 use Rattle.keccak_rnd.proofs.Step.{keccak-same}
 use Rattle.keccak_rnd_lookup_tuples.proofs.Tuples.{at-cxz-0, at-cxz, at-cxz-left, at-dxz, at-theta, at-rot, at-chi-ands, at-chi, at-iota}
 use Rattle.keccak_rnd_tuples.specs.States.{stateWord}
@@ -33,11 +33,11 @@ module _ (row : List ℕ) where
   unfolding roundTuple roundSent stateWord
   at-sent = then-ge 1 0 _ _ ∙ then-lt 1 0 _ _ (omega arith)
 
-  pub at-rc : (i : ℕ) → i ≡ 2 → roundTuple row i ≡ rcTuple row
+  pub at-rc : (i : ℕ) → i ≡ 2 → roundTuple row i ≡ constantTuple row
   unfolding roundTuple
   at-rc i e = ap (roundTuple row) e ∙ then-ge 1 1 _ _ ∙ then-ge 1 0 _ _ ∙ then-lt 1 0 _ _ (omega arith)
 
-  pub rc-length : length (rcTuple row .values) ≡ 9
+  pub rc-length : length (constantTuple row .values) ≡ 9
   rc-length = ap suc (length-tab 8 (λ b. word row (rc b)))
 
   -- what a call answers for them
@@ -47,7 +47,7 @@ module _ (row : List ℕ) where
   pub sent-interaction : interactionOf (sender Keccak (word row 1479) (keccakValues (word row 0) (word row 1) (fadd (word row 2) 1) (stateWord row 1471 1263))) ≡ record { bus = Keccak; side = Sender; length = 203; multiplicity = word row 1479 }
   sent-interaction = ap (λ (n : ℕ). record { bus = Keccak; side = Sender; length = n; multiplicity = word row 1479 }) (keccak-length (word row 0) (word row 1) (fadd (word row 2) 1) (stateWord row 1471 1263))
 
-  pub rc-interaction : interactionOf (rcTuple row) ≡ record { bus = KeccakRc; side = Sender; length = 9; multiplicity = word row 1479 }
+  pub rc-interaction : interactionOf (constantTuple row) ≡ record { bus = KeccakRc; side = Sender; length = 9; multiplicity = word row 1479 }
   rc-interaction = ap (λ (n : ℕ). record { bus = KeccakRc; side = Sender; length = n; multiplicity = word row 1479 }) rc-length
 
   -- ---- how many values

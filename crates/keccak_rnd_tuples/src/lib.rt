@@ -28,7 +28,7 @@ ghost use Rattle.lookup.specs.Call.{interactionOf, tupleAnswerOf, tupleAfter};
 ghost use Rattle.keccak.specs.Columns.{byXYB};
 ghost use Rattle.keccak.specs.Tuples.{keccakValues};
 ghost use Rattle.keccak_rnd.specs.Columns.{NUM-COLUMNS};
-ghost use Rattle.keccak_rnd.specs.Tuples.{NUM-TUPLES, roundTuple, rcTuple};
+ghost use Rattle.keccak_rnd.specs.Tuples.{NUM-TUPLES, roundTuple, constantTuple};
 ghost use Rattle.keccak_rnd_tuples.specs.States.{laneWord, columnWord, stateWord};
 
 pub const NUM_TUPLES: usize = 1031;
@@ -121,8 +121,8 @@ fn sent(row: &[u64], out: &mut [u64]) -> BusInteraction
 // Tuple 2: ROUND and its constant.
 fn constant(row: &[u64], out: &mut [u64]) -> BusInteraction
     requires { ⌜ (1480 ≤ length (now row)) × (9 ≤ length (now out)) ⌝ }
-    ensures answer { λ r. ⌜ r ≡ interactionOf (rcTuple (now (row .entry))) ⌝ }
-    ensures words { λ _. ⌜ now (out .exit) ≡ overwrite (rcTuple (now (row .entry)) .values) (now (out .entry)) ⌝ }
+    ensures answer { λ r. ⌜ r ≡ interactionOf (constantTuple (now (row .entry))) ⌝ }
+    ensures words { λ _. ⌜ now (out .exit) ≡ overwrite (constantTuple (now (row .entry)) .values) (now (out .entry)) ⌝ }
 {
     out[0] = row[ROUND];
     put_part(out, 1, row, RC, 8);

@@ -25,7 +25,7 @@ ghost use Rattle.lists.specs.Tab.{tab};
 ghost use Rattle.answer.specs.Refusal.{answerOf};
 ghost use Rattle.keccak.specs.Columns.{NUM-COLUMNS};
 ghost use Rattle.keccak.specs.Row.{pointerLimb, coreRow, corePad};
-ghost use Rattle.keccak.specs.Refusals.{rowRefusal};
+ghost use Rattle.keccak.specs.Refusals.{coreRowRefusal};
 ghost use Rattle.keccak.specs.Calls.{coreRowAfter};
 
 // The pointers of the 25 lanes from an address.
@@ -68,7 +68,7 @@ pub fn put_pad_row(row: &mut [u64], at: usize)
 
 // The row of operation `index` of a list.
 pub fn keccak_row(ops: &[u64], index: usize, row: &mut [u64]) -> Answer
-    ensures answer { λ r. ⌜ r ≡ answerOf (rowRefusal (length (now (row .entry))) (now (ops .entry)) index) ⌝ }
+    ensures answer { λ r. ⌜ r ≡ answerOf (coreRowRefusal (length (now (row .entry))) (now (ops .entry)) index) ⌝ }
     ensures words { λ r. ⌜ now (row .exit) ≡ coreRowAfter (now (ops .entry)) index (now (row .entry)) ⌝ }
 {
     let n = ops.len() / OP_WORDS;

@@ -5,15 +5,15 @@ use flat::flat_answer;
 use flat::flat_number;
 ghost use mathlib.Core.Path.{_≡_};
 ghost use lib.ListN.{length};
-ghost use Rattle.answer.specs.Refusal.{answerOf, numberOf};
+ghost use Rattle.answer.specs.Refusal.{answerOf, numberOf, countRefusal};
 ghost use Rattle.keccak.specs.Height.{height, MIN-ROWS};
-ghost use Rattle.keccak.specs.Refusals.{rowRefusal, traceRefusal, keysRefusal, countRefusal};
+ghost use Rattle.keccak.specs.Refusals.{coreRowRefusal, coreTraceRefusal, keysRefusal};
 ghost use Rattle.keccak.specs.Calls.{coreRowAfter, coreTraceAfter, keysAfter};
 ghost use Rattle.flat.specs.Flat.{flatAnswer, flatNumber};
 
 #[no_mangle]
 pub extern "C" fn keccak_tables_keccak_row(ops: &[u64], index: usize, row: &mut [u64]) -> FlatAnswer
-    ensures answer { λ r. ⌜ r ≡ flatAnswer (answerOf (rowRefusal (length (now (row .entry))) (now (ops .entry)) index)) ⌝ }
+    ensures answer { λ r. ⌜ r ≡ flatAnswer (answerOf (coreRowRefusal (length (now (row .entry))) (now (ops .entry)) index)) ⌝ }
     ensures words { λ _. ⌜ now (row .exit) ≡ coreRowAfter (now (ops .entry)) index (now (row .entry)) ⌝ }
 {
     flat_answer(keccak_trace::keccak_row(ops, index, row))
@@ -21,7 +21,7 @@ pub extern "C" fn keccak_tables_keccak_row(ops: &[u64], index: usize, row: &mut 
 
 #[no_mangle]
 pub extern "C" fn keccak_tables_generate_keccak_trace(ops: &[u64], table: &mut [u64]) -> FlatAnswer
-    ensures answer { λ r. ⌜ r ≡ flatAnswer (answerOf (traceRefusal (length (now (table .entry))) (now (ops .entry)))) ⌝ }
+    ensures answer { λ r. ⌜ r ≡ flatAnswer (answerOf (coreTraceRefusal (length (now (table .entry))) (now (ops .entry)))) ⌝ }
     ensures words { λ _. ⌜ now (table .exit) ≡ coreTraceAfter (now (ops .entry)) (now (table .entry)) ⌝ }
 {
     flat_answer(keccak_trace::generate_keccak_trace(ops, table))

@@ -6,8 +6,8 @@ ghost use mathlib.Core.List.{[], _∷_};
 ghost use Rattle.verdict.specs.Verdict.{verdictWords};
 ghost use Rattle.verdict.specs.CoreAndRound.{verdictOf};
 
-// The four words of `verdictWords`: the kind; then the count where the tables hold, or the failure's table, row and index, or
-// a refusal's number and detail.
+// The four words of `verdictWords`: the kind; then the count where the tables hold, or the failure's table, row and
+// index, or a refusal's number and detail.
 #[repr(C)]
 pub struct FlatVerdict {
     pub kind: u64,

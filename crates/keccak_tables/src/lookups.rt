@@ -18,7 +18,7 @@ ghost use Rattle.bitwise.specs.Counters.{bumpRefusal, bumpAfter};
 ghost use Rattle.bitwise.specs.Tuples.{bitwiseTuple};
 ghost use Rattle.keccak_rc.specs.Columns as rc;
 ghost use Rattle.keccak_rc.specs.Row as rc-row;
-ghost use Rattle.keccak_rc.specs.Table.{traceRefusal, updateRefusal, rcTraceAfter, updateAfter};
+ghost use Rattle.keccak_rc.specs.Table.{rcTraceRefusal, updateRefusal, rcTraceAfter, updateAfter};
 ghost use Rattle.keccak_rc.specs.Tuples as rc-tuples;
 ghost use Rattle.is_wh.specs.Columns as is-wh;
 ghost use Rattle.is_wh.specs.Key.{of-dword};
@@ -28,7 +28,7 @@ ghost use Rattle.flat.specs.Flat.{flatAnswer, flatNumber, flatTuple, flatKey};
 
 #[no_mangle]
 pub extern "C" fn keccak_tables_generate_bitwise_row(index: usize, row: &mut [u64]) -> FlatAnswer
-    ensures answer { λ r. ⌜ r ≡ flatAnswer (answerOf (bitwise-row.rowRefusal index (now (row .entry)))) ⌝ }
+    ensures answer { λ r. ⌜ r ≡ flatAnswer (answerOf (bitwise-row.bitwiseRowRefusal index (now (row .entry)))) ⌝ }
     ensures words { λ _. ⌜ now (row .exit) ≡ bitwise-row.bitwiseRowAfter index (now (row .entry)) ⌝ }
 {
     flat_answer(bitwise_rows::generate_bitwise_row(index, row))
@@ -69,7 +69,7 @@ pub extern "C" fn keccak_tables_bitwise_bus_interaction(
 
 #[no_mangle]
 pub extern "C" fn keccak_tables_keccak_rc_generate_row(round: usize, out: &mut [u64]) -> FlatAnswer
-    ensures answer { λ r. ⌜ r ≡ flatAnswer (answerOf (rc-row.rowRefusal round (now (out .entry)))) ⌝ }
+    ensures answer { λ r. ⌜ r ≡ flatAnswer (answerOf (rc-row.rcRowRefusal round (now (out .entry)))) ⌝ }
     ensures words { λ _. ⌜ now (out .exit) ≡ rc-row.rcRowAfter round (now (out .entry)) ⌝ }
 {
     flat_answer(keccak_rc_trace::generate_row(round, out))
@@ -77,7 +77,7 @@ pub extern "C" fn keccak_tables_keccak_rc_generate_row(round: usize, out: &mut [
 
 #[no_mangle]
 pub extern "C" fn keccak_tables_generate_keccak_rc_trace(table: &mut [u64]) -> FlatAnswer
-    ensures answer { λ r. ⌜ r ≡ flatAnswer (answerOf (traceRefusal (now (table .entry)))) ⌝ }
+    ensures answer { λ r. ⌜ r ≡ flatAnswer (answerOf (rcTraceRefusal (now (table .entry)))) ⌝ }
     ensures words { λ _. ⌜ now (table .exit) ≡ rcTraceAfter (now (table .entry)) ⌝ }
 {
     flat_answer(keccak_rc_trace::generate_keccak_rc_trace(table))
@@ -100,8 +100,8 @@ pub extern "C" fn keccak_tables_keccak_rc_bus_interaction(
     index: usize,
     out: &mut [u64],
 ) -> FlatTuple
-    ensures answer { λ r. ⌜ r ≡ flatTuple (tupleAnswerOf rc.NUM-COLUMNS rc-tuples.NUM-TUPLES rc-tuples.tupleAt (now (row .entry)) index (now (out .entry))) ⌝ }
-    ensures words { λ _. ⌜ now (out .exit) ≡ tupleAfter rc.NUM-COLUMNS rc-tuples.NUM-TUPLES rc-tuples.tupleAt (now (row .entry)) index (now (out .entry)) ⌝ }
+    ensures answer { λ r. ⌜ r ≡ flatTuple (tupleAnswerOf rc.NUM-COLUMNS rc-tuples.NUM-TUPLES rc-tuples.rcTuple (now (row .entry)) index (now (out .entry))) ⌝ }
+    ensures words { λ _. ⌜ now (out .exit) ≡ tupleAfter rc.NUM-COLUMNS rc-tuples.NUM-TUPLES rc-tuples.rcTuple (now (row .entry)) index (now (out .entry)) ⌝ }
 {
     flat_tuple(keccak_rc_tuples::bus_interaction(row, index, out))
 }

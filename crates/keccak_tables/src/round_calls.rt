@@ -5,11 +5,10 @@ use flat::flat_answer;
 use flat::flat_number;
 ghost use mathlib.Core.Path.{_≡_};
 ghost use lib.ListN.{length};
-ghost use Rattle.answer.specs.Refusal.{answerOf, numberOf};
+ghost use Rattle.answer.specs.Refusal.{answerOf, numberOf, countRefusal};
 ghost use Rattle.keccak.specs.Height.{MIN-ROWS};
-ghost use Rattle.keccak.specs.Refusals.{countRefusal};
 ghost use Rattle.keccak_rnd.specs.Row.{roundHeight, padding-are-bytes};
-ghost use Rattle.keccak_rnd.specs.Refusals.{rowRefusal, traceRefusal};
+ghost use Rattle.keccak_rnd.specs.Refusals.{roundRowRefusal, roundTraceRefusal};
 ghost use Rattle.keccak_rnd.specs.Calls.{roundRowAfter, roundTraceAfter};
 ghost use Rattle.flat.specs.Flat.{flatAnswer, flatNumber};
 
@@ -20,7 +19,7 @@ pub extern "C" fn keccak_tables_keccak_rnd_row(
     round: usize,
     row: &mut [u64],
 ) -> FlatAnswer
-    ensures answer { λ r. ⌜ r ≡ flatAnswer (answerOf (rowRefusal round (now (start .entry)) (now (row .entry)))) ⌝ }
+    ensures answer { λ r. ⌜ r ≡ flatAnswer (answerOf (roundRowRefusal round (now (start .entry)) (now (row .entry)))) ⌝ }
     ensures words { λ _. ⌜ now (row .exit) ≡ roundRowAfter timestamp (now (start .entry)) round (now (row .entry)) ⌝ }
 {
     flat_answer(keccak_rnd_row::keccak_rnd_row(timestamp, start, round, row))
@@ -31,7 +30,7 @@ pub extern "C" fn keccak_tables_generate_keccak_rnd_trace(
     ops: &[u64],
     table: &mut [u64],
 ) -> FlatAnswer
-    ensures answer { λ r. ⌜ r ≡ flatAnswer (answerOf (traceRefusal (length (now (table .entry))) (now (ops .entry)))) ⌝ }
+    ensures answer { λ r. ⌜ r ≡ flatAnswer (answerOf (roundTraceRefusal (length (now (table .entry))) (now (ops .entry)))) ⌝ }
     ensures words { λ _. ⌜ now (table .exit) ≡ roundTraceAfter (now (ops .entry)) (now (table .entry)) ⌝ }
 {
     flat_answer(keccak_rnd_trace::generate_keccak_rnd_trace(ops, table))

@@ -14,16 +14,16 @@ use operations::operation_at;
 use operations::table_height;
 ghost use mathlib.Core.Path.{_≡_};
 ghost use mathlib.Core.Option.{none};
-ghost use Prim.Native.Nat.{ℕ, _+_, _*_, _≤_};
+ghost use Prim.Native.Nat.{_+_, _*_, _≤_};
 ghost use lib.ListN.{length};
 ghost use lib.Seq.{sets};
 ghost use Rattle.lists.specs.Tab.{tableOf};
 ghost use Rattle.lists.specs.First.{firstAt};
-ghost use Rattle.answer.specs.Refusal.{answerOf, numberOf};
+ghost use Rattle.answer.specs.Refusal.{answerOf, numberOf, countRefusal};
 ghost use Rattle.keccak.specs.Columns.{NUM-COLUMNS};
 ghost use Rattle.keccak.specs.Height.{height, MIN-ROWS};
 ghost use Rattle.keccak.specs.Row.{OP-WORDS, coreRow, corePad, coreRowAt, opAt};
-ghost use Rattle.keccak.specs.Refusals.{highAt, traceRefusal, countRefusal};
+ghost use Rattle.keccak.specs.Refusals.{highAt, coreTraceRefusal};
 ghost use Rattle.keccak.specs.Calls.{coreTraceAfter};
 
 // The rows of n operations.
@@ -62,7 +62,7 @@ fn put_core_rows(ops: &[u64], n: usize, h: usize, table: &mut [u64])
 
 // The core table of a list of operations.
 pub fn generate_keccak_trace(ops: &[u64], table: &mut [u64]) -> Answer
-    ensures answer { λ r. ⌜ r ≡ answerOf (traceRefusal (length (now (table .entry))) (now (ops .entry))) ⌝ }
+    ensures answer { λ r. ⌜ r ≡ answerOf (coreTraceRefusal (length (now (table .entry))) (now (ops .entry))) ⌝ }
     ensures words { λ r. ⌜ now (table .exit) ≡ coreTraceAfter (now (ops .entry)) (now (table .entry)) ⌝ }
 {
     let n = ops.len() / OP_WORDS;

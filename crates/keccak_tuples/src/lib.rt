@@ -16,7 +16,7 @@ use lookup::TupleAnswer;
 use lookup::check::check_tuple;
 ghost use mathlib.Core.Path.{_≡_};
 ghost use mathlib.Core.List.{List};
-ghost use Prim.Native.Nat.{ℕ, _+_, _<_, _≤_};
+ghost use Prim.Native.Nat.{ℕ, _<_, _≤_};
 ghost use lib.ListN.{length};
 ghost use Rattle.field.specs.Elements.{ElementRow};
 ghost use Rattle.answer.specs.Refusal.{overwrite};

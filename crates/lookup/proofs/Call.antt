@@ -1,33 +1,19 @@
 -- Laws of a call for a tuple: what an accepted call knows of its arguments, and the two clauses of its contract.
 -- Assumes nothing.
-use Prim.Native.Nat.{ℕ, _≤_, _<_}
+use Prim.Native.Nat.{ℕ, _≤_}
 use mathlib.Core.Path.{_≡_, sym, ap, subst, _∙_}
 use mathlib.Core.Option.{Option, none, some}
 use mathlib.Core.List.{List}
 use borrow.Author.Tests.{leb-false, ltb-false}
 use lib.ListN.{length}
-use Rattle.lists.specs.Tab.{word}
-use Rattle.lists.proofs.First.{at-clear}
-use Rattle.field.specs.Field.{p}
-use Rattle.field.specs.Elements.{notElement, firstNotElement}
+use Rattle.field.proofs.NotElement.{all-elements}
 use Rattle.answer.specs.Refusal.{overwrite, afterwards}
 use Rattle.answer.specs.declared.Refusal.{Refusal}
 use Rattle.answer.proofs.Laws.{passed-if, passed-at, kept, written}
 use Rattle.lookup.specs.Tuple.{Tuple}
 use Rattle.lookup.specs.declared.BusInteraction.{BusInteraction}
 use Rattle.lookup.specs.declared.TupleAnswer.the-variants.{Is, Refused}
-use Rattle.lookup.specs.Call.{interactionOf, sizedRefusal, tupleAnswer}
-
--- words that are not p or more
-pub elements : (ws : List ℕ) (n : ℕ) → firstNotElement ws n ≡ none → (k : ℕ) → k < n → word ws k < p
-unfolding notElement
-elements ws n e k h = leb-false _ _ (at-clear (notElement ws) n k e h)
-
-pub record Accepted (width count : ℕ) (row : List ℕ) (i size room : ℕ) : Type 0 where
-  pub index : i < count
-  pub wide : width ≤ length row
-  pub fits : size ≤ room
-  pub below : (k : ℕ) → k < width → word row k < p
+use Rattle.lookup.specs.Call.{Accepted, interactionOf, sizedRefusal, tupleAnswer}
 
 pub accepted : (width count : ℕ) (row : List ℕ) (i size room : ℕ) → sizedRefusal width count row i size room ≡ none
     → Accepted width count row i size room
@@ -40,7 +26,7 @@ accepted width count row i size room e =
       index = leb-false _ _ (a .0);
       wide = ltb-false _ _ (b .0);
       fits = ltb-false _ _ (c .0);
-      below = elements row width (passed-at _ _ _ (c .1) .0);
+      below = all-elements row width (passed-at _ _ _ (c .1) .0);
     }
 
 -- the two clauses

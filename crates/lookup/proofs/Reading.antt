@@ -6,7 +6,7 @@ use mathlib.Core.Option.{some}
 use Prim.Native.Nat.{ℕ, _≤_, _<_}
 use borrow.Author.Tests.{le-leb, le-ltb}
 use lib.Dec.{leb, ltb}
-use lib.ListN.{length, take}
+use lib.ListN.{length}
 use Rattle.lists.proofs.Then.{by-le}
 use Rattle.lists.proofs.Reading.{Alike, ReadsFirst, front-same}
 use Rattle.answer.specs.Refusal.{refuseIf, refuseAt, accepted, overwrite, afterwards}
@@ -15,14 +15,7 @@ use Rattle.answer.proofs.Laws.{refuse-yes, kept}
 use Rattle.field.specs.Elements.{firstNotElement}
 use Rattle.field.proofs.Reading.{elements-reads}
 use Rattle.lookup.specs.Tuple.{Tuple}
-use Rattle.lookup.specs.Call.{sizedRefusal, tupleRefusal, tupleAnswer, tupleAnswerOf, tupleAfter}
-
--- 'A row may be lent longer than its columns; the rest is neither read nor written': not read
-abbrev pub RestNotRead : ℕ → ℕ → (List ℕ → ℕ → Tuple) → Type 0
-RestNotRead width count tuple =
-    (row : List ℕ) (i : ℕ) (out : List ℕ)
-    → (tupleAnswerOf width count tuple (take width row) i out ≡ tupleAnswerOf width count tuple row i out)
-    × (tupleAfter width count tuple (take width row) i out ≡ tupleAfter width count tuple row i out)
+use Rattle.lookup.specs.Call.{RestNotRead, sizedRefusal, tupleRefusal, tupleAnswer, tupleAnswerOf, tupleAfter}
 
 -- the test of a row's length passes for no row that is long enough
 pub long-enough : (width : ℕ) (row other : List ℕ) → width ≤ length row → width ≤ length other

@@ -1,14 +1,16 @@
 -- A call that gives a tuple of a row by its index: what it answers, and what it writes into the lent slice.
 -- `width` is the number of columns, `count` the number of tuples, and `tuple` the definition of the row's tuples.
 -- Assumes nothing.
-use Prim.Native.Nat.{ℕ}
+use Prim.Native.Nat.{ℕ, _≤_, _<_}
+use mathlib.Core.Path.{_≡_}
 use mathlib.Core.List.{List}
 use mathlib.Core.Option.{Option, none, some}
-use lib.Dec.{leb, ltb}
-use lib.ListN.{length}
-use Rattle.answer.specs.Refusal.{refuseIf, refuseAt, accepted, overwrite, afterwards}
+use lib.ListN.{length, take}
+use Rattle.lists.specs.Tab.{word}
+use Rattle.answer.specs.Refusal.{refuseAt, accepted, overwrite, afterwards, pastEnd, tooShort}
 use Rattle.answer.specs.declared.Refusal.{Refusal}
-use Rattle.answer.specs.declared.Refusal.the-variants.{PastEnd, TooShort, NotElement}
+use Rattle.answer.specs.declared.Refusal.the-variants.{NotElement}
+use Rattle.field.specs.Field.{p}
 use Rattle.field.specs.Elements.{firstNotElement}
 use Rattle.lookup.specs.Tuple.{Tuple}
 use Rattle.lookup.specs.declared.BusInteraction.{BusInteraction}
@@ -23,13 +25,21 @@ interactionOf t = record { bus = t .bus; side = t .side; length = length (t .val
 -- the first column that is p or more
 unfoldable pub sizedRefusal : ℕ → ℕ → List ℕ → ℕ → ℕ → ℕ → Option Refusal
 sizedRefusal width count row i size room =
-    refuseIf (leb count i) (PastEnd count)
-    (refuseIf (ltb (length row) width) (TooShort width)
-    (refuseIf (ltb room size) (TooShort size)
+    pastEnd count i
+    (tooShort (length row) width
+    (tooShort room size
     (refuseAt (firstNotElement row width) NotElement
     accepted)))
 
--- the same, the size being the number of values of tuple i
+-- none of these conditions holds. proofs/Refusals.antt: `accepted-is`, the checks pass exactly then; and each refusal
+-- with its detail
+pub record Accepted (width count : ℕ) (row : List ℕ) (i size room : ℕ) : Type 0 where
+  pub index : i < count
+  pub wide : width ≤ length row
+  pub fits : size ≤ room
+  pub below : (k : ℕ) → k < width → word row k < p
+
+-- the checks, the size being the number of values of tuple i
 unfoldable pub tupleRefusal : ℕ → ℕ → (List ℕ → ℕ → Tuple) → List ℕ → ℕ → List ℕ → Option Refusal
 tupleRefusal width count tuple row i out = sizedRefusal width count row i (length (tuple row i .values)) (length out)
 
@@ -44,3 +54,10 @@ tupleAnswerOf width count tuple row i out = tupleAnswer (tuple row i) (tupleRefu
 abbrev pub tupleAfter : ℕ → ℕ → (List ℕ → ℕ → Tuple) → List ℕ → ℕ → List ℕ → List ℕ
 tupleAfter width count tuple row i out =
     afterwards (tupleRefusal width count tuple row i out) (overwrite (tuple row i .values) out) out
+
+-- "A row may be lent longer than its columns; the rest is neither read nor written": not read
+abbrev pub RestNotRead : ℕ → ℕ → (List ℕ → ℕ → Tuple) → Type 0
+RestNotRead width count tuple =
+    (row : List ℕ) (i : ℕ) (out : List ℕ) →
+    (tupleAnswerOf width count tuple (take width row) i out ≡ tupleAnswerOf width count tuple row i out)
+    × (tupleAfter width count tuple (take width row) i out ≡ tupleAfter width count tuple row i out)

@@ -12,7 +12,7 @@ use Rattle.answer.specs.declared.Refusal.the-variants.{PastEnd, HighAddress}
 use Rattle.keccak.specs.Height.{doubled, next-power-of-two, height}
 use Rattle.keccak.specs.declared.KeccakOperation.{KeccakOperation}
 use Rattle.keccak_rnd.specs.Row.{padding-are-bytes}
-use Rattle.op_file.specs.File.{isWhole, addressOf, faultOf, firstFault, split, recordsOf, total, sumsOf, tallyOf}
+use Rattle.op_file.specs.File.{isWhole, addressOf, faultOf, firstFault, split, recordsOf, busTotal, sumsOf, tallyOf}
 use Rattle.op_file.specs.Reader.{countsOf}
 use Rattle.op_file.specs.declared.Tally.the-variants.{Counted}
 use Rattle.op_file.proofs.Totals.{counts-are-sums}
@@ -21,7 +21,7 @@ use Rattle.op_file.proofs.Laws.{over-fault}
 -- an empty file
 pub empty-file : (syscall : ℕ) → tallyOf syscall []
     ≡ Counted (record { ops = 0; «core_rows» = 4; «round_rows» = 4; «byte_alu» = 0; «are_bytes» = 0; «keccak_rc» = 0; «is_halfword» = 0; «is_wh» = 0; memw = 0; ecall = 0 })
-unfolding tallyOf recordsOf split firstFault sumsOf total height next-power-of-two doubled
+unfolding tallyOf recordsOf split firstFault sumsOf busTotal height next-power-of-two doubled
 empty-file syscall = refl
 
 -- the sums of one operation

@@ -26,7 +26,7 @@ use Rattle.answer.specs.declared.Refusal.{Refusal}
 use Rattle.answer.specs.declared.Refusal.the-variants.{PastEnd, HighAddress, BadRecord}
 use Rattle.keccak.specs.Row.{LAST-ADDRESS, opAt}
 use Rattle.op_file.specs.File.{split, recordsOf, fileWords, isWhole, recordWord, faultOf, firstFault, unless, tallyOf}
-use Rattle.op_file.specs.Reader.{wrong, inAddress, shifted, stepOf, feedOf, start, countsOf, finishOf, after, Advanced}
+use Rattle.op_file.specs.Reader.{wrong, inAddress, shifted, stepOf, feedOf, fileStart, countsOf, finishOf, after, Advanced}
 use Rattle.op_file.specs.declared.Cursor.{Cursor}
 use Rattle.op_file.specs.declared.Cursor.the-variants.{Reading, Refused}
 use Rattle.op_file.specs.declared.Sums.{Sums}
@@ -296,7 +296,7 @@ reads-from (suc k) i (b ∷ s) l m =
     (λ (h : suc (length s) < 418). from-cut k i b s h)
 
 -- what a reader says after the whole file is what the file's records say
-pub reads-file : (syscall : ℕ) (file : List ℕ) → finishOf (feedOf start file) ≡ tallyOf syscall file
+pub reads-file : (syscall : ℕ) (file : List ℕ) → finishOf (feedOf fileStart file) ≡ tallyOf syscall file
 unfolding tallyOf recordsOf
 reads-file syscall file =
     let n = length (split (length file) file) in
@@ -306,8 +306,8 @@ reads-file syscall file =
     ∙ ap (unless (firstFault 0 0 (split (length file) file))) (counts-are-sums syscall n (opAt (fileWords file)))
 
 -- the same of a file that is read in two pieces, wherever it is cut
-pub reads-pieces : (syscall : ℕ) (a b : List ℕ) → finishOf (feedOf (feedOf start a) b) ≡ tallyOf syscall (a ++ b)
-reads-pieces syscall a b = ap finishOf (sym (feed-append start a b)) ∙ reads-file syscall (a ++ b)
+pub reads-pieces : (syscall : ℕ) (a b : List ℕ) → finishOf (feedOf (feedOf fileStart a) b) ≡ tallyOf syscall (a ++ b)
+reads-pieces syscall a b = ap finishOf (sym (feed-append fileStart a b)) ∙ reads-file syscall (a ++ b)
 
 pub feed-one : (c : Cursor) (s : List ℕ) → 0 < length s → feedOf c (take 1 s) ≡ stepOf c (getD s 0 0)
 unfolding feedOf
@@ -357,9 +357,9 @@ stand-feed c [] k p = rw add-zero p
 stand-feed c (b ∷ s) k p = let e : k + suc (length s) ≡ k + 1 + length s = omega arith in rw e (stand-feed (stepOf c b) s (k + 1) (stand-step c b k p))
 
 -- past the MAX-OPS bytes of a file a reader has refused it
-pub refused-past : (s : List ℕ) → 37402006730 < length s → (r : Refusal) × (feedOf start s ≡ Refused r)
-refused-past s l = by (feedOf start s) refl (stand-feed start s 0 (omega arith, omega arith, omega arith))
+pub refused-past : (s : List ℕ) → 37402006730 < length s → (r : Refusal) × (feedOf fileStart s ≡ Refused r)
+refused-past s l = by (feedOf fileStart s) refl (stand-feed fileStart s 0 (omega arith, omega arith, omega arith))
   where
-    by : (c : Cursor) → feedOf start s ≡ c → Stand c (0 + length s) → (r : Refusal) × (feedOf start s ≡ Refused r)
+    by : (c : Cursor) → feedOf fileStart s ≡ c → Stand c (0 + length s) → (r : Refusal) × (feedOf fileStart s ≡ Refused r)
     by (Refused r) e p = (r, e)
     by (Reading n at a) e p = absurd (omega arith)

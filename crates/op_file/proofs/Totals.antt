@@ -13,12 +13,12 @@ use Rattle.keccak.specs.declared.KeccakOperation.{KeccakOperation}
 use Rattle.keccak_rnd.specs.Row.{padding-are-bytes}
 use Rattle.keccak_rnd.specs.Tuples.{roundTableSum}
 use Rattle.keccak_rnd.proofs.Tally.{byte-alu, are-bytes, keccak-rc, is-halfword, is-wh, memw, ecall}
-use Rattle.op_file.specs.File.{total, sumsOf}
+use Rattle.op_file.specs.File.{busTotal, sumsOf}
 use Rattle.op_file.specs.Reader.{countsOf}
 
 module _ (syscall n : ℕ) (op : ℕ → KeccakOperation) where
-  counted : (s : Side) (b : Bus) (c : ℕ) → (n ≡ 0 → c ≡ 0) → (0 < n → coreTableSum s b 24 syscall 4 n op + roundTableSum s b 24 4 n op ≡ c) → total syscall s b n op ≡ c
-  unfolding total
+  counted : (s : Side) (b : Bus) (c : ℕ) → (n ≡ 0 → c ≡ 0) → (0 < n → coreTableSum s b 24 syscall 4 n op + roundTableSum s b 24 4 n op ≡ c) → busTotal syscall s b n op ≡ c
+  unfolding busTotal
   counted s b c z h = by n refl
     where
       by : (m : ℕ) → n ≡ m → pick (eqb m 0) 0 (coreTableSum s b 24 syscall 4 n op + roundTableSum s b 24 4 n op) ≡ c

@@ -27,11 +27,13 @@ use Rattle.op_file.specs.declared.Sums.{Sums}
 use Rattle.op_file.specs.declared.Tally.{Tally}
 use Rattle.op_file.specs.declared.Tally.the-variants.{Counted, Refused}
 
--- the mark, then 52 words of 8 bytes: timestamp, address, 25 lanes of input, 25 of output
+-- "Record: bytes 4B 4F (hexadecimal), then timestamp, address, 25 input and 25 output lanes, each 8 bytes, lowest
+-- first: 418 bytes."
 abbrev pub RECORD-BYTES : ℕ
 RECORD-BYTES = 418
 
--- ---- the records of a file, the last possibly cut. Each has a byte or more, so that k of them hold k bytes
+-- ---- the records of a file, the last possibly cut, at most k of them. Each has at least a byte, so as many as the
+-- file has bytes are enough
 unfoldable pub split : ℕ → List ℕ → List (List ℕ)
 split zero s = []
 split (suc k) [] = []
@@ -52,8 +54,8 @@ abbrev pub addressOf : List ℕ → ℕ
 addressOf r = recordWord r 1
 
 -- ---- faults
--- what is wrong with a record: it is the i-th, starts at byte `at` of the file, and its bytes are r. 1 as soon as any
--- byte follows the last record that a file may have; then 6, then 4
+-- what is wrong with a record: it is the i-th, starts at byte `at` of the file, and its bytes are r. "`tally` gives 1
+-- as soon as any byte follows record 89,478,485; within a record, 6 comes before 4."
 unfoldable pub faultOf : ℕ → ℕ → List ℕ → Option Refusal
 faultOf i at r =
     refuseIf (leb MAX-OPS i) (PastEnd (MAX-OPS + 1))
@@ -77,9 +79,10 @@ fileWords file = tableOf (length (recordsOf file)) OP-WORDS (λ i. operationWord
 
 -- ---- the sums
 -- "the sum of multiplicities that both tables send (Ecall: receive)" on a bus, of the tables of n operations as they
--- are written; an empty file's tables are not shipped. No multiplicity depends on the syscall number.
-unfoldable pub total : ℕ → Side → Bus → ℕ → (ℕ → KeccakOperation) → ℕ
-total syscall s b n op =
+-- are written. "An empty file counts as one whose tables are not shipped: it gives 0, 4, 4, then zeros." No
+-- multiplicity depends on the syscall number.
+unfoldable pub busTotal : ℕ → Side → Bus → ℕ → (ℕ → KeccakOperation) → ℕ
+busTotal syscall s b n op =
     pick (eqb n 0) 0 (coreTableSum s b 24 syscall MIN-ROWS n op + roundTableSum s b 24 MIN-ROWS n op)
 
 unfoldable pub sumsOf : ℕ → ℕ → (ℕ → KeccakOperation) → Sums
@@ -88,13 +91,13 @@ sumsOf syscall n op =
       ops = n;
       «core_rows» = height MIN-ROWS n;
       «round_rows» = roundHeight 24 MIN-ROWS n;
-      «byte_alu» = total syscall Sender ByteAlu n op;
-      «are_bytes» = total syscall Sender AreBytes n op;
-      «keccak_rc» = total syscall Sender KeccakRc n op;
-      «is_halfword» = total syscall Sender IsHalfword n op;
-      «is_wh» = total syscall Sender IsWh n op;
-      memw = total syscall Sender Memw n op;
-      ecall = total syscall Receiver Ecall n op;
+      «byte_alu» = busTotal syscall Sender ByteAlu n op;
+      «are_bytes» = busTotal syscall Sender AreBytes n op;
+      «keccak_rc» = busTotal syscall Sender KeccakRc n op;
+      «is_halfword» = busTotal syscall Sender IsHalfword n op;
+      «is_wh» = busTotal syscall Sender IsWh n op;
+      memw = busTotal syscall Sender Memw n op;
+      ecall = busTotal syscall Receiver Ecall n op;
     }
 
 -- the first fault, or the sums

@@ -33,7 +33,8 @@ inAddress at = pick (leb 10 at) (ltb at 18) false
 unfoldable pub shifted : ℕ → ℕ → ℕ
 shifted a b = a / 256 + b * 72057594037927936
 
--- n whole records, and at bytes of the next, whose address bytes so far make addr
+-- a reader after one more byte. `Reading n at addr`: n whole records are read, and `at` bytes of the next, whose
+-- address bytes so far make addr
 unfoldable pub stepOf : Cursor → ℕ → Cursor
 stepOf (cursor.Refused r) b = cursor.Refused r
 stepOf (cursor.Reading n at addr) b =
@@ -45,13 +46,16 @@ stepOf (cursor.Reading n at addr) b =
     (pick (ltb LAST-ADDRESS addr) (cursor.Refused (HighAddress addr)) (cursor.Reading (n + 1) 0 0))
     (cursor.Reading n (at + 1) (pick (inAddress at) (shifted addr b) addr))))
 
+-- a reader after a piece of the file
 unfoldable pub feedOf : Cursor → List ℕ → Cursor
 feedOf c [] = c
 feedOf c (b ∷ bs) = feedOf (stepOf c b) bs
 
-abbrev pub start : Cursor
-start = cursor.Reading 0 0 0
+-- the reader at the start of a file
+abbrev pub fileStart : Cursor
+fileStart = cursor.Reading 0 0 0
 
+-- whether a reader has met a fault
 abbrev pub isRefused : Cursor → Bool
 isRefused (cursor.Refused r) = true
 isRefused (cursor.Reading n at addr) = false
@@ -72,8 +76,8 @@ countsOf n =
       ecall = n;
     }
 
--- what the end of the file makes of a reader: a record that it breaks off is cut, and one too many where the file has all
--- the records that it may have
+-- what the end of the file makes of a reader: a record that it breaks off is cut, and one too many where the file has
+-- all the records that it may have
 unfoldable pub finishOf : Cursor → Tally
 finishOf (cursor.Refused r) = tally.Refused r
 finishOf (cursor.Reading n at addr) =

@@ -1,7 +1,8 @@
 -- A file without a fault is whole records; the lengths of lists and files. Assumes nothing.
 use mathlib.Core.Bool.{true}
 use Prim.Native.Nat.{ℕ, zero, suc, _+_, _*_, _≤_, _<_}
-use mathlib.Core.Path.{_≡_, refl, sym, ap, _∙_}
+use mathlib.Core.Path.{_≡_, refl, sym, ap, subst, _∙_}
+use mathlib.Core.Logic.{_↔_}
 use mathlib.Core.List.{List, [], _∷_}
 use mathlib.Core.Option.{Option, none, some}
 use native.Mathlib.Omega.{arith}
@@ -13,16 +14,17 @@ use Rattle.lists.specs.First.{orElse}
 use Rattle.lists.proofs.Laws.{length-tab, length-table}
 use Rattle.answer.specs.declared.Refusal.{Refusal}
 use Rattle.answer.specs.declared.Refusal.the-variants.{TooShort}
-use Rattle.answer.specs.Refusal.{overwrite}
+use Rattle.answer.specs.Refusal.{accepted, overwrite}
 use Rattle.answer.proofs.Laws.{passed-if, refuse-yes, refuse-no, sets-overwrite}
 use Rattle.keccak.specs.Row.{opAt}
-use Rattle.keccak.specs.Refusals.{opCount}
+use Rattle.keccak.specs.Refusals.{opCount, Acceptable}
+use Rattle.keccak.proofs.Refusals.{accepted-is}
 use Rattle.op_file.specs.File.{split, recordsOf, recordWord, operationWords, fileWords, faultOf, firstFault, sumsOf, unless, tallyOf, isWhole}
 use Rattle.op_file.specs.declared.Sums.{Sums}
 use Rattle.op_file.specs.declared.Tally.the-variants as tally
 use Rattle.op_record.specs.Record.{recordBytes, wordsFrom}
 use Rattle.op_record.proofs.RoundTrip.{marked}
-use Rattle.op_list.specs.Files.{readRefusal, fileBytes}
+use Rattle.op_list.specs.Files.{readRefusal, fileBytes, writeRefusal}
 
 pub operation-length : (r : List ℕ) → length (operationWords r) ≡ 52
 unfolding operationWords
@@ -108,3 +110,9 @@ read-words file ops n q h e =
     e
     ∙ ap (λ (m : ℕ). sets ops 0 (tableOf m 52 (λ i. operationWords (drop (i * 418) file)))) q
     ∙ sets-overwrite ops (tableOf (length (recordsOf file)) 52 (λ i. operationWords (drop (i * 418) file))) (omega (arith, q, h, length-table (length (recordsOf file)) 52 (λ i. operationWords (drop (i * 418) file))))
+
+-- what `write_operations` needs is as long as what it writes, so a slice of exactly that length is accepted
+pub write-accepted : (room : ℕ) (ops : List ℕ) → (writeRefusal room ops ≡ accepted) ↔ Acceptable room (length (fileBytes ops)) ops
+unfolding writeRefusal
+write-accepted room ops =
+    subst (λ (n : ℕ). (writeRefusal room ops ≡ accepted) ↔ Acceptable room n ops) (sym (file-length ops)) (accepted-is room _ ops)

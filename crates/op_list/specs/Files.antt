@@ -5,10 +5,10 @@ use mathlib.Core.Option.{Option}
 use lib.ListN.{length}
 use Rattle.lists.specs.Tab.{tableOf}
 use Rattle.lists.specs.First.{orElse}
-use Rattle.answer.specs.Refusal.{accepted, overwrite, afterwards}
+use Rattle.answer.specs.Refusal.{accepted, overwrite, afterwards, tooShort}
 use Rattle.answer.specs.declared.Refusal.{Refusal}
 use Rattle.keccak.specs.Row.{OP-WORDS}
-use Rattle.keccak.specs.Refusals.{opCount, tooShort, operationsRefusal}
+use Rattle.keccak.specs.Refusals.{opCount, operationsRefusal}
 use Rattle.op_file.specs.File.{RECORD-BYTES, recordsOf, firstFault, fileWords}
 use Rattle.op_record.specs.Record.{recordBytes, wordsFrom}
 

@@ -7,10 +7,10 @@ use op_step::read_record;
 ghost use mathlib.Core.Path.{_≡_};
 ghost use Prim.Native.Nat.{_<_, _≤_};
 ghost use lib.ListN.{length};
-ghost use Rattle.op_file.specs.Reader.{Advanced, feedOf, isRefused, start as startOf};
+ghost use Rattle.op_file.specs.Reader.{Advanced, feedOf, isRefused, fileStart};
 
 pub fn start() -> Cursor
-    ensures { λ r. ⌜ r ≡ startOf ⌝ }
+    ensures { λ r. ⌜ r ≡ fileStart ⌝ }
 {
     Cursor::Reading {
         n: 0,
@@ -31,8 +31,8 @@ struct Part {
     used: usize,
 }
 
-// Reads on in a piece that is not empty: a whole record at once, or what follows the address of a record that the piece's
-// end splits, or else one byte.
+// Reads on in a piece that is not empty: a whole record at once, or what follows the address of a record that the
+// piece's end splits, or else one byte.
 fn advance(n: u64, at: usize, addr: u64, s: &[u8]) -> Part
     requires { ⌜ 0 < length (now s) ⌝ }
     ensures { λ r. ⌜ Advanced (Cursor.Reading n at addr) (now (s .entry)) (r .cursor) (r .used) ⌝ }

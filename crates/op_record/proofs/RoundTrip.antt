@@ -1,5 +1,5 @@
 -- Bytes to words and back, and words to bytes and back, change nothing. Assumes nothing.
-use Prim.Native.Nat.{ℕ, zero, suc, _+_, _*_, _/_, _%_, _^_, _≤_, _<_}
+use Prim.Native.Nat.{ℕ, zero, suc, _+_, _*_, _/_, _%_, _<_}
 use mathlib.Core.Path.{_≡_, refl, sym, ap, ap₂, _∙_}
 use mathlib.Core.Bool.{Bool, true, false}
 use mathlib.Core.List.{List, [], _∷_}
@@ -13,7 +13,7 @@ use Rattle.lists.specs.Tab.{pick, tab, word}
 use Rattle.lists.proofs.Laws.{length-tab, sets-append, getD-tab, tab-same, list-tab}
 use Rattle.lists.proofs.Tests.{true-not-false}
 use Rattle.bits.specs.Bits.{byteAt, pack, laneOf}
-use Rattle.bits.proofs.Bytes.{pack-by, lane-byteAt, lane-of-bytes}
+use Rattle.bits.proofs.Bytes.{pack-by, lane-byteAt}
 use Rattle.op_file.specs.File.{isWhole, recordWord}
 use Rattle.op_record.specs.Record.{wordByte, recordBytes, Record}
 
@@ -41,12 +41,6 @@ written-byte f j b h hb =
     let q : (8 * j + b) / 8 ≡ j = omega arith in
     let m : (8 * j + b) % 8 ≡ b = omega arith in
     ap (word (recordBytes f)) e ∙ record-byte f (8 * j + b) (omega arith) ∙ ap₂ (λ (x y : ℕ). byteAt (f x) y) q m
-
--- what is written is read back
-pub words-again : (f : ℕ → ℕ) (j : ℕ) → j < 52 → f j < 2 ^ 64 → recordWord (recordBytes f) j ≡ f j
-words-again f j h l =
-    word-of (recordBytes f) j
-    ∙ lane-of-bytes (f j) (λ b. word (recordBytes f) (2 + 8 * j + b)) l (λ b hb. written-byte f j b h hb)
 
 -- what makes a record whole
 pub record Marked (r : List ℕ) : Type 0 where

@@ -8,9 +8,9 @@ ghost use mathlib.Core.Path.{_≡_};
 ghost use Prim.Native.Nat.{_*_, _≤_};
 ghost use lib.ListN.{length};
 ghost use Rattle.lists.specs.First.{firstAt, placeOf};
-ghost use Rattle.answer.specs.Refusal.{accepted, answerOf};
+ghost use Rattle.answer.specs.Refusal.{accepted, answerOf, tooShort};
 ghost use Rattle.keccak.specs.Row.{OP-WORDS};
-ghost use Rattle.keccak.specs.Refusals.{highAt, notWhole, tooShort, tooHigh};
+ghost use Rattle.keccak.specs.Refusals.{highAt, notWhole, tooHigh};
 
 // The first of n operations whose address is above the last one.
 fn first_high(ops: &[u64], n: usize) -> Place

@@ -1,4 +1,5 @@
-// What the writers of both tables read of a flat list of operations: an operation, the checks of the list, the height of a table.
+// What the writers of both tables read of a flat list of operations: an operation, the checks of the list, the height
+// of a table.
 pub use heights::table_height;
 use keccak::KeccakOperation;
 use keccak::OP_WORDS;

@@ -1,4 +1,5 @@
-// The lookups of a round row from ρ on (tables/keccak_rnd.rs, bus_interactions), group by group: the first that finds nothing.
+// The lookups of a round row from ρ on (tables/keccak_rnd.rs, bus_interactions), group by group: the first that finds
+// nothing.
 use keccak_rnd::CHI;
 use keccak_rnd::CHI_ANDS;
 use keccak_rnd::IOTA;

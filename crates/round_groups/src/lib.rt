@@ -1,5 +1,5 @@
-// What the groups of a round row's tuples (tables/keccak_rnd.rs, bus_interactions) are computed from, group by group: C rotated by one, the
-// bytes of π and 255 less each of them.
+// What the groups of a round row's tuples (tables/keccak_rnd.rs, bus_interactions) are computed from, group by group: C
+// rotated by one, the bytes of π and 255 less each of them.
 use field::Fe;
 use fips202::rho_offset;
 use keccak_rnd::ROT_LEFT;

@@ -1,6 +1,6 @@
-// Prints rows, keys and tuples that the proved code computes. The file `stdout` has the same lines from the published Rust:
-// it is what the oracle prints for `sample rows`, `sample lookups`, then `sample evaluations`. Each line starts with the kind
-// of its item.
+// Prints rows, keys and tuples that the proved code computes. The file `stdout` has the same lines from the published
+// Rust: it is what the oracle prints for `sample rows`, `sample lookups`, then `sample evaluations`. Each line starts
+// with the kind of its item.
 use field::Fe;
 use flat::FlatTuple;
 use is_wh::IsWhKey;
@@ -14,7 +14,6 @@ use keccak_tables::lookups::keccak_tables_keccak_rc_bus_interaction;
 use libc::STDOUT_FILENO;
 use lists::put_words;
 use permutation::State;
-ghost use mathlib.Core.Path.{_≡_};
 ghost use Prim.Native.Nat.{_+_, _≤_, _<_};
 ghost use lib.ListN.{length};
 
@@ -114,8 +113,8 @@ fn permuted(input: [u64; 25]) -> [u64; 25] {
     output.lanes
 }
 
-// An operation of 52 words from `at` on, drawn after a word: timestamp, address, of which bits 3 to 47 are kept, and input;
-// its output is the permuted input. Answers the last word drawn.
+// An operation of 52 words from `at` on, drawn after a word: timestamp, address, of which bits 3 to 47 are kept, and
+// input; its output is the permuted input. Answers the last word drawn.
 fn put_operation(ops: &mut [u64], at: usize, before: u64) -> u64
     requires { ⌜ at + 52 ≤ length (now ops) ⌝ }
 {
@@ -278,7 +277,8 @@ fn key_lookups(before: u64) {
     }
 }
 
-// From a digest, that of a tuple's numbers: bus, side, multiplicity, length, and its values, for which the slice has room.
+// From a digest, that of a tuple's numbers: bus, side, multiplicity, length, and its values, for which the slice has
+// room.
 fn tuple_digest(before: u64, tuple: FlatTuple, values: &[u64]) -> u64 {
     let length = tuple.length as usize;
     if length > values.len() {

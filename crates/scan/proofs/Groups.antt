@@ -12,11 +12,10 @@ use mathlib.Core.List.{List, [], _∷_}
 use mathlib.Core.Option.{Option, none, some}
 use Prim.Native.Nat.{ℕ, _+_, _≤_, _<_}
 use native.Mathlib.Omega.{arith}
-use lib.Dec.{ltb, leb}
+use lib.Dec.{leb}
 use borrow.Author.Tests.{lt-ltb, le-ltb, le-leb, lt-leb}
 use Rattle.lists.specs.Tab.{pick}
 use Rattle.lists.specs.First.{firstAt, placeOf}
-use Rattle.lists.specs.declared.Place.{Place}
 use Rattle.lists.specs.declared.Place.the-variants.{Nowhere}
 use Rattle.lists.proofs.First.{at-hit, at-clear, at-nothing, at-found, at-same}
 use Rattle.lists.proofs.Tests.{and-true}

@@ -3,8 +3,8 @@
 --     aluOff         a and b are not both bytes, or op of them is not c: the test on the values alone
 --     bytesOff       not both are bytes
 --     afterPlace     the answer of a scan of n, or else of the scan behind it
--- A row's tuples are scanned in groups, one behind the other, that end at each of some indices and, the last of them, at
--- n:
+-- A row's tuples are scanned in groups, one behind the other, that end at each of some indices and, the last of them,
+-- at n:
 --     from           a test, from index a on
 --     groupEnd       where the group of index i ends
 --     firstOfGroup   the lowest index in the group of index i at which a test passes; a is where the first group begins

@@ -8,7 +8,7 @@
 --     roundTable 24 4 n op   the table that is written for the operations op 0 .. op (n - 1)
 --     stateLanes START   the 25 lanes of a row's START columns
 --     outLanes row       the 25 lanes that a round row sends on
---     RoundPasses row    its 141 values are 0 and its lookups are found
+--     RoundPasses row    its 141 values are 0 and its lookups are matched
 use mathlib.Core.Path.{_≡_, refl, sym, ap, _∙_}
 use mathlib.Core.Bool.{true}
 use mathlib.Core.Option.{some}
@@ -33,9 +33,9 @@ use Rattle.bitwise.specs.Columns.{SLL, SLLC}
 use Rattle.bitwise.specs.Row.{bitwiseRow}
 use Rattle.bitwise.proofs.Cases.{row-0, row-266804, row-1048575}
 use Rattle.keccak.specs.Row.{stateLanes}
-use Rattle.keccak.specs.Refusals.{operationsRefusal}
+use Rattle.keccak.specs.Refusals.{Acceptable, operationsRefusal}
 use Rattle.keccak.specs.declared.KeccakOperation.{KeccakOperation}
-use Rattle.keccak.proofs.Refusals.{Acceptable, accepted-is, highest-accepted, next-refused}
+use Rattle.keccak.proofs.Refusals.{accepted-is, highest-accepted, next-refused}
 use Rattle.keccak_rnd.specs.Columns.{MU, ROUND, START, THETA, rc}
 use Rattle.keccak_rnd.specs.Row.{roundRow, roundTable, roundHeight, padding-are-bytes}
 use Rattle.keccak_rnd.specs.Tuples.{outLanes}
@@ -61,7 +61,7 @@ use Rattle.verdict.proofs.Failures.{timestamp-twice, verdict-says}
 use Rattle.verdict.proofs.Honest.{witness-supposed, witness-holds}
 use Rattle.verdict.proofs.Late.{late-row}
 use Rattle.op_file.specs.File.{isWhole, addressOf, faultOf, sumsOf, tallyOf}
-use Rattle.op_file.specs.Reader.{start, feedOf, finishOf}
+use Rattle.op_file.specs.Reader.{fileStart, feedOf, finishOf}
 use Rattle.op_file.proofs.Cases as file
 use Rattle.op_file.proofs.Laws.{reads-pieces}
 use Rattle.judge.proofs.Tied.{Answered, Wrote, holds-answered, ours-written, written-answers}
@@ -115,8 +115,8 @@ module _ (n : ℕ) (op : ℕ → KeccakOperation) (i : ℕ) (below : i < n)
   table-last = table-fips n op 4 i below lanes
 
 -- "the sum of multiplicities that both tables send (Ecall: receive)": what `tally` answers when a file is fed to it in
--- pieces and finished is the first fault, or these sums over the tables as written (`tallyOf`, op_file/specs/File.antt)
-pub tally-sums : (syscall : ℕ) (a b : List ℕ) → finishOf (feedOf (feedOf start a) b) ≡ tallyOf syscall (a ++ b)
+-- two pieces, cut anywhere, and finished (more pieces: `feed-append`, op_file/proofs/Laws.antt) is the first fault, or these sums over the tables as written (`tallyOf`, op_file/specs/File.antt)
+pub tally-sums : (syscall : ℕ) (a b : List ℕ) → finishOf (feedOf (feedOf fileStart a) b) ≡ tallyOf syscall (a ++ b)
 tally-sums = reads-pieces
 
 -- "Each refusal comes on its listed condition only": a call that takes a list and needs so many words is refused by none
@@ -258,8 +258,8 @@ pub case-late : (core round : List ℕ) → ToCoreBalance (coreKind 24) roundKin
 case-late = late-row 24
 
 -- ---- the code's tie to demand 3 (judge/proofs/Tied.antt: `Answered` and `Wrote` are the two contracts' words)
--- "exactly for such a round table the verdict is 'holds' with the number of active core rows": of what `verdict`
--- answers
+-- "Exactly for such a round table the verdict on both tables is 'holds' with the number of active core rows": of what
+-- `verdict` answers
 module _ (core : List ℕ) (supposed : Supposed core) where
   pub code-holds : (round : List ℕ) (v : Verdict) → Answered core round v →
       (v ≡ Holds (actives coreLayout core)) ↔ Answers 24 core round

@@ -10,7 +10,7 @@ ghost use mathlib.Core.Path.{_≡_};
 ghost use mathlib.Core.List.{List};
 ghost use lib.ListN.{length, take};
 ghost use lib.Seq.{sets};
-ghost use Rattle.op_file.specs.Reader.{feedOf, start, isRefused};
+ghost use Rattle.op_file.specs.Reader.{feedOf, fileStart, isRefused};
 ghost use Rattle.tally_text.specs.Output.{textOf};
 
 // Where the reader stands after a read, how many bytes came, and whether the read failed.
@@ -36,7 +36,7 @@ fn read_some(c: Cursor, buf: &mut [u8]) -> Turn
 // Reads to the end, a failed read, a fault, or past the most bytes that a file may have. The reader stands where the
 // bytes that came take it.
 fn read_all() -> Turn
-    ensures { λ r. ⌜ ((file : List ℕ) × (r .cursor ≡ feedOf start file) × (0 < r .got → isRefused (r .cursor) ≡ false → 37402006731 ≤ length file)) ⌝ }
+    ensures { λ r. ⌜ ((file : List ℕ) × (r .cursor ≡ feedOf fileStart file) × (0 < r .got → isRefused (r .cursor) ≡ false → 37402006731 ≤ length file)) ⌝ }
 {
     let mut space = io::large_buffer();
     let buf: &mut [u8] = &mut space;

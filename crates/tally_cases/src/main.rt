@@ -1,5 +1,5 @@
-// Prints what `tally` says of files that are built here: a line with the file's name, then its lines. The file `stdout` has
-// the same lines from elsewhere.
+// Prints what `tally` says of files that are built here: a line with the file's name, then its lines. The file `stdout`
+// has the same lines from elsewhere.
 use keccak::LAST_ADDRESS;
 use libc::STDOUT_FILENO;
 use op_file::Cursor;

@@ -1,15 +1,15 @@
 -- What the words of each operand are over whole numbers, and its signed constants. Assumes nothing.
 use mathlib.Core.Path.{_≡_, refl, sym, ap, _∙_}
-use mathlib.Core.List.{List, [], _∷_}
-use Prim.Native.Nat.{ℕ, suc, _+_, _-_, _*_, _%_, _^_, _<_, _≤_}
+use mathlib.Core.List.{List}
+use Prim.Native.Nat.{ℕ, suc, _+_, _-_, _*_, _%_, _<_}
 use native.Mathlib.Nat.{mod-eq-of-lt, zero-add, mod-add-mod, add-mod-mod, mul-add, mul-mod-left}
 use native.Mathlib.Omega.{arith}
 use lib.IntN.{ℤ, pos, negsuc}
 use Rattle.lists.specs.Tab.{word}
 use Rattle.field.specs.Field.{p, fadd, fmul, INV-SHIFT-32}
 use Rattle.field.proofs.Field.{fadd-small}
-use Rattle.templates.specs.declared.AddLinearTerm.the-variants.{Column, Constant}
-use Rattle.templates.specs.Templates.{SHIFT-32, const-signed, add-term-expr, add-terms-expr, add-operand-lo, add-operand-hi, linear, dword, constant, from-word, from-dword-hl, from-dword-whh, from-dword-bl}
+use Rattle.templates.specs.declared.AddLinearTerm.the-variants.{Column}
+use Rattle.templates.specs.Templates.{SHIFT-32, const-signed, add-term-expr, add-terms-expr, add-operand-lo, add-operand-hi, dword, constant, from-word, from-dword-hl, from-dword-whh, from-dword-bl}
 
 -- P: 2^32 · INV_SHIFT_32 mod p is 1
 pub shift-32 : SHIFT-32 * INV-SHIFT-32 % p ≡ 1

@@ -6,9 +6,9 @@ use native.Mathlib.Nat.{pow-suc}
 use native.Mathlib.Numerals.{add-one}
 use native.Mathlib.Omega.{arith}
 use lib.ListN.{length, getD, take, drop, set, length-append, length-drop, length-set}
-use lib.Seq.{take-suc, drop-cons, getD-set-same, drop-set-lt, take-all, take-at, length-take-le, sets, length-sets}
+use lib.Seq.{take-suc, drop-cons, getD-set-same, drop-set-lt, take-all, length-take-le, sets, length-sets}
 use borrow.Author.Tests.{lt-ltb, le-ltb}
-use Rattle.lists.proofs.Laws.{sets-append, sets-front}
+use Rattle.lists.proofs.Laws.{sets-append}
 use Rattle.text.specs.Text.{digitsOf, Puts}
 
 -- one more byte
@@ -85,12 +85,6 @@ module _ {a s b : List ℕ} {at r : ℕ} where
 
   pub puts-long : Puts a at s b r → length b ≡ length a
   puts-long p = ap length (p .is) ∙ length-sets a at s
-
--- a text from the front on is what the first r bytes are
-pub puts-front : {a s b : List ℕ} {r : ℕ} → Puts a 0 s b r → r ≤ length a → take r b ≡ s
-puts-front {a} {s} {b} {r} p l =
-    let e : length s ≡ r = omega (arith, p .ends) in
-    ap (take r) (p .is ∙ sets-front a s r e l) ∙ take-at s (drop r a) r e
 
 -- one byte
 pub puts-byte : (a : List ℕ) (at x : ℕ) → Puts a at (x ∷ []) (set a at x) (at + 1)

@@ -1,6 +1,5 @@
 // Text in a lent slice: bytes, decimals and lines, one after the other.
 ghost use mathlib.Core.Path.{_≡_};
-ghost use mathlib.Core.List.{[]};
 ghost use Prim.Native.Nat.{_+_, _<_, _≤_};
 ghost use lib.ListN.{length, drop};
 ghost use Rattle.text.specs.Text.{decimalOf, lineOf, Puts};

@@ -38,7 +38,7 @@ use Rattle.verdict.specs.Kind.{Layout, Kind, rows, row, isActive, active
 use Rattle.verdict.specs.Verdict.{ragged, badValue, firstValue, badLookup, firstLookup, twin, repeats, firstRepeat, uneven, unevenTuple, badTuple, firstUnbalanced, stage, fromRoundBalance, fromCoreBalance, fromRoundLookup, fromRoundValue, fromRepeat, fromCoreLookup, fromCoreValue, fromRoundWords, fromCoreWords, judged}
 use Rattle.verdict.specs.CoreAndRound.{coreKind, roundKind, verdictAt}
 use Rattle.verdict.specs.Kind.{Whole, Elements, ZeroAt, MatchedAt, Values, Lookups}
-use Rattle.verdict.specs.Failures.{RepeatsAt, NewAt, FirstValue, FirstLookup, FirstRepeat, FirstNotElement, UnevenAt, EvenAt, FirstUnbalanced, Even, ToCoreValue, ToCoreLookup, ToRepeat, ToRoundValue, ToRoundLookup, ToCoreBalance, ToRoundBalance, Says}
+use Rattle.verdict.specs.Failures.{RepeatsAt, NewAt, FirstValue, FirstLookup, FirstRepeat, FirstNotElement, UnevenAt, EvenAt, FirstUnbalanced, EachEven, ToCoreValue, ToCoreLookup, ToRepeat, ToRoundValue, ToRoundLookup, ToCoreBalance, ToRoundBalance, Says}
 use Rattle.verdict.specs.declared.Table.the-variants.{Core, Round}
 use Rattle.verdict.specs.declared.Verdict.{Verdict}
 use Rattle.verdict.specs.declared.Verdict.the-variants.{Refused, Value, Lookup, Repeated, Unbalanced, Holds}
@@ -150,7 +150,7 @@ module _ (K L : Kind) (core round : List ℕ) where
     a-big : (k : ℕ) → (firstNotElement ws (length ws) ≡ some k) ↔ FirstNotElement ws k
     a-big = at-some-iff (notElement ws) (length ws) (element-separates ws)
 
-    no-uneven : (firstUnbalanced K L core round M ws ≡ none) ↔ Even K L core round M ws
+    no-uneven : (firstUnbalanced K L core round M ws ≡ none) ↔ EachEven K L core round M ws
     no-uneven = in-none-iff (badTuple K L core round M ws) (M .tuples) (rows (M .layout) ws) (tuple-separates M ws)
 
     an-uneven : (r i : ℕ) → (firstUnbalanced K L core round M ws ≡ some (r, i)) ↔ FirstUnbalanced K L core round M ws r i
@@ -272,7 +272,7 @@ module _ (K L : Kind) (core round : List ℕ) where
       let (c, d, r, b, e) = h in
       ((((((c .whole, r .whole, c .below, r .below), c .values), c .lookups), d), r .values), r .lookups)
 
-  even : {n : ℕ} → Say (Holds n) → (M : Kind) (ws : List ℕ) → Even K L core round M ws
+  even : {n : ℕ} → Say (Holds n) → (M : Kind) (ws : List ℕ) → EachEven K L core round M ws
   unfolding Balanced
   even h M ws r i l g a k = h .3 (M .tuple (row (M .layout) ws r) i .values)
 

@@ -6,17 +6,17 @@ use mathlib.Core.List.{List}
 use Prim.Native.Nat.{ℕ, zero, suc, _+_, _-_, _≤_, _<_}
 use native.Mathlib.Omega.{arith}
 use Rattle.lists.specs.Tab.{word, then}
+use Rattle.lists.specs.Select.{wordsTest}
 use Rattle.lists.proofs.Count.{count-find, count-hit}
 use Rattle.lists.proofs.Tests.{T-of, and-true, true-and}
 use Rattle.lists.proofs.Then.{T-true}
+use Rattle.lists.proofs.Select.{words-same, words-sound}
 use Rattle.field.specs.Field.{fadd}
 use Rattle.field.proofs.Field.{fadd-small}
 use Rattle.keccak.specs.Tuples.{keccakValues, coreTuple, coreReceived}
 use Rattle.keccak_rnd.specs.Columns.{ROUND}
 use Rattle.keccak_rnd.specs.Tuples.{roundTuple, roundReceived, roundSent}
 use Rattle.keccak_rnd.proofs.Soundness.{round-sound}
-use Rattle.bus.specs.Words.{wordsTest}
-use Rattle.bus.proofs.Words.{words-sound, words-same}
 use Rattle.verdict.specs.Kind.{Kind, rows, row, active, Active, Passes, OnBus, sent, received, Balanced}
 use Rattle.verdict.specs.CoreAndRound.{coreLayout, roundLayout, coreKind, roundKind, verdictAt}
 use Rattle.verdict.specs.Failures.{ToCoreBalance}

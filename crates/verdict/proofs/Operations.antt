@@ -4,7 +4,6 @@
 --     row-again    the core row that is written for what is read from a row is that row
 --     none-refused, lendable, rows-again   the claims of demand 3 on the operations
 use mathlib.Core.Path.{_≡_, refl, sym, ap, subst, _∙_}
-use mathlib.Core.Bool.{Bool, true, false}
 use mathlib.Core.List.{List, [], _++_, List·Memᴰ}
 use Prim.Native.Nat.{ℕ, zero, suc, _+_, _-_, _*_, _/_, _%_, _^_, _≤_, _<_}
 use native.Mathlib.Omega.{arith}
@@ -15,7 +14,7 @@ use Rattle.lists.specs.First.{count}
 use Rattle.lists.proofs.Laws.{tab-same, list-tab, table-at, length-table, length-rowAt, holds-row}
 use Rattle.lists.proofs.Then.{by-le}
 use Rattle.bits.specs.Bits.{byteAt, laneByte, wordAt, limbAt}
-use Rattle.bits.proofs.Bytes.{lane-lt64, lane-byteAt}
+use Rattle.bits.proofs.Bytes.{lane-byteAt}
 use Rattle.answer.specs.Limits.{MAX-OPS}
 use Rattle.answer.specs.Refusal.{accepted}
 use Rattle.fips202.specs.Lanes.{Lanes}

@@ -70,8 +70,8 @@ module _ (K L : Kind) (core round : List ℕ) where
   FirstUnbalanced M ws = FirstIn (UnevenAt M ws) (EvenAt M ws) (M .tuples) (rows (M .layout) ws)
 
   -- no tuple of a table is unbalanced
-  abbrev pub Even : Kind → List ℕ → Type 0
-  Even M ws = (r i : ℕ) → r < rows (M .layout) ws → i < M .tuples → EvenAt M ws r i
+  abbrev pub EachEven : Kind → List ℕ → Type 0
+  EachEven M ws = (r i : ℕ) → r < rows (M .layout) ws → i < M .tuples → EvenAt M ws r i
 
   -- What is passed before each failure, "in this order: core value, core lookup, an active core row whose timestamp an
   -- earlier active one has, round value, round lookup, unbalanced tuple". Up to the core values: nothing is refused.
@@ -100,7 +100,7 @@ module _ (K L : Kind) (core round : List ℕ) where
 
   -- and no tuple of a core row is unbalanced: "core rows come before round rows"
   abbrev pub ToRoundBalance : Type 0
-  ToRoundBalance = ToCoreBalance × Even K core
+  ToRoundBalance = ToCoreBalance × EachEven K core
 
   -- what an answer says
   abbrev pub Says : Verdict → Type 0
@@ -119,7 +119,7 @@ module _ (K L : Kind) (core round : List ℕ) where
   Says (Lookup Round r i) = ToRoundLookup × FirstLookup L round r i
   Says (Unbalanced Core r i) = ToCoreBalance × FirstUnbalanced K core r i
   Says (Unbalanced Round r i) = ToRoundBalance × FirstUnbalanced L round r i
-  -- "holds with the active core count"
+  -- "'holds' with the active core count"
   Says (Holds n) =
       Passes K core × DistinctTimestamps (K .layout) core × Passes L round × Balanced K L core round
       × (n ≡ actives (K .layout) core)

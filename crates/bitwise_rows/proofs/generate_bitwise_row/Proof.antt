@@ -3,16 +3,16 @@ use mathlib.Core.Path.{refl, _∙_}
 use borrow.Author.Needs.{needs}
 use borrow.Author.Tests.{le-leb, lt-leb, le-ltb, lt-ltb}
 use Rattle.answer.proofs.Laws.{refuse-yes, refuse-no, refused, done, sets-overwrite}
-use Rattle.bitwise.specs.Row.{rowOfXYZ, bitwiseRow, rowRefusal}
+use Rattle.bitwise.specs.Row.{rowOfXYZ, bitwiseRow, bitwiseRowRefusal}
 use Rattle.bitwise_rows.proofs.generate_bitwise_row.Statement.{statement}
 use Rattle.bitwise_rows.proofs.generate_bitwise_row.Tie as tie
 
 returns : tie.Need-returns
-unfolding rowRefusal
+unfolding bitwiseRowRefusal
 returns c = refused _ _ (refuse-yes _ _ (le-leb _ _ (c .if1 .taken)))
 
 returns-2 : tie.Need-returns-2
-unfolding rowRefusal
+unfolding bitwiseRowRefusal
 returns-2 c = refused _ _ (refuse-no _ (lt-leb _ _ (c .before .if1 .left)) (refuse-yes _ _ (lt-ltb _ _ (c .if2 .taken))))
 
 put-row-requires : tie.Need-put-row-requires
@@ -22,7 +22,7 @@ same-length : tie.Need-same-length
 same-length c = search needs
 
 returns-3 : tie.Need-returns-3
-unfolding rowRefusal bitwiseRow rowOfXYZ
+unfolding bitwiseRowRefusal bitwiseRow rowOfXYZ
 returns-3 c =
     let e = c .before .before .before .before in
     done _

@@ -14,7 +14,8 @@ use Rattle.answer.proofs.Laws.{is-refused, is-done, sets-overwrite}
 use Rattle.lookup.specs.Call.{sizedRefusal, tupleRefusal}
 use Rattle.lookup.specs.declared.Side.the-variants.{Receiver}
 use Rattle.lookup.specs.declared.TupleAnswer.the-variants.{Is}
-use Rattle.lookup.proofs.Call.{Accepted, accepted, tuple-refused, tuple-given}
+use Rattle.lookup.specs.Call.{Accepted}
+use Rattle.lookup.proofs.Call.{accepted, tuple-refused, tuple-given}
 use Rattle.bitwise.specs.declared.BitwiseOperationType.{BitwiseOperationType}
 use Rattle.bitwise.specs.Tuples.{kindAt, kindBus, kindSize, kindValues, bitwiseTuple}
 use Rattle.bitwise.proofs.Numbers.{kind-size, size-le, mu-column-at}

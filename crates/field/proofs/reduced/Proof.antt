@@ -1,9 +1,9 @@
 -- `field::reduced` meets its contract: the word lo is brought below p, then the two steps are `sub` and `add`. Assumes nothing.
 use borrow.Author.Needs.{needs}
 use mathlib.Core.Logic.{⊎-elim}
-use mathlib.Core.Path.{_≡_, refl, sym, ap, _∙_}
+use mathlib.Core.Path.{_≡_, ap, _∙_}
 use native.Mathlib.Omega.{arith}
-use Prim.Native.Nat.{ℕ, _+_, _*_, _%_, _^_}
+use Prim.Native.Nat.{ℕ, _*_, _%_, _^_}
 use Rattle.field.specs.Field.{p, fadd}
 use Rattle.field.proofs.Product.{less-p, reduced-law}
 use Rattle.field.proofs.reduced.Statement.{statement}

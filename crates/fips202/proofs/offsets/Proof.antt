@@ -1,12 +1,12 @@
 -- `offsets` meets its contract: one test computes over the whole table. Assumes nothing.
 use Rattle.lists.specs.Sum.{all}
-use Rattle.fips202.specs.Fips.{walk, offset}
+use Rattle.fips202.specs.Fips.{offsetFrom, offset}
 use Rattle.fips202.proofs.Tables.{offsets-tested}
 use Rattle.fips202.proofs.offsets.Statement.{statement}
 use Rattle.fips202.proofs.offsets.Tie as tie
 
 returns : tie.Need-returns
-unfolding all offset walk
+unfolding all offset offsetFrom
 returns c = offsets-tested _ tt
 
 pub offsets-spec : {M : Type 1} → statement M

@@ -1,8 +1,6 @@
 -- `shift_lane` meets its contract: a lane is known by its halfwords. Assumes nothing.
-use mathlib.Core.Path.{_≡_, refl, sym, ap, _∙_}
-use Prim.Native.Nat.{ℕ, _+_, _-_, _*_, _≤_, _<_}
+use Prim.Native.Nat.{_-_}
 use native.Mathlib.Omega.{arith}
-use lib.ListN.{length, getD, length-set}
 use borrow.Author.Needs.{needs}
 use Rattle.bits.proofs.Halves.{low-lane, carry-lane}
 use Rattle.halfword.proofs.shift_lane.Statement.{statement}

@@ -7,12 +7,12 @@ use native.Mathlib.Omega.{arith}
 use borrow.Author.Tests.{eq-eqb, ne-eqb}
 use Rattle.lists.specs.First.{first, atIndex}
 use Rattle.lists.proofs.First.{first-start, at-more, any-hit, any-none}
-use Rattle.judge_tuples.specs.Port.{apart}
+use Rattle.judge_tuples.specs.Port.{wordsDiffer}
 use Rattle.judge_tuples.proofs.same_words.Statement.{statement}
 use Rattle.judge_tuples.proofs.same_words.Tie as tie
 
 abbrev Inv-loop : tie.InvT-loop
-Inv-loop a i b j n k₀ k = (k ≤ n) × (first (atIndex (apart a i b j)) k ≡ none)
+Inv-loop a i b j n k₀ k = (k ≤ n) × (first (atIndex (wordsDiffer a i b j)) k ≡ none)
 
 abbrev μ-loop : tie.MeasureT-loop
 μ-loop a i b j n k₀ k = n - k
@@ -39,7 +39,7 @@ shared-slice-read-if1-2 : tie.Need-shared-slice-read-if1-2 Inv-loop μ-loop
 shared-slice-read-if1-2 c = omega arith
 
 returns : tie.Need-returns Inv-loop μ-loop
-unfolding apart
+unfolding wordsDiffer
 returns c = sym (ap not (any-hit _ _ _ (c .before .before .before .loop-test .taken) (c .before .before .before .before .loop .inv .1) (ap not (ne-eqb _ _ (c .if1 .taken)))))
 
 add-k : tie.Need-add-k Inv-loop μ-loop
@@ -49,7 +49,7 @@ loop-less : tie.Need-loop-less Inv-loop μ-loop
 loop-less c = omega arith
 
 loop-again : tie.Need-loop-again Inv-loop μ-loop
-unfolding apart
+unfolding wordsDiffer
 loop-again c = (omega arith, at-more _ _ (c .before .before .before .before .loop .inv .1) (ap not (eq-eqb _ _ (c .if1 .left))))
 
 returns-2 : tie.Need-returns-2 Inv-loop μ-loop

@@ -7,7 +7,8 @@ use borrow.Author.Needs.{needs}
 use Rattle.answer.proofs.Laws.{is-refused, is-done, refused, done, sets-overwrite}
 use Rattle.lookup.specs.Words.{tuplesWords}
 use Rattle.evaluation.specs.Call.{valuesRefusal}
-use Rattle.evaluation.proofs.Call.{Accepted, accepted}
+use Rattle.evaluation.specs.Call.{Accepted}
+use Rattle.evaluation.proofs.Call.{accepted}
 use Rattle.keccak.specs.Tuples.{coreTuple}
 use Rattle.keccak_interactions.proofs.Words.{words-length}
 use Rattle.keccak_interactions.proofs.bus_interactions.Statement.{statement}

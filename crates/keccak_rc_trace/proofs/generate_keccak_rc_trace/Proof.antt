@@ -4,13 +4,13 @@ use native.Mathlib.Omega.{arith}
 use borrow.Author.Needs.{needs}
 use borrow.Author.Tests.{le-ltb, lt-ltb}
 use Rattle.answer.proofs.Laws.{refuse-yes, refuse-no, refused, done, sets-overwrite}
-use Rattle.keccak_rc.specs.Table.{traceRefusal}
+use Rattle.keccak_rc.specs.Table.{rcTraceRefusal}
 use Rattle.keccak_rc.proofs.Table.{length-rcTable}
 use Rattle.keccak_rc_trace.proofs.generate_keccak_rc_trace.Statement.{statement}
 use Rattle.keccak_rc_trace.proofs.generate_keccak_rc_trace.Tie as tie
 
 returns : tie.Need-returns
-unfolding traceRefusal
+unfolding rcTraceRefusal
 returns c = refused _ _ (refuse-yes _ _ (lt-ltb _ _ (c .if1 .taken)))
 
 put-table-requires : tie.Need-put-table-requires
@@ -20,7 +20,7 @@ same-length : tie.Need-same-length
 same-length c = search needs
 
 returns-2 : tie.Need-returns-2
-unfolding traceRefusal
+unfolding rcTraceRefusal
 returns-2 c =
     let e = c .before .before .before .before in
     done _

@@ -4,17 +4,17 @@ use native.Mathlib.Omega.{arith}
 use borrow.Author.Needs.{needs}
 use borrow.Author.Tests.{le-leb, lt-leb, le-ltb, lt-ltb}
 use Rattle.answer.proofs.Laws.{refuse-yes, refuse-no, refused, done, sets-overwrite}
-use Rattle.keccak_rc.specs.Row.{rowRefusal}
+use Rattle.keccak_rc.specs.Row.{rcRowRefusal}
 use Rattle.keccak_rc.proofs.Found.{rc-length}
 use Rattle.keccak_rc_trace.proofs.generate_row.Statement.{statement}
 use Rattle.keccak_rc_trace.proofs.generate_row.Tie as tie
 
 returns : tie.Need-returns
-unfolding rowRefusal
+unfolding rcRowRefusal
 returns c = refused _ _ (refuse-yes _ _ (le-leb _ _ (c .if1 .taken)))
 
 returns-2 : tie.Need-returns-2
-unfolding rowRefusal
+unfolding rcRowRefusal
 returns-2 c = refused _ _ (refuse-no _ (lt-leb _ _ (c .before .if1 .left)) (refuse-yes _ _ (lt-ltb _ _ (c .if2 .taken))))
 
 put-row-requires : tie.Need-put-row-requires
@@ -24,7 +24,7 @@ same-length : tie.Need-same-length
 same-length c = search needs
 
 returns-3 : tie.Need-returns-3
-unfolding rowRefusal
+unfolding rcRowRefusal
 returns-3 c =
     let e = c .before .before .before .before in
     let start = e .before .before .before in

@@ -3,13 +3,13 @@ use mathlib.Core.Path.{_≡_, refl, ap, _∙_}
 use Prim.Native.Nat.{ℕ, _-_, _≤_}
 use native.Mathlib.Omega.{arith}
 use lib.ListN.{length, length-set}
-use Rattle.keccak_rc.specs.Table.{withMu, lookups, updated}
+use Rattle.keccak_rc.specs.Table.{withMu, timesLookedUp, updated}
 use Rattle.keccak_rc.proofs.Table.{withMu-more, lookups-24}
 use Rattle.keccak_rc_trace.proofs.put_multiplicities.Statement.{statement}
 use Rattle.keccak_rc_trace.proofs.put_multiplicities.Tie as tie
 
 abbrev Inv-loop : tie.InvT-loop
-Inv-loop table₀ n round₀ table round = (round ≤ 24) × ((length table ≡ length table₀) × (table ≡ withMu (lookups 24 n) round table₀))
+Inv-loop table₀ n round₀ table round = (round ≤ 24) × ((length table ≡ length table₀) × (table ≡ withMu (timesLookedUp 24 n) round table₀))
 
 abbrev μ-loop : tie.MeasureT-loop
 μ-loop table₀ n round₀ table round = 24 - round
@@ -39,7 +39,7 @@ loop-less c = omega arith
 loop-again : tie.Need-loop-again Inv-loop μ-loop
 loop-again c =
     let h = c .before .loop .inv .1 in
-    (omega arith, (simp length-set (h .0), withMu-more (lookups 24 _) _ _ _ (h .1) (lookups-24 _ _)))
+    (omega arith, (simp length-set (h .0), withMu-more (timesLookedUp 24 _) _ _ _ (h .1) (lookups-24 _ _)))
 
 same-length : tie.Need-same-length Inv-loop μ-loop
 same-length c = omega arith
@@ -49,7 +49,7 @@ unfolding updated
 returns c =
     let start = c .before .before in
     let e : c .before .loop .round ≡ 24 = omega arith in
-    c .before .loop .inv .1 .1 ∙ ap (λ (r : ℕ). withMu (lookups 24 (start .args .n)) r (start .args .table .now)) e
+    c .before .loop .inv .1 .1 ∙ ap (λ (r : ℕ). withMu (timesLookedUp 24 (start .args .n)) r (start .args .table .now)) e
 
 pub put-multiplicities-spec : {M : Type 1} → statement M
 put-multiplicities-spec =

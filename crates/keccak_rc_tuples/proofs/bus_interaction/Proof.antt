@@ -14,8 +14,9 @@ use Rattle.lookup.specs.Call.{sizedRefusal, tupleRefusal}
 use Rattle.lookup.specs.declared.Bus.the-variants.{KeccakRc}
 use Rattle.lookup.specs.declared.Side.the-variants.{Receiver}
 use Rattle.lookup.specs.declared.TupleAnswer.the-variants.{Is}
-use Rattle.lookup.proofs.Call.{Accepted, accepted, tuple-refused, tuple-given}
-use Rattle.keccak_rc.specs.Tuples.{rcTuple, tupleAt}
+use Rattle.lookup.specs.Call.{Accepted}
+use Rattle.lookup.proofs.Call.{accepted, tuple-refused, tuple-given}
+use Rattle.keccak_rc.specs.Tuples.{rcTuple}
 use Rattle.keccak_rc_tuples.proofs.bus_interaction.Statement.{statement}
 use Rattle.keccak_rc_tuples.proofs.bus_interaction.Tie as tie
 
@@ -30,20 +31,20 @@ abbrev Index : tie.After-check-tuple → ℕ
 Index c = c .before .before .before .args .index
 
 -- nine values
-nine : (row : List ℕ) (i : ℕ) → 9 ≡ length (tupleAt row i .values)
-unfolding tupleAt rcTuple
+nine : (row : List ℕ) (i : ℕ) → 9 ≡ length (rcTuple row i .values)
+unfolding rcTuple
 nine row i = sym (length-tab 9 (word row))
 
 -- what the checks answered
-checked : (c : tie.After-check-tuple) → c .check-tuple .result ≡ answerOf (tupleRefusal 10 1 tupleAt (Row c) (Index c) (Out c))
+checked : (c : tie.After-check-tuple) → c .check-tuple .result ≡ answerOf (tupleRefusal 10 1 rcTuple (Row c) (Index c) (Out c))
 unfolding tupleRefusal
 checked c = c .check-tuple .ensures ∙ ap (λ (n : ℕ). answerOf (sizedRefusal 10 1 (Row c) (Index c) n (length (Out c)))) (nine (Row c) (Index c))
 
-passed : (c : tie.After-enum-told) → tupleRefusal 10 1 tupleAt (Row (c .before .before)) (Index (c .before .before)) (Out (c .before .before)) ≡ none
+passed : (c : tie.After-enum-told) → tupleRefusal 10 1 rcTuple (Row (c .before .before)) (Index (c .before .before)) (Out (c .before .before)) ≡ none
 passed c = is-done _ (sym (c .enum-told .given .1) ∙ checked (c .before .before))
 
 known : (c : tie.After-enum-told)
-    → Accepted 10 1 (Row (c .before .before)) (Index (c .before .before)) (length (tupleAt (Row (c .before .before)) (Index (c .before .before)) .values)) (length (Out (c .before .before)))
+    → Accepted 10 1 (Row (c .before .before)) (Index (c .before .before)) (length (rcTuple (Row (c .before .before)) (Index (c .before .before)) .values)) (length (Out (c .before .before)))
 unfolding tupleRefusal
 known c = accepted _ _ _ _ _ _ (passed c)
 
@@ -71,14 +72,14 @@ same-length : tie.Need-same-length
 same-length c = search needs
 
 returns-2 : tie.Need-returns-2
-unfolding tupleAt rcTuple
+unfolding rcTuple
 returns-2 c =
     let written = c .before .before .before in
     let told = written .before .before in
     let chosen = told .before .before in
     let row = Row chosen in
     let given =
-    tuple-given (tupleAt row (Index chosen)) (Out chosen) (passed told)
+    tuple-given (rcTuple row (Index chosen)) (Out chosen) (passed told)
     (written .put-words .ensures ∙ sets-overwrite (Out chosen) (tab 9 (word row)) (known told .fits)) in
     ((λ i. Is (record { bus = KeccakRc; side = Receiver; length = nine row (Index chosen) i; multiplicity = word row 9 })) ∙ given .0, given .1)
 

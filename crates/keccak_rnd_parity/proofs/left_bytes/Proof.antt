@@ -1,8 +1,5 @@
 -- `left_bytes` meets its contract, halfword by halfword. Assumes nothing.
-use mathlib.Core.Path.{_≡_, refl, sym, ap, _∙_}
-use Prim.Native.Nat.{ℕ, _+_, _-_, _*_, _≤_, _<_}
-use native.Mathlib.Omega.{arith}
-use lib.ListN.{length, getD, length-set}
+use Prim.Native.Nat.{_-_}
 use borrow.Author.Needs.{needs}
 use Rattle.keccak_rnd.proofs.Tables.{left-eight}
 use Rattle.keccak_rnd_parity.proofs.left_bytes.Statement.{statement}

@@ -1,8 +1,5 @@
 -- `right_bits` meets its contract, halfword by halfword. Assumes nothing.
-use mathlib.Core.Path.{_≡_, refl, sym, ap, _∙_}
-use Prim.Native.Nat.{ℕ, _+_, _-_, _*_, _≤_, _<_}
-use native.Mathlib.Omega.{arith}
-use lib.ListN.{length, getD, length-set}
+use Prim.Native.Nat.{_-_}
 use borrow.Author.Needs.{needs}
 use Rattle.lists.specs.Tab.{word}
 use Rattle.bits.specs.Bits.{halfword, hwslCarry}

@@ -1,8 +1,6 @@
 -- `stages` meets its contract: the bytes of a xor are the xors of the bytes. Assumes nothing.
-use mathlib.Core.Path.{_≡_, refl, sym, ap, _∙_}
-use Prim.Native.Nat.{ℕ, _+_, _-_, _*_, _≤_, _<_}
-use native.Mathlib.Omega.{arith}
-use lib.ListN.{length, getD, length-set}
+use mathlib.Core.Path.{refl}
+use Prim.Native.Nat.{_-_}
 use borrow.Author.Needs.{needs}
 use Rattle.keccak_rnd.proofs.Tables.{stage-tables}
 use Rattle.keccak_rnd_parity.proofs.stages.Statement.{statement}

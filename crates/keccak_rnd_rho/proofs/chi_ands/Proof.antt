@@ -1,7 +1,7 @@
 -- `chi_ands` meets its contract: it is made of its planes. Assumes nothing.
 use mathlib.Core.Path.{_∙_}
 use borrow.Author.Needs.{needs}
-use Rattle.keccak_rnd.specs.Row.{andAt, andLanes}
+use Rattle.keccak_rnd.specs.Row.{andLanes}
 use Rattle.fips202.proofs.Steps.{planes-grid}
 use Rattle.keccak_rnd_rho.proofs.chi_ands.Statement.{statement}
 use Rattle.keccak_rnd_rho.proofs.chi_ands.Tie as tie

@@ -1,8 +1,7 @@
 -- `right_plane` meets its contract: the lanes are stored one after the other. Assumes nothing.
-use mathlib.Core.Path.{_≡_, refl, sym, ap, _∙_}
-use Prim.Native.Nat.{ℕ, _+_, _-_, _*_, _≤_, _<_}
+use mathlib.Core.Path.{refl}
+use Prim.Native.Nat.{_-_, _<_}
 use native.Mathlib.Omega.{arith}
-use lib.ListN.{length, getD, length-set}
 use Rattle.lists.proofs.Laws.{Filled, filled-none, filled-next, filled-whole}
 use Rattle.fips202.specs.Lanes.{plane}
 use Rattle.keccak_rnd.specs.Parts.{rightLane}

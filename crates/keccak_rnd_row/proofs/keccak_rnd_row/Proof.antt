@@ -1,10 +1,10 @@
 -- `keccak_rnd_row::keccak_rnd_row` meets its contract: one check after the other, then the row. Assumes nothing.
-use mathlib.Core.Path.{_≡_, refl, sym, ap, _∙_}
+use mathlib.Core.Path.{refl, ap, _∙_}
 use mathlib.Core.List.{List}
-use Prim.Native.Nat.{ℕ, _+_, _-_, _*_, _≤_, _<_}
+use Prim.Native.Nat.{ℕ, _+_, _-_}
 use native.Mathlib.Nat.{zero-add}
 use native.Mathlib.Omega.{arith}
-use lib.ListN.{length, getD}
+use lib.ListN.{getD}
 use lib.Seq.{sets}
 use borrow.Author.Needs.{needs}
 use borrow.Author.Tests.{le-leb, lt-leb, le-ltb, lt-ltb}
@@ -13,21 +13,21 @@ use Rattle.lists.proofs.Laws.{tab-same}
 use Rattle.bits.specs.Bits.{wordAt}
 use Rattle.answer.proofs.Laws.{refuse-yes, refuse-no, refused, done, sets-overwrite}
 use Rattle.keccak_rnd.specs.Row.{roundRow}
-use Rattle.keccak_rnd.specs.Refusals.{rowRefusal}
+use Rattle.keccak_rnd.specs.Refusals.{roundRowRefusal}
 use Rattle.keccak_rnd.proofs.Cells.{length-round}
 use Rattle.keccak_rnd_row.proofs.keccak_rnd_row.Statement.{statement}
 use Rattle.keccak_rnd_row.proofs.keccak_rnd_row.Tie as tie
 
 returns : tie.Need-returns
-unfolding rowRefusal
+unfolding roundRowRefusal
 returns c = refused _ _ (refuse-yes _ _ (le-leb _ _ (c .if1 .taken)))
 
 returns-2 : tie.Need-returns-2
-unfolding rowRefusal
+unfolding roundRowRefusal
 returns-2 c = refused _ _ (refuse-no _ (lt-leb _ _ (c .before .if1 .left)) (refuse-yes _ _ (lt-ltb _ _ (c .if2 .taken))))
 
 returns-3 : tie.Need-returns-3
-unfolding rowRefusal
+unfolding roundRowRefusal
 returns-3 c =
     refused _ _
     (refuse-no _ (lt-leb _ _ (c .before .before .if1 .left))
@@ -44,7 +44,7 @@ same-length : tie.Need-same-length
 same-length c = search needs
 
 returns-4 : tie.Need-returns-4
-unfolding rowRefusal
+unfolding roundRowRefusal
 returns-4 c =
     let put = c .before .before in
     let ln = put .before .before in

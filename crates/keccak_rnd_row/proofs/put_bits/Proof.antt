@@ -1,8 +1,6 @@
 -- `put_bits` meets its contract: one cell after the other. Assumes nothing.
-use mathlib.Core.Path.{_≡_, refl, sym, ap, _∙_}
-use Prim.Native.Nat.{ℕ, _+_, _-_, _*_, _≤_, _<_}
+use Prim.Native.Nat.{_-_}
 use native.Mathlib.Omega.{arith}
-use lib.ListN.{length, getD, length-set}
 use Rattle.keccak_rnd.specs.Parts.{bitCell}
 use Rattle.lists.proofs.Laws.{Filled, filled-none, filled-more, filled-all}
 use Rattle.keccak_rnd_row.proofs.put_bits.Statement.{statement}

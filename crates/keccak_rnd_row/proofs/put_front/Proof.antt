@@ -1,12 +1,10 @@
 -- `put_front` meets its contract: seven groups, one after the other. Assumes nothing.
-use mathlib.Core.Path.{_≡_, refl, sym, ap, _∙_}
-use Prim.Native.Nat.{ℕ, _+_, _-_, _*_, _≤_, _<_}
-use native.Mathlib.Omega.{arith}
-use lib.ListN.{length, getD, length-set}
+use mathlib.Core.Path.{refl, sym}
+use Prim.Native.Nat.{_-_}
 use borrow.Author.Needs.{needs}
 use native.Mathlib.Nat.{add-zero}
 use Rattle.keccak_rnd.specs.Parts.{frontGroups}
-use Rattle.lists.proofs.Laws.{wrote-none, wrote-more, wrote-groups}
+use Rattle.lists.proofs.Laws.{wrote-none, wrote-more}
 use Rattle.keccak_rnd_row.proofs.put_front.Statement.{statement}
 use Rattle.keccak_rnd_row.proofs.put_front.Tie as tie
 

@@ -1,22 +1,19 @@
 -- `put_round_row` meets its contract: the three parts make the row. Assumes nothing.
-use mathlib.Core.Path.{_≡_, refl, sym, ap, _∙_}
+use mathlib.Core.Path.{refl, sym, ap, _∙_}
 use mathlib.Core.List.{List, []}
-use Prim.Native.Nat.{ℕ, _+_, _-_, _*_, _≤_, _<_}
-use native.Mathlib.Nat.{add-zero, zero-add}
-use native.Mathlib.Omega.{arith}
+use Prim.Native.Nat.{ℕ, _-_}
+use native.Mathlib.Nat.{add-zero}
 use lib.Bits.{bitXor}
-use lib.ListN.{length, getD}
+use lib.ListN.{getD}
 use lib.Seq.{sets}
-use mir.Syntax.{w64}
-use mir.Val.{Fits}
 use borrow.Author.Needs.{needs}
-use Rattle.lists.specs.Tab.{tab, word, rowOf}
-use Rattle.lists.proofs.Laws.{wrote-none, wrote-more, wrote-groups, tab-same}
-use Rattle.bits.specs.Bits.{byteAt, laneByte, laneOf, wordAt}
+use Rattle.lists.specs.Tab.{word, rowOf}
+use Rattle.lists.proofs.Laws.{wrote-none, wrote-groups}
+use Rattle.bits.specs.Bits.{laneOf, wordAt}
 use Rattle.fips202.specs.Lanes.{lane, grid, rhoPiL, chiL}
-use Rattle.keccak_rnd.specs.Row.{thetaLanes, piLanes, chiLanes, roundRow, roundGroups}
+use Rattle.keccak_rnd.specs.Row.{thetaLanes, piLanes, chiLanes, roundRow}
 use Rattle.keccak_rnd.specs.Parts.{cxzTable, leftTable, rightTable, dTable, frontGroups, rhoGroups, chiGroups}
-use Rattle.keccak_rnd.proofs.Tables.{left-is, right-is, joins-of, d-is, front-same, iota-bytes, left-lanes, right-lanes, theta-of, parts-row}
+use Rattle.keccak_rnd.proofs.Tables.{theta-of, parts-row}
 use Rattle.keccak_rnd_row.proofs.put_round_row.Statement.{statement}
 use Rattle.keccak_rnd_row.proofs.put_round_row.Tie as tie
 

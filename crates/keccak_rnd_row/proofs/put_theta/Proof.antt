@@ -1,22 +1,13 @@
 -- `put_theta` meets its contract: the tables are those of the state, so the row's front is. Assumes nothing.
-use mathlib.Core.Path.{_≡_, refl, sym, ap, _∙_}
-use mathlib.Core.List.{List, []}
-use Prim.Native.Nat.{ℕ, _+_, _-_, _*_, _≤_, _<_}
-use native.Mathlib.Nat.{add-zero, zero-add}
-use native.Mathlib.Omega.{arith}
-use lib.Bits.{bitXor}
-use lib.ListN.{length, getD}
+use mathlib.Core.Path.{ap, _∙_}
+use Prim.Native.Nat.{ℕ, _-_}
+use lib.ListN.{getD}
 use lib.Seq.{sets}
 use mir.Syntax.{w64}
 use mir.Val.{Fits}
 use borrow.Author.Needs.{needs}
-use Rattle.lists.specs.Tab.{tab, word, rowOf}
-use Rattle.lists.proofs.Laws.{wrote-none, wrote-more, wrote-groups, tab-same}
-use Rattle.bits.specs.Bits.{byteAt, laneByte, laneOf, wordAt}
-use Rattle.fips202.specs.Lanes.{lane, grid, rhoPiL, chiL}
-use Rattle.keccak_rnd.specs.Row.{thetaLanes, piLanes, chiLanes, roundRow, roundGroups}
-use Rattle.keccak_rnd.specs.Parts.{cxzTable, leftTable, rightTable, dTable, frontGroups, rhoGroups, chiGroups}
-use Rattle.keccak_rnd.proofs.Tables.{left-is, right-is, joins-of, d-is, front-same, iota-bytes, left-lanes, right-lanes, theta-of, parts-row}
+use Rattle.bits.specs.Bits.{wordAt}
+use Rattle.keccak_rnd.proofs.Tables.{left-is, right-is, joins-of, d-is, front-same}
 use Rattle.keccak_rnd_row.proofs.put_theta.Statement.{statement}
 use Rattle.keccak_rnd_row.proofs.put_theta.Tie as tie
 

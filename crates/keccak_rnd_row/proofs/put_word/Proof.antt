@@ -1,8 +1,5 @@
 -- `put_word` meets its contract: one store. Assumes nothing.
-use mathlib.Core.Path.{_≡_, refl, sym, ap, _∙_}
-use Prim.Native.Nat.{ℕ, _+_, _-_, _*_, _≤_, _<_}
-use native.Mathlib.Omega.{arith}
-use lib.ListN.{length, getD, length-set}
+use Prim.Native.Nat.{_-_}
 use borrow.Author.Needs.{needs}
 use Rattle.lists.proofs.Laws.{sets-cell}
 use Rattle.keccak_rnd_row.proofs.put_word.Statement.{statement}

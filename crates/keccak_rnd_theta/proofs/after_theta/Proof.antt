@@ -1,8 +1,7 @@
 -- `after_theta` meets its contract: the lanes of D, then the planes. Assumes nothing.
-use mathlib.Core.Path.{_≡_, refl, sym, ap, _∙_}
-use Prim.Native.Nat.{ℕ, _+_, _-_, _*_, _≤_, _<_}
-use native.Mathlib.Omega.{arith}
-use lib.ListN.{length, getD, length-set}
+use mathlib.Core.Path.{ap, _∙_}
+use Prim.Native.Nat.{ℕ, _-_}
+use lib.ListN.{getD}
 use borrow.Author.Needs.{needs}
 use mathlib.Core.List.{List, []}
 use lib.Bits.{bitXor}

@@ -1,8 +1,6 @@
 -- `lane_of` meets its contract: eight bytes are four halfwords. Assumes nothing.
-use mathlib.Core.Path.{_≡_, refl, sym, ap, _∙_}
-use Prim.Native.Nat.{ℕ, _+_, _-_, _*_, _≤_, _<_}
+use Prim.Native.Nat.{_-_}
 use native.Mathlib.Omega.{arith}
-use lib.ListN.{length, getD, length-set}
 use borrow.Author.Needs.{needs}
 use Rattle.bits.specs.Bits.{pack}
 use Rattle.keccak_rnd_theta.proofs.lane_of.Statement.{statement}

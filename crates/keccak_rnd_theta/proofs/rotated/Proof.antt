@@ -1,11 +1,11 @@
 -- `rotated` meets its contract, byte by byte. Assumes nothing.
-use mathlib.Core.Path.{_≡_, refl, sym, ap, _∙_}
-use Prim.Native.Nat.{ℕ, _+_, _-_, _*_, _≤_, _<_}
+use mathlib.Core.Path.{refl, sym}
+use Prim.Native.Nat.{_+_, _-_, _<_}
 use native.Mathlib.Omega.{arith}
-use lib.ListN.{length, getD, length-set}
+use lib.ListN.{getD}
 use borrow.Author.Needs.{needs}
 use native.Mathlib.Nat.{add-zero}
-use Rattle.keccak_rnd.specs.Parts.{joined}
+use Rattle.keccak_rnd.specs.Parts.{rotatedFrom}
 use Rattle.keccak_rnd.proofs.Tables.{eight}
 use Rattle.keccak_rnd_theta.proofs.rotated.Statement.{statement}
 use Rattle.keccak_rnd_theta.proofs.rotated.Tie as tie
@@ -59,7 +59,7 @@ array-read-t44 : tie.Need-array-read-t44
 array-read-t44 c = search needs
 
 returns : tie.Need-returns
-unfolding joined
+unfolding rotatedFrom
 returns c = eight _ refl (sym (add-zero _)) refl (sym (add-zero _)) refl (sym (add-zero _)) refl (sym (add-zero _))
 
 pub rotated-spec : {M : Type 1} → statement M

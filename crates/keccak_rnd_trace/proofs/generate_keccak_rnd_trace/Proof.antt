@@ -1,23 +1,23 @@
 -- `keccak_rnd_trace::generate_keccak_rnd_trace` meets its contract: one check after the other, then the table. Assumes nothing.
-use mathlib.Core.Path.{_≡_, refl, sym, ap, _∙_}
-use Prim.Native.Nat.{ℕ, _+_, _-_, _*_, _≤_, _<_}
+use mathlib.Core.Path.{_≡_, sym, ap, _∙_}
+use Prim.Native.Nat.{ℕ, _-_, _*_}
 use native.Mathlib.Omega.{arith}
-use lib.ListN.{length, getD, length-set}
+use lib.ListN.{length}
 use borrow.Author.Needs.{needs}
 use mathlib.Core.Option.{none}
 use mathlib.Core.List.{List}
 use borrow.Author.Tests.{lt-ltb, le-ltb}
 use lib.Seq.{sets}
-use Rattle.answer.specs.Refusal.{accepted, answerOf}
+use Rattle.answer.specs.Refusal.{accepted, answerOf, tooShort}
 use Rattle.answer.proofs.Laws.{refuse-yes, refuse-no, refused, done, is-refused, is-done, sets-overwrite}
-use Rattle.keccak.specs.Refusals.{opCount, notWhole, tooShort, tooHigh, operationsRefusal}
+use Rattle.keccak.specs.Refusals.{opCount, notWhole, tooHigh, operationsRefusal}
 use Rattle.keccak.proofs.Checks.{Passed, passed}
 use Rattle.lists.specs.Tab.{tableOf}
 use Rattle.keccak.specs.Height.{height}
 use Rattle.keccak.specs.Row.{opAt}
 use Rattle.keccak.proofs.Height.{height-ge, height-le}
 use Rattle.keccak_rnd.specs.Row.{roundRowAt, roundTable}
-use Rattle.keccak_rnd.specs.Refusals.{traceRefusal}
+use Rattle.keccak_rnd.specs.Refusals.{roundTraceRefusal}
 use Rattle.keccak_rnd.proofs.Table.{length-round-table}
 use Rattle.keccak_rnd_trace.proofs.generate_keccak_rnd_trace.Statement.{statement}
 use Rattle.keccak_rnd_trace.proofs.generate_keccak_rnd_trace.Tie as tie
@@ -51,7 +51,7 @@ add-t10 : tie.Need-add-t10
 add-t10 c = search needs
 
 returns : tie.Need-returns
-unfolding traceRefusal operationsRefusal
+unfolding roundTraceRefusal operationsRefusal
 returns c = refused _ _ (refuse-yes _ _ (lt-ltb _ _ (c .if1 .taken)))
 
 mul-table-height : tie.Need-mul-table-height
@@ -70,7 +70,7 @@ enum-known-refusal : tie.Need-enum-known-refusal
 enum-known-refusal c = search needs
 
 returns-2 : tie.Need-returns-2
-unfolding traceRefusal operationsRefusal
+unfolding roundTraceRefusal operationsRefusal
 returns-2 c =
     let k = c .before .before .before in
     refused _ _
@@ -91,7 +91,7 @@ same-length : tie.Need-same-length
 same-length c = search needs
 
 returns-3 : tie.Need-returns-3
-unfolding traceRefusal operationsRefusal roundTable
+unfolding roundTraceRefusal operationsRefusal roundTable
 returns-3 c =
     let put = c .before .before in
     let told = put .before .before in

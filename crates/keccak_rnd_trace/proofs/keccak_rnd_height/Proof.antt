@@ -1,12 +1,10 @@
 -- `keccak_rnd_trace::keccak_rnd_height` meets its contract: the check, then the height. Assumes nothing.
-use mathlib.Core.Path.{_≡_, refl, sym, ap, _∙_}
-use Prim.Native.Nat.{ℕ, _+_, _-_, _*_, _≤_, _<_}
-use native.Mathlib.Omega.{arith}
-use lib.ListN.{length, getD, length-set}
+use mathlib.Core.Path.{refl}
+use Prim.Native.Nat.{_-_}
 use borrow.Author.Needs.{needs}
 use borrow.Author.Tests.{lt-ltb, le-ltb}
+use Rattle.answer.specs.Refusal.{countRefusal}
 use Rattle.answer.proofs.Laws.{refuse-yes, refuse-no, number-refused, number-is}
-use Rattle.keccak.specs.Refusals.{countRefusal}
 use Rattle.keccak_rnd_trace.proofs.keccak_rnd_height.Statement.{statement}
 use Rattle.keccak_rnd_trace.proofs.keccak_rnd_height.Tie as tie
 

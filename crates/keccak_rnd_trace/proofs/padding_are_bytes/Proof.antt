@@ -1,11 +1,11 @@
 -- `keccak_rnd_trace::padding_are_bytes` meets its contract: the check, then the rows past the operations'. Assumes nothing.
-use mathlib.Core.Path.{_≡_, refl, sym, ap, _∙_}
-use Prim.Native.Nat.{ℕ, _+_, _-_, _*_, _≤_, _<_}
+use mathlib.Core.Path.{refl}
+use Prim.Native.Nat.{_-_, _*_}
 use native.Mathlib.Omega.{arith}
 use borrow.Author.Needs.{needs}
 use borrow.Author.Tests.{lt-ltb, le-ltb}
+use Rattle.answer.specs.Refusal.{countRefusal}
 use Rattle.answer.proofs.Laws.{refuse-yes, refuse-no, number-refused, number-is}
-use Rattle.keccak.specs.Refusals.{countRefusal}
 use Rattle.keccak.proofs.Height.{height-ge, height-le}
 use Rattle.keccak_rnd.proofs.Rows.{padding-none, padding-some}
 use Rattle.keccak_rnd_trace.proofs.padding_are_bytes.Statement.{statement}

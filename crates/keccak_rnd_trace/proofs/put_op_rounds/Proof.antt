@@ -1,10 +1,10 @@
 -- `keccak_rnd_trace::put_op_rounds` meets its contract: after i turns the rows of the first i operations are stored. Assumes nothing.
-use mathlib.Core.Path.{_≡_, refl, sym, ap, _∙_}
+use mathlib.Core.Path.{sym, ap, _∙_}
 use mathlib.Core.List.{List}
-use Prim.Native.Nat.{ℕ, _+_, _-_, _*_, _≤_, _<_}
+use Prim.Native.Nat.{ℕ, _-_, _*_, _≤_}
 use native.Mathlib.Nat.{zero-add}
 use native.Mathlib.Omega.{arith}
-use lib.ListN.{length, getD}
+use lib.ListN.{getD}
 use lib.Seq.{sets}
 use Rattle.lists.specs.Tab.{tableOf, cellsOf}
 use Rattle.lists.proofs.Laws.{Filled, filled-none, filled-row, filled-rows, length-table, table-blocks}

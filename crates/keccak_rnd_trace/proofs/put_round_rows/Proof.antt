@@ -1,6 +1,5 @@
 -- `keccak_rnd_trace::put_round_rows` meets its contract: the rows of the operations, then zeros. Assumes nothing.
-use mathlib.Core.Path.{_≡_, refl, sym, ap, _∙_}
-use Prim.Native.Nat.{ℕ, _+_, _-_, _*_, _≤_, _<_}
+use Prim.Native.Nat.{_-_}
 use native.Mathlib.Omega.{arith}
 use borrow.Author.Needs.{needs}
 use Rattle.keccak_rnd.proofs.Rows.{rows}

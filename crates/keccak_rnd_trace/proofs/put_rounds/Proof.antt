@@ -1,9 +1,8 @@
 -- `keccak_rnd_trace::put_rounds` meets its contract: after r turns r rows are stored, and the state is the one after r rounds. Assumes nothing.
-use mathlib.Core.Path.{_≡_, refl, sym, ap, _∙_}
+use mathlib.Core.Path.{_≡_, refl, ap, _∙_}
 use mathlib.Core.List.{List}
-use Prim.Native.Nat.{ℕ, _+_, _-_, _*_, _≤_, _<_}
+use Prim.Native.Nat.{ℕ, _+_, _-_, _*_, _≤_}
 use native.Mathlib.Omega.{arith}
-use lib.ListN.{length}
 use lib.Seq.{sets}
 use Rattle.lists.specs.Tab.{cellsOf}
 use Rattle.lists.proofs.Laws.{Filled, filled-none, filled-row, filled-rows}

@@ -5,7 +5,8 @@ use lib.ListN.{length}
 use borrow.Author.Needs.{needs}
 use Rattle.answer.proofs.Laws.{is-refused, is-done, refused, done}
 use Rattle.evaluation.specs.Call.{valuesRefusal}
-use Rattle.evaluation.proofs.Call.{Accepted, accepted, stored}
+use Rattle.evaluation.specs.Call.{Accepted}
+use Rattle.evaluation.proofs.Call.{accepted, stored}
 use Rattle.keccak_rnd_values.proofs.round_values.Statement.{statement}
 use Rattle.keccak_rnd_values.proofs.round_values.Tie as tie
 

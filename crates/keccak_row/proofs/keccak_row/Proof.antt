@@ -8,9 +8,9 @@ use mathlib.Core.Option.{none}
 use mathlib.Core.List.{List}
 use borrow.Author.Tests.{lt-ltb, le-ltb, le-leb, lt-leb}
 use lib.Seq.{sets}
-use Rattle.answer.specs.Refusal.{accepted}
+use Rattle.answer.specs.Refusal.{accepted, tooShort}
 use Rattle.answer.proofs.Laws.{refuse-yes, refuse-no, refused, done, is-refused, is-done, sets-overwrite}
-use Rattle.keccak.specs.Refusals.{opCount, notWhole, tooShort, tooHigh, rowRefusal}
+use Rattle.keccak.specs.Refusals.{opCount, notWhole, tooHigh, coreRowRefusal}
 use Rattle.keccak.proofs.Checks.{Passed, passed, address-fits}
 use Rattle.keccak.specs.Row.{coreRow, opAt}
 use Rattle.keccak.specs.declared.KeccakOperation.{KeccakOperation}
@@ -42,11 +42,11 @@ add-t11 : tie.Need-add-t11
 add-t11 c = search needs
 
 returns : tie.Need-returns
-unfolding rowRefusal
+unfolding coreRowRefusal
 returns c = refused _ _ (refuse-yes _ _ (lt-ltb _ _ (c .if1 .taken)))
 
 returns-2 : tie.Need-returns-2
-unfolding rowRefusal
+unfolding coreRowRefusal
 returns-2 c = refused _ _ (refuse-no _ (le-ltb _ _ (c .before .if1 .left)) (refuse-yes _ _ (le-leb _ _ (c .if2 .taken))))
 
 check-operations-requires : tie.Need-check-operations-requires
@@ -56,7 +56,7 @@ enum-known-refusal : tie.Need-enum-known-refusal
 enum-known-refusal c = search needs
 
 returns-3 : tie.Need-returns-3
-unfolding rowRefusal
+unfolding coreRowRefusal
 returns-3 c =
     let k = c .before .before .before in
     let e = k .before in
@@ -84,7 +84,7 @@ same-length : tie.Need-same-length
 same-length c = search needs
 
 returns-4 : tie.Need-returns-4
-unfolding rowRefusal
+unfolding coreRowRefusal
 returns-4 c =
     let put = c .before .before in
     let opened = put .before .before in

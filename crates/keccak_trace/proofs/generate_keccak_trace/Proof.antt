@@ -8,9 +8,9 @@ use mathlib.Core.Option.{none}
 use mathlib.Core.List.{List}
 use borrow.Author.Tests.{lt-ltb, le-ltb}
 use lib.Seq.{sets}
-use Rattle.answer.specs.Refusal.{accepted, answerOf}
+use Rattle.answer.specs.Refusal.{accepted, answerOf, tooShort}
 use Rattle.answer.proofs.Laws.{refuse-yes, refuse-no, refused, done, is-refused, is-done, sets-overwrite}
-use Rattle.keccak.specs.Refusals.{opCount, notWhole, tooShort, tooHigh, operationsRefusal, traceRefusal}
+use Rattle.keccak.specs.Refusals.{opCount, notWhole, tooHigh, operationsRefusal, coreTraceRefusal}
 use Rattle.keccak.proofs.Checks.{Passed, passed}
 use Rattle.lists.specs.Tab.{tableOf}
 use Rattle.keccak.specs.Height.{height}
@@ -52,7 +52,7 @@ add-t10 : tie.Need-add-t10
 add-t10 c = search needs
 
 returns : tie.Need-returns
-unfolding traceRefusal operationsRefusal
+unfolding coreTraceRefusal operationsRefusal
 returns c = refused _ _ (refuse-yes _ _ (lt-ltb _ _ (c .if1 .taken)))
 
 table-height-requires : tie.Need-table-height-requires
@@ -68,7 +68,7 @@ enum-known-refusal : tie.Need-enum-known-refusal
 enum-known-refusal c = search needs
 
 returns-2 : tie.Need-returns-2
-unfolding traceRefusal operationsRefusal
+unfolding coreTraceRefusal operationsRefusal
 returns-2 c =
     let k = c .before .before .before in
     refused _ _
@@ -89,7 +89,7 @@ same-length : tie.Need-same-length
 same-length c = search needs
 
 returns-3 : tie.Need-returns-3
-unfolding traceRefusal operationsRefusal coreTable
+unfolding coreTraceRefusal operationsRefusal coreTable
 returns-3 c =
     let put = c .before .before in
     let told = put .before .before in

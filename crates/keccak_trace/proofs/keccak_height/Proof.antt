@@ -3,8 +3,8 @@ use mathlib.Core.Path.{refl}
 use Prim.Native.Nat.{_-_}
 use borrow.Author.Needs.{needs}
 use borrow.Author.Tests.{lt-ltb, le-ltb}
+use Rattle.answer.specs.Refusal.{countRefusal}
 use Rattle.answer.proofs.Laws.{refuse-yes, refuse-no, number-refused, number-is}
-use Rattle.keccak.specs.Refusals.{countRefusal}
 use Rattle.keccak_trace.proofs.keccak_height.Statement.{statement}
 use Rattle.keccak_trace.proofs.keccak_height.Tie as tie
 use Rattle.operations.proofs.table_height.Reads as table-height-reads

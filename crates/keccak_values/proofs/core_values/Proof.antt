@@ -6,7 +6,8 @@ use Prim.Native.Nat.{ℕ}
 use lib.ListN.{length}
 use Rattle.answer.proofs.Laws.{refused, done, is-refused, is-done}
 use Rattle.evaluation.specs.Call.{valuesRefusal}
-use Rattle.evaluation.proofs.Call.{Accepted, accepted, stored}
+use Rattle.evaluation.specs.Call.{Accepted}
+use Rattle.evaluation.proofs.Call.{accepted, stored}
 use borrow.Author.Needs.{needs}
 use Rattle.keccak_values.proofs.core_values.Statement.{statement}
 use Rattle.keccak_values.proofs.core_values.Tie as tie

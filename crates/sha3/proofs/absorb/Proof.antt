@@ -1,10 +1,8 @@
 -- `absorb` meets its contract: after i turns the state has absorbed i blocks. Assumes nothing.
 use mathlib.Core.Path.{_≡_, refl, sym, ap, _∙_}
-use mathlib.Core.List.{List}
-use Prim.Native.Nat.{ℕ, _+_, _-_, _/_, _≤_}
+use Prim.Native.Nat.{_-_, _≤_}
 use native.Mathlib.Numerals.{add-one}
 use native.Mathlib.Omega.{arith}
-use lib.ListN.{length}
 use borrow.Author.Needs.{needs}
 use Rattle.fips202.specs.Lanes.{keccakPL}
 use Rattle.sha3.specs.Sha3.{blocks, added, absorbed}

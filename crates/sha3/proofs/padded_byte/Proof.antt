@@ -1,5 +1,5 @@
 -- `padded_byte` meets its contract: each way out is a case of the padding. Assumes nothing.
-use mathlib.Core.Path.{_≡_, sym, _∙_}
+use mathlib.Core.Path.{_∙_}
 use native.Mathlib.Omega.{arith}
 use borrow.Author.Needs.{needs}
 use Rattle.sha3.proofs.Padding.{in-message, only-byte, first-byte, last-byte, between}

@@ -1,9 +1,7 @@
 -- `parities` meets its contract: the parities are stored one after the other. Assumes nothing.
-use mathlib.Core.Path.{_≡_, refl, sym, ap, ap₂, _∙_}
-use Prim.Native.Nat.{ℕ, _+_, _-_, _*_, _/_, _%_, _<_}
+use mathlib.Core.Path.{refl}
+use Prim.Native.Nat.{_-_}
 use native.Mathlib.Omega.{arith}
-use lib.Bits.{bitXor}
-use lib.ListN.{getD}
 use Rattle.lists.proofs.Laws.{Filled, filled-none, filled-next, filled-whole}
 use Rattle.fips202.specs.Lanes.{parityL}
 use Rattle.fips202.proofs.Steps.{parity-column}

@@ -7,7 +7,7 @@ use mathlib.Core.Bool.{Bool, true, false}
 use lib.ListN.{take, length, length-append}
 use lib.Seq.{length-take-le}
 use Rattle.op_file.specs.declared.Cursor.{Cursor}
-use Rattle.op_file.specs.Reader.{feedOf, start, isRefused}
+use Rattle.op_file.specs.Reader.{feedOf, fileStart, isRefused}
 use Rattle.op_file.proofs.Laws.{feed-append}
 use native.Mathlib.Omega.{arith}
 use borrow.Author.Needs.{needs}
@@ -16,12 +16,12 @@ use Rattle.tally.proofs.read_all.Tie as tie
 
 -- the reader stands where the bytes so far take it, and so many are left of the most bytes
 abbrev Fed : Cursor → ℕ → Type 0
-Fed c left = (file : List ℕ) × (c ≡ feedOf start file) × (left + length file ≡ 37402006731)
+Fed c left = (file : List ℕ) × (c ≡ feedOf fileStart file) × (left + length file ≡ 37402006731)
 
 -- after one more piece
 fed-more : {c d : Cursor} (piece : List ℕ) (left got rest : ℕ) → Fed c left → d ≡ feedOf c piece → length piece ≡ got → rest + got ≡ left → Fed d rest
 fed-more piece left got rest (file, e, n) h l q =
-    (file ++ piece, h ∙ ap (λ (x : Cursor). feedOf x piece) e ∙ sym (feed-append start file piece), omega (arith, n, l, q, length-append file piece))
+    (file ++ piece, h ∙ ap (λ (x : Cursor). feedOf x piece) e ∙ sym (feed-append fileStart file piece), omega (arith, n, l, q, length-append file piece))
 
 -- a test that passes and does not
 both : {b : Bool} {n m : ℕ} → b ≡ true → b ≡ false → n ≤ m
@@ -29,11 +29,11 @@ both e f = let z : _≡_ {A = ℕ} 0 1 = ap (λ (b : Bool). elim b [ true ↦ 0 
 
 -- the answer, where reading ends with so much left: only where nothing came, at a fault, or past the most bytes
 abbrev Ends : Cursor → ℕ → Type 0
-Ends d got = (file : List ℕ) × (d ≡ feedOf start file) × (0 < got → isRefused d ≡ false → 37402006731 ≤ length file)
+Ends d got = (file : List ℕ) × (d ≡ feedOf fileStart file) × (0 < got → isRefused d ≡ false → 37402006731 ≤ length file)
 
 ended : {c d : Cursor} (piece : List ℕ) (left got : ℕ) → Fed c left → d ≡ feedOf c piece → length piece ≡ got → (0 < got → isRefused d ≡ false → left ≤ got) → Ends d got
 ended piece left got (file, e, n) h l q =
-    (file ++ piece, h ∙ ap (λ (x : Cursor). feedOf x piece) e ∙ sym (feed-append start file piece), λ a b. omega (arith, n, l, q a b, length-append file piece))
+    (file ++ piece, h ∙ ap (λ (x : Cursor). feedOf x piece) e ∙ sym (feed-append fileStart file piece), λ a b. omega (arith, n, l, q a b, length-append file piece))
 
 abbrev Inv-loop : tie.InvT-loop
 Inv-loop buf₀ c₀ left₀ buf c left = Fed c left

@@ -3,7 +3,7 @@ use Rattle.text.proofs.Laws.{room, digit-more, digit-last}
 use Rattle.text.specs.Text.{digitsOf, decimalOf}
 use lib.ListN.{length, drop, length-set}
 use native.Mathlib.Omega.{arith}
-use mathlib.Core.List.{[], _++_, append-nil}
+use mathlib.Core.List.{_++_, append-nil}
 use mathlib.Core.Path.{_≡_, sym, refl}
 use Prim.Native.Nat.{_+_, _^_, _≤_, _<_}
 use Rattle.text.proofs.decimal.Statement.{statement}

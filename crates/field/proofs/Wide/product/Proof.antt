@@ -1,7 +1,6 @@
 -- `field::Wide::product` meets its contract: no column passes a word, and the columns make the product. Assumes nothing.
 use borrow.Author.Needs.{needs}
 use native.Mathlib.Omega.{arith}
-use Prim.Native.Nat.{_+_, _*_, _/_, _%_, _^_}
 use Rattle.field.proofs.Product.{whole, times, low-lt, high-lt}
 use Rattle.field.proofs.Wide.product.Statement.{statement}
 use Rattle.field.proofs.Wide.product.Tie as tie

@@ -7,7 +7,7 @@ use mir.Syntax.{w64}
 use mir.Val.{Fits}
 use borrow.Author.Needs.{needs}
 use Rattle.fips202.specs.Fips.{Agree, rnd}
-use Rattle.fips202.specs.Lanes.{bits, Lanes, rhoPiL, chiL, iotaL, rndL}
+use Rattle.fips202.specs.Lanes.{bits, rhoPiL, chiL, iotaL, rndL}
 use Rattle.fips202.proofs.Rounds.{rnd-agree}
 use Rattle.permutation.proofs.State.round.Statement.{statement}
 use Rattle.permutation.proofs.State.round.Tie as tie
