@@ -37,8 +37,6 @@ pub mod verdict;
 
 #[allow(unsafe_code)]
 mod ffi;
-#[allow(unsafe_code)]
-mod file_ffi;
 mod operation;
 mod refusal;
 mod tuple;

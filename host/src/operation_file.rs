@@ -1,6 +1,6 @@
 //! The operation file: records of [`RECORD_BYTES`] bytes, the mark 4B 4F and then an operation's 52 words, lowest byte first.
 
-use crate::file_ffi::{self, FlatCursor};
+use crate::ffi::{self, FlatCursor};
 use crate::refusal::Refusal;
 
 /// The bytes of a record.
@@ -39,12 +39,12 @@ pub struct Tally(FlatCursor);
 impl Tally {
     /// A reader at the beginning of a file.
     pub fn new() -> Self {
-        Self(file_ffi::tally_start())
+        Self(ffi::tally_start())
     }
 
     /// Reads the next piece.
     pub fn feed(&mut self, bytes: &[u8]) {
-        self.0 = file_ffi::tally_feed(self.0, bytes);
+        self.0 = ffi::tally_feed(self.0, bytes);
     }
 
     /// The first fault so far. Reading on does not change it.
@@ -54,7 +54,7 @@ impl Tally {
 
     /// What the whole file says, now that it has ended.
     pub fn finish(self) -> Result<Sums, Refusal> {
-        file_ffi::tally_finish(self.0).into()
+        ffi::tally_finish(self.0).into()
     }
 }
 
@@ -66,10 +66,10 @@ impl Default for Tally {
 
 /// Writes the operations of a file to the front of `ops`. A faulty file is refused as by [`Tally`], and then a short list.
 pub fn read_operations(file: &[u8], ops: &mut [u64]) -> Result<(), Refusal> {
-    file_ffi::read_operations(file, ops).into()
+    ffi::read_operations(file, ops).into()
 }
 
 /// Writes the records of a list of operations to the front of `file`.
 pub fn write_operations(ops: &[u64], file: &mut [u8]) -> Result<(), Refusal> {
-    file_ffi::write_operations(ops, file).into()
+    ffi::write_operations(ops, file).into()
 }

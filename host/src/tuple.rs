@@ -92,12 +92,8 @@ pub struct BusInteraction {
 impl BusInteraction {
     pub(crate) fn from_flat(flat: FlatTuple) -> Result<Self, Refusal> {
         Refusal::from_flat(flat.number, flat.detail)?;
-        Ok(Self {
-            bus: Bus::ALL[flat.bus as usize],
-            side: if flat.side == 0 { Side::Sender } else { Side::Receiver },
-            length: flat.length as usize,
-            multiplicity: flat.multiplicity,
-        })
+        let header = [flat.bus, flat.side, flat.length, flat.multiplicity];
+        Ok(Self::from_header(&header).expect("the definition of the answers has no other bus or side"))
     }
 
     /// A tuple by the words of its header: bus, side, length, multiplicity.
