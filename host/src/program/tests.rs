@@ -144,7 +144,8 @@ fn refused_files_leave_the_tables_alone() {
     assert!(!fs::exists(&round).unwrap());
 }
 
-/// The same file by another name: a hard link, a longer path to a file that there is not yet; nothing that was there is lost.
+/// The same file by another name: a hard link, a longer path to a file that there is not yet; nothing that was there is lost,
+/// and nothing is left behind.
 #[test]
 fn the_three_files_are_three() {
     let folder = Folder::new("three");
@@ -167,6 +168,7 @@ fn the_three_files_are_three() {
         let (status, output, errors) = ran(run, &["write", &ops, core, round], &[]);
         assert_eq!((status, output.as_str()), (2, ""), "{core}, {round}");
         assert!(errors.starts_with("OPS, CORE and ROUND must be three files\n"));
+        assert!(!fs::exists(&new).unwrap(), "{core}, {round}");
     }
     assert_eq!(fs::read(&ops).unwrap(), records);
     assert_eq!(fs::read(&core).unwrap(), b"before");
@@ -178,9 +180,17 @@ fn what_cannot_be_written_leaves_the_tables_alone() {
     let records = records(&operations(1));
     let ops = folder.put("ops", &records);
     let core = folder.put("core", b"before");
-    let (status, output, errors) = ran(run, &["write", &ops, &core, &folder.path("")], &[]);
-    assert_eq!((status, output.as_str()), (2, ""));
-    assert!(errors.contains("directory"), "{errors}");
+    let new = folder.path("new");
+    let dangling = folder.path("dangling");
+    std::os::unix::fs::symlink(folder.path("nowhere"), &dangling).unwrap();
+    for (round, said) in [(folder.path(""), "directory"), (dangling, "No such file")] {
+        for core in [&core, &new] {
+            let (status, output, errors) = ran(run, &["write", &ops, core, &round], &[]);
+            assert_eq!((status, output.as_str()), (2, ""));
+            assert!(errors.contains(said), "{errors}");
+        }
+    }
+    assert!(!fs::exists(&new).unwrap() && !fs::exists(folder.path("nowhere")).unwrap());
 
     // A pipe ends where it was read, so that a second reading finds nothing.
     let (reader, mut writer) = std::io::pipe().unwrap();
