@@ -1,4 +1,23 @@
 //! The operation file: records of [`RECORD_BYTES`] bytes, the mark 4B 4F and then an operation's 52 words, lowest byte first.
+//!
+//! ```
+//! use keccak_tables::operation_file::{RECORD_BYTES, Tally, read_operations, write_operations};
+//! use keccak_tables::{OP_WORDS, Operation, Refusal};
+//!
+//! let list = Operation { timestamp: 5, address: 4096, input: [0; 25], output: [0; 25] }.words();
+//! let mut file = [0; RECORD_BYTES];
+//! write_operations(&list, &mut file)?;
+//!
+//! let mut tally = Tally::new();
+//! file.chunks(100).for_each(|piece| tally.feed(piece));
+//! assert_eq!(tally.finish()?.byte_alu, 19_393);
+//!
+//! let mut read = [0; OP_WORDS];
+//! read_operations(&file, &mut read)?;
+//! assert_eq!(read, list);
+//! assert_eq!(read_operations(&file[1..], &mut read), Err(Refusal::BadRecord { start: 0 }));
+//! # Ok::<(), Refusal>(())
+//! ```
 
 use crate::ffi::{self, FlatCursor};
 use crate::refusal::Refusal;
@@ -8,7 +27,7 @@ pub const RECORD_BYTES: usize = 418;
 
 /// What a file's tables would hold and send: operations, heights, and per bus the sum of multiplicities.
 #[repr(C)]
-#[derive(Debug, Clone, Copy, PartialEq, Eq)]
+#[derive(Debug, Clone, Copy, PartialEq, Eq, Hash)]
 pub struct Sums {
     /// Records.
     pub ops: u64,
@@ -32,7 +51,27 @@ pub struct Sums {
     pub ecall: u64,
 }
 
+impl Sums {
+    /// The ten numbers in the order of `tally`, by the names that it prints.
+    #[must_use]
+    pub const fn lines(&self) -> [(&'static str, u64); 10] {
+        [
+            ("ops", self.ops),
+            ("core-rows", self.core_rows),
+            ("round-rows", self.round_rows),
+            ("ByteAlu", self.byte_alu),
+            ("AreBytes", self.are_bytes),
+            ("KeccakRc", self.keccak_rc),
+            ("IsHalfword", self.is_halfword),
+            ("IsWh", self.is_wh),
+            ("Memw", self.memw),
+            ("Ecall", self.ecall),
+        ]
+    }
+}
+
 /// A reader of a file that comes in pieces, cut anywhere. It holds five words, however long the file is.
+#[must_use = "what the file says is the answer of `finish`"]
 #[derive(Debug, Clone)]
 pub struct Tally(FlatCursor);
 
@@ -48,6 +87,7 @@ impl Tally {
     }
 
     /// The first fault so far. Reading on does not change it.
+    #[must_use]
     pub fn fault(&self) -> Option<Refusal> {
         Refusal::from_flat(self.0.number, self.0.detail).err()
     }

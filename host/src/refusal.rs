@@ -9,7 +9,7 @@ pub enum Lent {
     Core,
     /// A round table.
     Round,
-    /// A list: of operations, or of pairs.
+    /// A list of operations.
     List,
 }
 
@@ -50,6 +50,7 @@ pub enum Refusal {
 
 impl Refusal {
     /// The number by which the interface knows the refusal.
+    #[must_use]
     pub const fn number(self) -> u64 {
         match self {
             Self::PastEnd { .. } => 1,
@@ -62,6 +63,7 @@ impl Refusal {
     }
 
     /// The detail that goes with it.
+    #[must_use]
     pub const fn detail(self) -> u64 {
         match self {
             Self::PastEnd { limit } => limit,
@@ -100,7 +102,7 @@ impl fmt::Display for Refusal {
             Self::PastEnd { limit } => write!(f, "a number is {limit} or more"),
             Self::NotWhole { which: Lent::Core } => write!(f, "the core table is not whole rows"),
             Self::NotWhole { which: Lent::Round } => write!(f, "the round table is not whole rows"),
-            Self::NotWhole { which: Lent::List } => write!(f, "the list is not whole"),
+            Self::NotWhole { which: Lent::List } => write!(f, "the list is not whole operations"),
             Self::TooShort { needed } => write!(f, "a slice is shorter than the {needed} that are needed"),
             Self::HighAddress { address } => write!(
                 f,

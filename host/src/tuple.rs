@@ -54,6 +54,7 @@ impl Bus {
     ];
 
     /// Its place in [`Bus::ALL`].
+    #[must_use]
     pub const fn number(self) -> u64 {
         self as u64
     }
@@ -71,6 +72,7 @@ pub enum Side {
 
 impl Side {
     /// 0 for a sender, 1 for a receiver.
+    #[must_use]
     pub const fn number(self) -> u64 {
         self as u64
     }

@@ -17,6 +17,7 @@ pub enum Table {
 /// What is said of two tables. Rows and indexes count from 0. Failures are looked for in this order: core values, core
 /// lookups, timestamps, round values, round lookups, balance, there the core table first. Of the first kind that there is,
 /// the lowest row is named, and in it the lowest index.
+#[must_use = "a failure is a verdict too, and not an error"]
 #[derive(Debug, Clone, Copy, PartialEq, Eq, Hash)]
 pub enum Verdict {
     /// Both tables hold.
@@ -58,8 +59,32 @@ pub enum Verdict {
     },
 }
 
+impl Verdict {
+    /// Whether both tables hold.
+    #[must_use]
+    pub const fn holds(self) -> bool {
+        matches!(self, Self::Holds { .. })
+    }
+}
+
 /// Judges a core table of rows of [`keccak::NUM_COLUMNS`](crate::keccak::NUM_COLUMNS) words and a round table of rows of
 /// [`keccak_rnd::NUM_COLUMNS`](crate::keccak_rnd::NUM_COLUMNS) words. Either may be empty.
+///
+/// ```
+/// use keccak_tables::verdict::{Table, Verdict, verdict};
+/// use keccak_tables::{Operation, Refusal, keccak, keccak_rnd};
+///
+/// assert_eq!(verdict(&[], &[])?, Verdict::Holds { active: 0 });
+///
+/// // The writers take any OUTPUT. This one is not Keccak-f[1600] of INPUT, so no round row sends it.
+/// let list = Operation { timestamp: 5, address: 4096, input: [0; 25], output: [0; 25] }.words();
+/// let (core, round) = (keccak::keccak_table(&list)?, keccak_rnd::keccak_rnd_table(&list)?);
+/// let answer = verdict(&core, &round)?;
+/// assert_eq!(answer, Verdict::Unbalanced { table: Table::Core, row: 0, index: 3 });
+/// assert!(!answer.holds());
+/// assert_eq!(answer.to_string(), "core row 0 balance 3");
+/// # Ok::<(), Refusal>(())
+/// ```
 pub fn verdict(core: &[u64], round: &[u64]) -> Result<Verdict, Refusal> {
     from_flat(ffi::verdict(core, round))
 }

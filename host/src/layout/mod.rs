@@ -2,6 +2,16 @@
 //!
 //! This is for people who read a verdict. Nothing here is used to write or to judge a table; the tests hold every value
 //! and every tuple against the proved code.
+//!
+//! ```
+//! use keccak_tables::layout;
+//! use keccak_tables::verdict::Table;
+//!
+//! assert_eq!(layout::named(Table::Round, "CHI_ANDS[0][3][7]"), Some(1190));
+//! let (place, tuple) = layout::tuple(Table::Round, 654).expect("a round row has 1,031 tuples");
+//! assert_eq!((place.group, place.words().as_str()), ("AND of chi", "x 0, y 3, byte 7"));
+//! assert_eq!(tuple.values.len(), 4);
+//! ```
 
 mod core_row;
 mod group;

@@ -40,10 +40,7 @@ pub fn write(arguments: &[OsString], streams: &mut Streams) -> Result<Outcome, F
                 progress,
             };
             tables.write(ops, &sums)?;
-            writeln!(streams.output, "ops {}", sums.ops)?;
-            writeln!(streams.output, "core-rows {}", sums.core_rows)?;
-            writeln!(streams.output, "round-rows {}", sums.round_rows)?;
-            Ok(Outcome::Fine)
+            tally::print(&sums.lines()[..3], streams)
         }
         Err(refusal) => refused(refusal, streams),
     }
