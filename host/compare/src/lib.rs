@@ -14,6 +14,7 @@ pub mod inputs;
 pub mod judge;
 pub mod lent;
 pub mod limit;
+pub mod list_calls;
 pub mod refusals;
 pub mod refused;
 pub mod rows;
