@@ -3,7 +3,7 @@
 use keccak_tables::{MAX_OPS, OP_WORDS, Operation, Refusal, keccak, keccak_rnd};
 
 use crate::comparison::Comparison;
-use crate::inputs::{Words, addresses, operation_of_row, states};
+use crate::inputs::{Words, addresses, number, operation_of_row, states};
 use crate::lent::Lent;
 
 pub fn compare(comparison: &mut Comparison, words: &mut Words, n: usize) {
@@ -135,11 +135,6 @@ fn round_rows(comparison: &mut Comparison, words: &mut Words, ops: &[u64]) {
 /// START may be lent longer than its 25 lanes.
 fn words_past(round: usize) -> usize {
     round % 3
-}
-
-/// Eight bytes as a number, lowest first.
-fn number(bytes: &[u64]) -> u64 {
-    bytes.iter().rev().fold(0, |number, byte| number << 8 | byte)
 }
 
 /// Heights against the Rust's tables, which are small.
