@@ -127,9 +127,11 @@ fn tuples(name: &str, row: &[u64], call: impl TupleCall, interactions: &[BusInte
     let elements: Vec<FE> = row.iter().copied().map(FE::from).collect();
     let ours = || {
         let mut out = [0; 16];
-        for index in (0..TIMES).flat_map(|_| 0..interactions.len()) {
-            black_box(call(black_box(row), index, &mut out)).expect("a tuple");
-            black_box(&out);
+        for _ in 0..TIMES {
+            for index in 0..interactions.len() {
+                black_box(call(black_box(row), index, &mut out)).expect("a tuple");
+                black_box(&out);
+            }
         }
     };
     let rust = || {
