@@ -5,6 +5,9 @@ use keccak_tables::{MAX_OPS, OP_WORDS, Refusal, keccak, keccak_rnd};
 /// The least number of operations that is refused, which is the detail too.
 pub const TOO_MANY: u64 = MAX_OPS as u64 + 1;
 
+/// A call on a list, an index and a slice.
+type Call = fn(&[u64], usize, &mut [u64]) -> Result<(), Refusal>;
+
 /// A call on a list.
 pub struct ListCall {
     /// The archive's name for it.
@@ -13,8 +16,8 @@ pub struct ListCall {
     pub takes_index: bool,
     /// The words that it needs for n operations.
     pub needed: fn(usize) -> usize,
-    /// The call on a list, an index, which may have no part in it, and a slice.
-    pub call: fn(&[u64], usize, &mut [u64]) -> Result<(), Refusal>,
+    /// The call; the index may have no part in it.
+    pub call: Call,
 }
 
 impl ListCall {

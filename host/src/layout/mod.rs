@@ -101,24 +101,18 @@ pub fn named(table: Table, name: &str) -> Option<usize> {
 
 /// The value at an index, and where it stands among the values of its kind.
 pub fn value(table: Table, index: usize) -> Option<(Place, Value)> {
-    let groups = match table {
-        Table::Core => &core_row::VALUES[..],
-        Table::Round => &round_row::VALUES[..],
-    };
-    let (make, place) = group::find(groups, index)?;
-    let value = make(&place.indexes());
-    Some((place, value))
+    match table {
+        Table::Core => group::made(&core_row::VALUES, index),
+        Table::Round => group::made(&round_row::VALUES, index),
+    }
 }
 
 /// The tuple at an index, and where it stands among the tuples of its kind.
 pub fn tuple(table: Table, index: usize) -> Option<(Place, Tuple)> {
-    let groups = match table {
-        Table::Core => &core_row::TUPLES[..],
-        Table::Round => &round_row::TUPLES[..],
-    };
-    let (make, place) = group::find(groups, index)?;
-    let tuple = make(&place.indexes());
-    Some((place, tuple))
+    match table {
+        Table::Core => group::made(&core_row::TUPLES, index),
+        Table::Round => group::made(&round_row::TUPLES, index),
+    }
 }
 
 /// A sender of MU.
