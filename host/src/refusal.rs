@@ -115,3 +115,35 @@ impl fmt::Display for Refusal {
 }
 
 impl std::error::Error for Refusal {}
+
+#[cfg(test)]
+mod tests {
+    use super::*;
+
+    #[test]
+    fn each_refusal_has_its_number_its_detail_and_its_words() {
+        let whole = |which| Refusal::NotWhole { which };
+        let last_lane = "the last of the 25 lanes from address 9 would start past 2^64 - 1";
+        let bad_record = "the record that starts at byte 418 is cut or has a wrong mark";
+        let cases = [
+            (Refusal::PastEnd { limit: 16 }, [1, 16], "a number is 16 or more"),
+            (whole(Lent::Core), [2, 0], "the core table is not whole rows"),
+            (whole(Lent::Round), [2, 1], "the round table is not whole rows"),
+            (whole(Lent::List), [2, 2], "the list is not whole operations"),
+            (
+                Refusal::TooShort { needed: 486 },
+                [3, 486],
+                "a slice is shorter than the 486 that are needed",
+            ),
+            (Refusal::HighAddress { address: 9 }, [4, 9], last_lane),
+            (Refusal::NotElement { place: 7 }, [5, 7], "the word at 7 is not below p"),
+            (Refusal::BadRecord { start: 418 }, [6, 418], bad_record),
+        ];
+        for (refusal, [number, detail], words) in cases {
+            assert_eq!((refusal.number(), refusal.detail()), (number, detail));
+            assert_eq!(Refusal::from_flat(number, detail), Err(refusal));
+            assert_eq!(refusal.to_string(), words);
+        }
+        assert_eq!(Refusal::from_flat(0, 0), Ok(()));
+    }
+}

@@ -146,6 +146,12 @@ mod tests {
     use super::*;
 
     #[test]
+    fn buses_and_sides_stand_at_their_numbers() {
+        assert!((0..).zip(Bus::ALL).all(|(number, bus)| bus.number() == number));
+        assert_eq!([Side::Sender, Side::Receiver].map(Side::number), [0, 1]);
+    }
+
+    #[test]
     fn words_are_read_as_tuples_up_to_what_is_none() {
         let words = [1, 0, 2, 9, 7, 8, 5, 1, 0, 3];
         let read: Vec<_> = tuples(&words).collect();

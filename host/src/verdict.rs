@@ -131,3 +131,41 @@ impl fmt::Display for Table {
         })
     }
 }
+
+#[cfg(test)]
+mod tests {
+    use super::*;
+
+    fn read([kind, first, second, third]: [u64; 4]) -> Result<Verdict, Refusal> {
+        from_flat(FlatVerdict {
+            kind,
+            first,
+            second,
+            third,
+        })
+    }
+
+    #[test]
+    fn each_kind_of_verdict_is_read_and_printed() {
+        let (core, round) = (Table::Core, Table::Round);
+        let value = |table, row, index| Verdict::Value { table, row, index };
+        let lookup = |table, row, index| Verdict::Lookup { table, row, index };
+        let unbalanced = |table, row, index| Verdict::Unbalanced { table, row, index };
+        let cases = [
+            ([0, 3, 0, 0], Verdict::Holds { active: 3 }, "holds 3"),
+            ([1, 0, 1, 50], value(core, 1, 50), "core row 1 value 50"),
+            ([2, 0, 1, 54], lookup(core, 1, 54), "core row 1 lookup 54"),
+            ([3, 0, 4, 0], Verdict::Repeated { row: 4 }, "core row 4 timestamp 0"),
+            ([4, 1, 9, 140], value(round, 9, 140), "round row 9 value 140"),
+            ([5, 1, 9, 2], lookup(round, 9, 2), "round row 9 lookup 2"),
+            ([6, 0, 0, 2], unbalanced(core, 0, 2), "core row 0 balance 2"),
+            ([6, 1, 9, 1], unbalanced(round, 9, 1), "round row 9 balance 1"),
+        ];
+        for (words, verdict, line) in cases {
+            assert_eq!(read(words), Ok(verdict));
+            assert_eq!(verdict.to_string(), line);
+            assert_eq!(verdict.holds(), words[0] == 0);
+        }
+        assert_eq!(read([7, 5, 486, 0]), Err(Refusal::NotElement { place: 486 }));
+    }
+}

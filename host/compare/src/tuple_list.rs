@@ -69,6 +69,5 @@ mod tests {
             oracle::Bus::ALL.map(|bus| format!("{bus:?} {}", bus.number())),
         ];
         assert_eq!(ours, theirs);
-        assert!((0..).zip(Bus::ALL).all(|(number, bus)| bus.number() == number));
     }
 }

@@ -2,7 +2,7 @@
 
 use std::ffi::OsString;
 use std::fs;
-use std::io::Write;
+use std::io::{self, ErrorKind, Read, Write};
 use std::os::fd::AsRawFd;
 use std::path::PathBuf;
 
@@ -191,6 +191,9 @@ fn what_cannot_be_written_leaves_the_tables_alone() {
         }
     }
     assert!(!fs::exists(&new).unwrap() && !fs::exists(folder.path("nowhere")).unwrap());
+    let (status, output, errors) = ran(run, &["write", &ops, &new, "/dev/full"], &[]);
+    assert_eq!((status, output.as_str()), (2, ""));
+    assert!(errors.starts_with("/dev/full: No space left"), "{errors}");
 
     // A pipe ends where it was read, so that a second reading finds nothing.
     let (reader, mut writer) = std::io::pipe().unwrap();
@@ -245,6 +248,78 @@ fn tallied_files() {
     assert!(empty.starts_with("ops 0\ncore-rows 4\nround-rows 4\nByteAlu 0\n"));
     let (status, output, _) = ran(run, &["tally"], &[0x4B, 0x4E]);
     assert_eq!((status, output.as_str()), (1, "refused 6 0\n"));
+}
+
+/// Bytes one at a time, each after an interruption.
+struct Halting<'a> {
+    bytes: &'a [u8],
+    halts: bool,
+}
+
+impl Read for Halting<'_> {
+    fn read(&mut self, buffer: &mut [u8]) -> io::Result<usize> {
+        self.halts = !self.halts;
+        if self.halts {
+            return Err(ErrorKind::Interrupted.into());
+        }
+        self.bytes.read(&mut buffer[..1])
+    }
+}
+
+/// A stream of which nothing works.
+struct Broken(ErrorKind);
+
+impl Read for Broken {
+    fn read(&mut self, _: &mut [u8]) -> io::Result<usize> {
+        Err(self.0.into())
+    }
+}
+
+impl Write for Broken {
+    fn write(&mut self, _: &[u8]) -> io::Result<usize> {
+        Err(self.0.into())
+    }
+
+    fn flush(&mut self) -> io::Result<()> {
+        Err(self.0.into())
+    }
+}
+
+/// Status and standard error of `tally` on streams.
+fn tallied(input: &mut dyn Read, output: &mut dyn Write) -> (u8, String) {
+    let mut errors = Vec::new();
+    let mut streams = Streams {
+        input,
+        output,
+        errors: &mut errors,
+    };
+    let status = run(&["tally".into()], &mut streams);
+    (status, String::from_utf8(errors).unwrap())
+}
+
+#[test]
+fn an_interrupted_read_goes_on() {
+    let bytes = records(&operations(2));
+    let mut output = Vec::new();
+    let mut input = Halting {
+        bytes: &bytes,
+        halts: false,
+    };
+    assert_eq!(tallied(&mut input, &mut output), (0, String::new()));
+    assert_eq!(String::from_utf8(output).unwrap(), ran(run, &["tally"], &bytes).1);
+}
+
+#[test]
+fn broken_streams_have_status_2() {
+    let (status, errors) = tallied(&mut Broken(ErrorKind::TimedOut), &mut Vec::new());
+    assert_eq!(status, 2);
+    assert!(errors.starts_with("standard input or output: "), "{errors}");
+    let (status, errors) = tallied(&mut &[][..], &mut Broken(ErrorKind::StorageFull));
+    assert_eq!(status, 2);
+    assert!(errors.starts_with("standard input or output: "), "{errors}");
+    // Whoever reads a pipe may end before it does.
+    let ended = tallied(&mut &[][..], &mut Broken(ErrorKind::BrokenPipe));
+    assert_eq!(ended, (2, String::new()));
 }
 
 #[test]
