@@ -13,7 +13,8 @@ pub enum Lent {
     List,
 }
 
-/// Why a call did nothing. A call's checks are made in this order, each over all its arguments.
+/// Why a call did nothing. A call's checks are made in this order, each over all its arguments; but a file is read before the
+/// slice that takes its words is looked at, record by record, and there 6 comes before 4.
 #[derive(Debug, Clone, Copy, PartialEq, Eq, Hash)]
 pub enum Refusal {
     /// 1: an index, kind, count or round past its end.
