@@ -21,20 +21,22 @@ fn main() {
     let source = source_folder();
     // For the test that the files are as published.
     println!("cargo:rustc-env=KECCAK_RUST_FOUND={}", source.display());
-    let tables = TABLES
+    let out = PathBuf::from(env::var_os("OUT_DIR").expect("cargo sets OUT_DIR"));
+    fs::write(out.join("published.rs"), modules(&source)).expect("OUT_DIR can be written");
+}
+
+/// The module file. `types` is the published file and the names that it lacks as published.
+fn modules(source: &Path) -> String {
+    let tables: String = TABLES
         .iter()
         .map(|name| {
-            format!(
-                "    {}pub mod {name};\n",
-                path_attribute(&source, &format!("tables/{name}.rs"))
-            )
+            let path = path_attribute(source, &format!("tables/{name}.rs"));
+            format!("    {path}pub mod {name};\n")
         })
-        .collect::<String>();
-    let types = path_attribute(&source, "tables/types.rs");
-    let templates = path_attribute(&source, "constraints/templates.rs");
-
-    // `types` is the published file and the names that it lacks as published.
-    let modules = format!(
+        .collect();
+    let types = path_attribute(source, "tables/types.rs");
+    let templates = path_attribute(source, "constraints/templates.rs");
+    format!(
         "#[allow(dead_code, missing_docs)]\n\
          pub mod tables {{\n\
          {tables}\
@@ -49,9 +51,7 @@ fn main() {
          pub mod constraints {{\n\
          \x20   {templates}pub mod templates;\n\
          }}\n"
-    );
-    let out = PathBuf::from(env::var_os("OUT_DIR").expect("cargo sets OUT_DIR"));
-    fs::write(out.join("published.rs"), modules).expect("OUT_DIR can be written");
+    )
 }
 
 /// The folder in which `prover/src/...` stands.

@@ -1,4 +1,19 @@
 //! The table of bitwise lookups: rows, counters and tuples.
+//!
+//! ```
+//! use keccak_tables::{Refusal, bitwise};
+//!
+//! let index = bitwise::row_index(52, 18, 4)?;
+//! let mut row = [0; bitwise::NUM_PRECOMPUTED_COLS];
+//! bitwise::generate_bitwise_row(index, &mut row)?;
+//! assert_eq!(row, [52, 18, 4, 16, 54, 38, 0, 0, 0, 9024, 1]);
+//!
+//! // The XOR in this row is looked up once more.
+//! let mut counters = vec![0; bitwise::NUM_COUNTERS];
+//! bitwise::bump(&mut counters, 9, 52, 18, 4)?;
+//! assert_eq!(counters[index * bitwise::NUM_LOOKUP_TYPES + 9], 1);
+//! # Ok::<(), Refusal>(())
+//! ```
 
 use crate::ffi;
 use crate::refusal::Refusal;

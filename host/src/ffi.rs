@@ -1,9 +1,9 @@
-//! The functions of the archive; with `file_ffi`, the only `unsafe` of this crate. `crates/keccak_tables/src` has each
-//! one's contract.
+//! The functions of the archive: the only `unsafe` of this crate. `crates/keccak_tables/src` has each one's contract.
 //!
-//! A slice is passed as a pointer, then a length in words. None of the functions has a condition on its arguments beyond
-//! that these come from a slice, and that a slice which is written overlaps no other of the call: it is a `&mut`.
+//! A slice is passed as a pointer, then a length. None of the functions has a condition on its arguments beyond that these
+//! come from a slice, and that a slice which is written overlaps no other of the call: it is a `&mut`.
 
+use crate::operation_file::Sums;
 use crate::refusal::Refusal;
 
 /// The answer of a call that only writes.
@@ -60,86 +60,118 @@ pub struct FlatKey {
     pub half: u64,
 }
 
-/// Declares functions of the archive, and for each a safe one on slices: `name = symbol(arguments) -> answer`.
+/// Where a reader of an operation file stands. Only the archive makes and reads these words.
+#[repr(C)]
+#[derive(Debug, Clone, Copy)]
+pub struct FlatCursor {
+    pub number: u64,
+    pub detail: u64,
+    records: u64,
+    at: usize,
+    address: u64,
+}
+
+/// What a reader says at the end of its file.
+#[repr(C)]
+pub struct FlatTally {
+    number: u64,
+    detail: u64,
+    sums: Sums,
+}
+
+impl From<FlatTally> for Result<Sums, Refusal> {
+    fn from(flat: FlatTally) -> Self {
+        Refusal::from_flat(flat.number, flat.detail).map(|()| flat.sums)
+    }
+}
+
+/// Declares functions of the archive, and for each a safe one: `name = symbol(arguments) -> answer`.
 ///
-/// A `read` argument is a `&[u64]`, a `write` argument a `&mut [u64]`, a `number` argument is passed as it is. Their order is
-/// that of the function in `crates/keccak_tables/src`, which `tests/header.rs` checks.
+/// The arguments are those of the function in `crates/keccak_tables/src`, in its order, which `tests/header.rs` checks. A slice
+/// becomes a pointer and a length; anything else is passed as it is.
 macro_rules! bind {
-    ($($name:ident = $symbol:ident ( $($kind:ident $argument:ident $(: $type:ty)?),* ) -> $answer:ty;)*) => {
+    ($($name:ident = $symbol:ident ($($arguments:tt)*) -> $answer:ty;)*) => {
         $(
-            pub fn $name($($argument: bind!(@safe $kind $($type)?)),*) -> $answer {
-                bind!(@call $symbol $answer, [] [] $($kind $argument $(: $type)?,)*)
+            pub fn $name($($arguments)*) -> $answer {
+                bind!(@call $symbol $answer, [] [] $($arguments)*)
             }
         )*
     };
-    (@safe read) => { &[u64] };
-    (@safe write) => { &mut [u64] };
-    (@safe number $type:ty) => { $type };
     (@call $symbol:ident $answer:ty, [$($formal:tt)*] [$($actual:tt)*]) => {{
         unsafe extern "C" {
             fn $symbol($($formal)*) -> $answer;
         }
-        // SAFETY: each pointer and length are those of a slice, which outlives the call.
+        // SAFETY: each pointer and length are those of a slice that outlives the call. So the pointer is aligned and not
+        // null, even where the slice is empty, the length is in bounds, and a slice that is written overlaps no other.
         unsafe { $symbol($($actual)*) }
     }};
-    (@call $symbol:ident $answer:ty, [$($formal:tt)*] [$($actual:tt)*] read $argument:ident, $($rest:tt)*) => {
+    (@call $symbol:ident $answer:ty, [$($formal:tt)*] [$($actual:tt)*]
+        $argument:ident: &mut [$type:ty] $(, $($rest:tt)*)?) => {
         bind!(@call $symbol $answer,
-            [$($formal)* _: *const u64, _: usize,]
-            [$($actual)* $argument.as_ptr(), $argument.len(),]
-            $($rest)*)
-    };
-    (@call $symbol:ident $answer:ty, [$($formal:tt)*] [$($actual:tt)*] write $argument:ident, $($rest:tt)*) => {
-        bind!(@call $symbol $answer,
-            [$($formal)* _: *mut u64, _: usize,]
+            [$($formal)* _: *mut $type, _: usize,]
             [$($actual)* $argument.as_mut_ptr(), $argument.len(),]
-            $($rest)*)
+            $($($rest)*)?)
     };
-    (@call $symbol:ident $answer:ty, [$($formal:tt)*] [$($actual:tt)*] number $argument:ident : $type:ty, $($rest:tt)*) => {
+    (@call $symbol:ident $answer:ty, [$($formal:tt)*] [$($actual:tt)*]
+        $argument:ident: &[$type:ty] $(, $($rest:tt)*)?) => {
+        bind!(@call $symbol $answer,
+            [$($formal)* _: *const $type, _: usize,]
+            [$($actual)* $argument.as_ptr(), $argument.len(),]
+            $($($rest)*)?)
+    };
+    (@call $symbol:ident $answer:ty, [$($formal:tt)*] [$($actual:tt)*]
+        $argument:ident: $type:ty $(, $($rest:tt)*)?) => {
         bind!(@call $symbol $answer,
             [$($formal)* _: $type,]
             [$($actual)* $argument,]
-            $($rest)*)
+            $($($rest)*)?)
     };
 }
 
 bind! {
-    generate_bitwise_row = keccak_tables_generate_bitwise_row(number index: usize, write row) -> FlatAnswer;
-    bitwise_row_index = keccak_tables_bitwise_row_index(number x: u8, number y: u8, number z: u8) -> FlatNumber;
-    bitwise_bump = keccak_tables_bitwise_bump(
-        write counters, number kind: usize, number x: u8, number y: u8, number z: u8
-    ) -> FlatAnswer;
-    bitwise_bus_interaction = keccak_tables_bitwise_bus_interaction(read row, number index: usize, write out) -> FlatTuple;
+    generate_bitwise_row = keccak_tables_generate_bitwise_row(index: usize, row: &mut [u64]) -> FlatAnswer;
+    bitwise_row_index = keccak_tables_bitwise_row_index(x: u8, y: u8, z: u8) -> FlatNumber;
+    bitwise_bump = keccak_tables_bitwise_bump(counters: &mut [u64], kind: usize, x: u8, y: u8, z: u8) -> FlatAnswer;
+    bitwise_bus_interaction =
+        keccak_tables_bitwise_bus_interaction(row: &[u64], index: usize, out: &mut [u64]) -> FlatTuple;
 
-    keccak_rc_generate_row = keccak_tables_keccak_rc_generate_row(number round: usize, write out) -> FlatAnswer;
-    generate_keccak_rc_trace = keccak_tables_generate_keccak_rc_trace(write table) -> FlatAnswer;
+    keccak_rc_generate_row = keccak_tables_keccak_rc_generate_row(round: usize, out: &mut [u64]) -> FlatAnswer;
+    generate_keccak_rc_trace = keccak_tables_generate_keccak_rc_trace(table: &mut [u64]) -> FlatAnswer;
     keccak_rc_update_multiplicities =
-        keccak_tables_keccak_rc_update_multiplicities(write table, number n: u64) -> FlatAnswer;
+        keccak_tables_keccak_rc_update_multiplicities(table: &mut [u64], n: u64) -> FlatAnswer;
     keccak_rc_bus_interaction =
-        keccak_tables_keccak_rc_bus_interaction(read row, number index: usize, write out) -> FlatTuple;
+        keccak_tables_keccak_rc_bus_interaction(row: &[u64], index: usize, out: &mut [u64]) -> FlatTuple;
 
-    is_wh_key = keccak_tables_is_wh_key(number value: u64) -> FlatKey;
-    is_wh_bus_interaction = keccak_tables_is_wh_bus_interaction(read row, number index: usize, write out) -> FlatTuple;
+    is_wh_key = keccak_tables_is_wh_key(value: u64) -> FlatKey;
+    is_wh_bus_interaction =
+        keccak_tables_is_wh_bus_interaction(row: &[u64], index: usize, out: &mut [u64]) -> FlatTuple;
 
-    keccak_row = keccak_tables_keccak_row(read ops, number index: usize, write row) -> FlatAnswer;
-    generate_keccak_trace = keccak_tables_generate_keccak_trace(read ops, write table) -> FlatAnswer;
-    is_wh_keys = keccak_tables_is_wh_keys(read ops, write out) -> FlatAnswer;
-    keccak_height = keccak_tables_keccak_height(number n: usize) -> FlatNumber;
-    keccak_values = keccak_tables_keccak_values(read row, write out) -> FlatAnswer;
-    keccak_bus_interaction = keccak_tables_keccak_bus_interaction(
-        read row, number index: usize, number syscall: u64, write out
-    ) -> FlatTuple;
+    keccak_row = keccak_tables_keccak_row(ops: &[u64], index: usize, row: &mut [u64]) -> FlatAnswer;
+    generate_keccak_trace = keccak_tables_generate_keccak_trace(ops: &[u64], table: &mut [u64]) -> FlatAnswer;
+    is_wh_keys = keccak_tables_is_wh_keys(ops: &[u64], out: &mut [u64]) -> FlatAnswer;
+    keccak_height = keccak_tables_keccak_height(n: usize) -> FlatNumber;
+    keccak_values = keccak_tables_keccak_values(row: &[u64], out: &mut [u64]) -> FlatAnswer;
+    keccak_bus_interaction =
+        keccak_tables_keccak_bus_interaction(row: &[u64], index: usize, syscall: u64, out: &mut [u64]) -> FlatTuple;
     keccak_bus_interactions =
-        keccak_tables_keccak_bus_interactions(read row, number syscall: u64, write out) -> FlatAnswer;
+        keccak_tables_keccak_bus_interactions(row: &[u64], syscall: u64, out: &mut [u64]) -> FlatAnswer;
 
     keccak_rnd_row =
-        keccak_tables_keccak_rnd_row(number timestamp: u64, read start, number round: usize, write row) -> FlatAnswer;
-    generate_keccak_rnd_trace = keccak_tables_generate_keccak_rnd_trace(read ops, write table) -> FlatAnswer;
-    keccak_rnd_height = keccak_tables_keccak_rnd_height(number n: usize) -> FlatNumber;
-    padding_are_bytes = keccak_tables_padding_are_bytes(number n: usize) -> FlatNumber;
-    keccak_rnd_values = keccak_tables_keccak_rnd_values(read row, write out) -> FlatAnswer;
+        keccak_tables_keccak_rnd_row(timestamp: u64, start: &[u64], round: usize, row: &mut [u64]) -> FlatAnswer;
+    generate_keccak_rnd_trace = keccak_tables_generate_keccak_rnd_trace(ops: &[u64], table: &mut [u64]) -> FlatAnswer;
+    keccak_rnd_height = keccak_tables_keccak_rnd_height(n: usize) -> FlatNumber;
+    padding_are_bytes = keccak_tables_padding_are_bytes(n: usize) -> FlatNumber;
+    keccak_rnd_values = keccak_tables_keccak_rnd_values(row: &[u64], out: &mut [u64]) -> FlatAnswer;
     keccak_rnd_bus_interaction =
-        keccak_tables_keccak_rnd_bus_interaction(read row, number index: usize, write out) -> FlatTuple;
-    keccak_rnd_bus_interactions = keccak_tables_keccak_rnd_bus_interactions(read row, write out) -> FlatAnswer;
+        keccak_tables_keccak_rnd_bus_interaction(row: &[u64], index: usize, out: &mut [u64]) -> FlatTuple;
+    keccak_rnd_bus_interactions =
+        keccak_tables_keccak_rnd_bus_interactions(row: &[u64], out: &mut [u64]) -> FlatAnswer;
 
-    verdict = keccak_tables_verdict(read core, read round) -> FlatVerdict;
+    verdict = keccak_tables_verdict(core: &[u64], round: &[u64]) -> FlatVerdict;
+
+    tally_start = keccak_tables_tally_start() -> FlatCursor;
+    tally_feed = keccak_tables_tally_feed(cursor: FlatCursor, bytes: &[u8]) -> FlatCursor;
+    tally_finish = keccak_tables_tally_finish(cursor: FlatCursor) -> FlatTally;
+    read_operations = keccak_tables_read_operations(file: &[u8], ops: &mut [u64]) -> FlatAnswer;
+    write_operations = keccak_tables_write_operations(ops: &[u64], file: &mut [u8]) -> FlatAnswer;
 }

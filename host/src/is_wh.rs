@@ -1,4 +1,11 @@
 //! The IS_WH keys and the tuples of a row of keys.
+//!
+//! ```
+//! use keccak_tables::is_wh::IsWhKey;
+//!
+//! let key = IsWhKey::of_dword(0x0123_4567_89AB_CDEF);
+//! assert_eq!((key.word, key.half), (0x0123_4567, 0x89AB));
+//! ```
 
 use crate::ffi;
 use crate::refusal::Refusal;
@@ -21,6 +28,7 @@ pub struct IsWhKey {
 
 impl IsWhKey {
     /// The key of a 64-bit number.
+    #[must_use]
     pub fn of_dword(value: u64) -> Self {
         let key = ffi::is_wh_key(value);
         Self {

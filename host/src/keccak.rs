@@ -1,4 +1,21 @@
 //! The core table: a row for each operation. Operations are a flat list, [`OP_WORDS`] words each.
+//!
+//! ```
+//! use keccak_tables::{Bus, Operation, Refusal, Side, keccak};
+//!
+//! let list = Operation { timestamp: 5, address: 4096, input: [0; 25], output: [0; 25] }.words();
+//! let mut row = [0; keccak::NUM_COLUMNS];
+//! keccak::keccak_row(&list, 0, &mut row)?;
+//!
+//! let mut values = [1; keccak::NUM_VALUES];
+//! keccak::core_values(&row, &mut values)?;
+//! assert_eq!(values, [0; keccak::NUM_VALUES]);
+//!
+//! let mut out = [0; keccak::MAX_TUPLE_LENGTH];
+//! let tuple = keccak::bus_interaction(&row, 2, 0, &mut out)?;
+//! assert_eq!((tuple.bus, tuple.side, tuple.length), (Bus::Keccak, Side::Sender, 203));
+//! # Ok::<(), Refusal>(())
+//! ```
 
 use crate::ffi;
 use crate::operation::OP_WORDS;

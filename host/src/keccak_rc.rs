@@ -1,4 +1,15 @@
 //! The table of round constants: rows, multiplicities and tuples.
+//!
+//! ```
+//! use keccak_tables::{Refusal, keccak_rc};
+//!
+//! let mut table = [0; keccak_rc::TABLE_WORDS];
+//! keccak_rc::generate_keccak_rc_trace(&mut table)?;
+//! keccak_rc::update_multiplicities(&mut table, 7)?;
+//! let last = &table[23 * keccak_rc::NUM_COLUMNS..][..keccak_rc::NUM_COLUMNS];
+//! assert_eq!(last, [23, 0x08, 0x80, 0, 0x80, 0, 0, 0, 0x80, 7]);
+//! # Ok::<(), Refusal>(())
+//! ```
 
 use crate::ffi;
 use crate::refusal::Refusal;

@@ -1,4 +1,18 @@
 //! The round table: 24 rows for each operation. Operations are a flat list, [`OP_WORDS`] words each.
+//!
+//! ```
+//! use keccak_tables::{Bus, Refusal, Side, keccak_rnd};
+//!
+//! let mut row = [0; keccak_rnd::NUM_COLUMNS];
+//! keccak_rnd::keccak_rnd_row(5, &[0; 25], 0, &mut row)?;
+//!
+//! // What the row sends on: the timestamp, the next round, and a state whose lane (0, 0) is 1.
+//! let mut out = [0; keccak_rnd::MAX_TUPLE_LENGTH];
+//! let tuple = keccak_rnd::bus_interaction(&row, 1, &mut out)?;
+//! assert_eq!((tuple.bus, tuple.side), (Bus::Keccak, Side::Sender));
+//! assert_eq!(out[..5], [5, 0, 1, 1, 0]);
+//! # Ok::<(), Refusal>(())
+//! ```
 
 use crate::ffi;
 use crate::operation::OP_WORDS;

@@ -7,7 +7,7 @@ pub const OP_WORDS: usize = 52;
 pub const MAX_OPS: usize = 89_478_485;
 
 /// One call of the permutation. Lane (x, y) is at x + 5y.
-#[derive(Debug, Clone, Copy, PartialEq, Eq)]
+#[derive(Debug, Clone, Copy, PartialEq, Eq, Hash)]
 pub struct Operation {
     /// When it was made.
     pub timestamp: u64,
@@ -21,6 +21,7 @@ pub struct Operation {
 
 impl Operation {
     /// Its 52 words in a flat list.
+    #[must_use]
     pub fn words(&self) -> [u64; OP_WORDS] {
         let mut words = [0; OP_WORDS];
         words[0] = self.timestamp;
@@ -28,5 +29,27 @@ impl Operation {
         words[2..27].copy_from_slice(&self.input);
         words[27..].copy_from_slice(&self.output);
         words
+    }
+
+    /// The operation of 52 words of a flat list.
+    ///
+    /// ```
+    /// use keccak_tables::{OP_WORDS, Operation};
+    ///
+    /// let operation = Operation { timestamp: 5, address: 4096, input: [1; 25], output: [2; 25] };
+    /// let list = [operation.words(), operation.words()].concat();
+    /// let (operations, rest) = list.as_chunks::<OP_WORDS>();
+    /// assert!(rest.is_empty());
+    /// assert!(operations.iter().all(|words| Operation::from_words(words) == operation));
+    /// ```
+    #[must_use]
+    pub fn from_words(words: &[u64; OP_WORDS]) -> Self {
+        let lanes = |start| std::array::from_fn(|lane| words[start + lane]);
+        Self {
+            timestamp: words[0],
+            address: words[1],
+            input: lanes(2),
+            output: lanes(27),
+        }
     }
 }

@@ -1,6 +1,25 @@
 //! The operation file: records of [`RECORD_BYTES`] bytes, the mark 4B 4F and then an operation's 52 words, lowest byte first.
+//!
+//! ```
+//! use keccak_tables::operation_file::{RECORD_BYTES, Tally, read_operations, write_operations};
+//! use keccak_tables::{OP_WORDS, Operation, Refusal};
+//!
+//! let list = Operation { timestamp: 5, address: 4096, input: [0; 25], output: [0; 25] }.words();
+//! let mut file = [0; RECORD_BYTES];
+//! write_operations(&list, &mut file)?;
+//!
+//! let mut tally = Tally::new();
+//! file.chunks(100).for_each(|piece| tally.feed(piece));
+//! assert_eq!(tally.finish()?.byte_alu, 19_393);
+//!
+//! let mut read = [0; OP_WORDS];
+//! read_operations(&file, &mut read)?;
+//! assert_eq!(read, list);
+//! assert_eq!(read_operations(&file[1..], &mut read), Err(Refusal::BadRecord { start: 0 }));
+//! # Ok::<(), Refusal>(())
+//! ```
 
-use crate::file_ffi::{self, FlatCursor};
+use crate::ffi::{self, FlatCursor};
 use crate::refusal::Refusal;
 
 /// The bytes of a record.
@@ -8,7 +27,7 @@ pub const RECORD_BYTES: usize = 418;
 
 /// What a file's tables would hold and send: operations, heights, and per bus the sum of multiplicities.
 #[repr(C)]
-#[derive(Debug, Clone, Copy, PartialEq, Eq)]
+#[derive(Debug, Clone, Copy, PartialEq, Eq, Hash)]
 pub struct Sums {
     /// Records.
     pub ops: u64,
@@ -32,29 +51,50 @@ pub struct Sums {
     pub ecall: u64,
 }
 
+impl Sums {
+    /// The ten numbers in the order of `tally`, by the names that it prints.
+    #[must_use]
+    pub const fn lines(&self) -> [(&'static str, u64); 10] {
+        [
+            ("ops", self.ops),
+            ("core-rows", self.core_rows),
+            ("round-rows", self.round_rows),
+            ("ByteAlu", self.byte_alu),
+            ("AreBytes", self.are_bytes),
+            ("KeccakRc", self.keccak_rc),
+            ("IsHalfword", self.is_halfword),
+            ("IsWh", self.is_wh),
+            ("Memw", self.memw),
+            ("Ecall", self.ecall),
+        ]
+    }
+}
+
 /// A reader of a file that comes in pieces, cut anywhere. It holds five words, however long the file is.
+#[must_use = "what the file says is the answer of `finish`"]
 #[derive(Debug, Clone)]
 pub struct Tally(FlatCursor);
 
 impl Tally {
     /// A reader at the beginning of a file.
     pub fn new() -> Self {
-        Self(file_ffi::tally_start())
+        Self(ffi::tally_start())
     }
 
     /// Reads the next piece.
     pub fn feed(&mut self, bytes: &[u8]) {
-        self.0 = file_ffi::tally_feed(self.0, bytes);
+        self.0 = ffi::tally_feed(self.0, bytes);
     }
 
     /// The first fault so far. Reading on does not change it.
+    #[must_use]
     pub fn fault(&self) -> Option<Refusal> {
         Refusal::from_flat(self.0.number, self.0.detail).err()
     }
 
     /// What the whole file says, now that it has ended.
     pub fn finish(self) -> Result<Sums, Refusal> {
-        file_ffi::tally_finish(self.0).into()
+        ffi::tally_finish(self.0).into()
     }
 }
 
@@ -66,10 +106,10 @@ impl Default for Tally {
 
 /// Writes the operations of a file to the front of `ops`. A faulty file is refused as by [`Tally`], and then a short list.
 pub fn read_operations(file: &[u8], ops: &mut [u64]) -> Result<(), Refusal> {
-    file_ffi::read_operations(file, ops).into()
+    ffi::read_operations(file, ops).into()
 }
 
 /// Writes the records of a list of operations to the front of `file`.
 pub fn write_operations(ops: &[u64], file: &mut [u8]) -> Result<(), Refusal> {
-    file_ffi::write_operations(ops, file).into()
+    ffi::write_operations(ops, file).into()
 }

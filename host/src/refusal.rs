@@ -9,11 +9,12 @@ pub enum Lent {
     Core,
     /// A round table.
     Round,
-    /// A list: of operations, or of pairs.
+    /// A list of operations.
     List,
 }
 
-/// Why a call did nothing. A call's checks are made in this order, each over all its arguments.
+/// Why a call did nothing. A call's checks are made in this order, each over all its arguments; but a file is read before the
+/// slice that takes its words is looked at, record by record, and there 6 comes before 4.
 #[derive(Debug, Clone, Copy, PartialEq, Eq, Hash)]
 pub enum Refusal {
     /// 1: an index, kind, count or round past its end.
@@ -50,6 +51,7 @@ pub enum Refusal {
 
 impl Refusal {
     /// The number by which the interface knows the refusal.
+    #[must_use]
     pub const fn number(self) -> u64 {
         match self {
             Self::PastEnd { .. } => 1,
@@ -62,6 +64,7 @@ impl Refusal {
     }
 
     /// The detail that goes with it.
+    #[must_use]
     pub const fn detail(self) -> u64 {
         match self {
             Self::PastEnd { limit } => limit,
@@ -100,7 +103,7 @@ impl fmt::Display for Refusal {
             Self::PastEnd { limit } => write!(f, "a number is {limit} or more"),
             Self::NotWhole { which: Lent::Core } => write!(f, "the core table is not whole rows"),
             Self::NotWhole { which: Lent::Round } => write!(f, "the round table is not whole rows"),
-            Self::NotWhole { which: Lent::List } => write!(f, "the list is not whole"),
+            Self::NotWhole { which: Lent::List } => write!(f, "the list is not whole operations"),
             Self::TooShort { needed } => write!(f, "a slice is shorter than the {needed} that are needed"),
             Self::HighAddress { address } => write!(
                 f,
@@ -113,3 +116,35 @@ impl fmt::Display for Refusal {
 }
 
 impl std::error::Error for Refusal {}
+
+#[cfg(test)]
+mod tests {
+    use super::*;
+
+    #[test]
+    fn each_refusal_has_its_number_its_detail_and_its_words() {
+        let whole = |which| Refusal::NotWhole { which };
+        let last_lane = "the last of the 25 lanes from address 9 would start past 2^64 - 1";
+        let bad_record = "the record that starts at byte 418 is cut or has a wrong mark";
+        let cases = [
+            (Refusal::PastEnd { limit: 16 }, [1, 16], "a number is 16 or more"),
+            (whole(Lent::Core), [2, 0], "the core table is not whole rows"),
+            (whole(Lent::Round), [2, 1], "the round table is not whole rows"),
+            (whole(Lent::List), [2, 2], "the list is not whole operations"),
+            (
+                Refusal::TooShort { needed: 486 },
+                [3, 486],
+                "a slice is shorter than the 486 that are needed",
+            ),
+            (Refusal::HighAddress { address: 9 }, [4, 9], last_lane),
+            (Refusal::NotElement { place: 7 }, [5, 7], "the word at 7 is not below p"),
+            (Refusal::BadRecord { start: 418 }, [6, 418], bad_record),
+        ];
+        for (refusal, [number, detail], words) in cases {
+            assert_eq!((refusal.number(), refusal.detail()), (number, detail));
+            assert_eq!(Refusal::from_flat(number, detail), Err(refusal));
+            assert_eq!(refusal.to_string(), words);
+        }
+        assert_eq!(Refusal::from_flat(0, 0), Ok(()));
+    }
+}

@@ -54,6 +54,7 @@ impl Bus {
     ];
 
     /// Its place in [`Bus::ALL`].
+    #[must_use]
     pub const fn number(self) -> u64 {
         self as u64
     }
@@ -71,6 +72,7 @@ pub enum Side {
 
 impl Side {
     /// 0 for a sender, 1 for a receiver.
+    #[must_use]
     pub const fn number(self) -> u64 {
         self as u64
     }
@@ -92,12 +94,8 @@ pub struct BusInteraction {
 impl BusInteraction {
     pub(crate) fn from_flat(flat: FlatTuple) -> Result<Self, Refusal> {
         Refusal::from_flat(flat.number, flat.detail)?;
-        Ok(Self {
-            bus: Bus::ALL[flat.bus as usize],
-            side: if flat.side == 0 { Side::Sender } else { Side::Receiver },
-            length: flat.length as usize,
-            multiplicity: flat.multiplicity,
-        })
+        let header = [flat.bus, flat.side, flat.length, flat.multiplicity];
+        Ok(Self::from_header(&header).expect("the definition of the answers has no other bus or side"))
     }
 
     /// A tuple by the words of its header: bus, side, length, multiplicity.
@@ -146,6 +144,12 @@ pub fn tuples(words: &[u64]) -> impl Iterator<Item = (BusInteraction, &[u64])> {
 #[cfg(test)]
 mod tests {
     use super::*;
+
+    #[test]
+    fn buses_and_sides_stand_at_their_numbers() {
+        assert!((0..).zip(Bus::ALL).all(|(number, bus)| bus.number() == number));
+        assert_eq!([Side::Sender, Side::Receiver].map(Side::number), [0, 1]);
+    }
 
     #[test]
     fn words_are_read_as_tuples_up_to_what_is_none() {

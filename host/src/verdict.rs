@@ -17,6 +17,7 @@ pub enum Table {
 /// What is said of two tables. Rows and indexes count from 0. Failures are looked for in this order: core values, core
 /// lookups, timestamps, round values, round lookups, balance, there the core table first. Of the first kind that there is,
 /// the lowest row is named, and in it the lowest index.
+#[must_use = "a failure is a verdict too, and not an error"]
 #[derive(Debug, Clone, Copy, PartialEq, Eq, Hash)]
 pub enum Verdict {
     /// Both tables hold.
@@ -58,8 +59,32 @@ pub enum Verdict {
     },
 }
 
+impl Verdict {
+    /// Whether both tables hold.
+    #[must_use]
+    pub const fn holds(self) -> bool {
+        matches!(self, Self::Holds { .. })
+    }
+}
+
 /// Judges a core table of rows of [`keccak::NUM_COLUMNS`](crate::keccak::NUM_COLUMNS) words and a round table of rows of
 /// [`keccak_rnd::NUM_COLUMNS`](crate::keccak_rnd::NUM_COLUMNS) words. Either may be empty.
+///
+/// ```
+/// use keccak_tables::verdict::{Table, Verdict, verdict};
+/// use keccak_tables::{Operation, Refusal, keccak, keccak_rnd};
+///
+/// assert_eq!(verdict(&[], &[])?, Verdict::Holds { active: 0 });
+///
+/// // The writers take any OUTPUT. This one is not Keccak-f[1600] of INPUT, so no round row sends it.
+/// let list = Operation { timestamp: 5, address: 4096, input: [0; 25], output: [0; 25] }.words();
+/// let (core, round) = (keccak::keccak_table(&list)?, keccak_rnd::keccak_rnd_table(&list)?);
+/// let answer = verdict(&core, &round)?;
+/// assert_eq!(answer, Verdict::Unbalanced { table: Table::Core, row: 0, index: 3 });
+/// assert!(!answer.holds());
+/// assert_eq!(answer.to_string(), "core row 0 balance 3");
+/// # Ok::<(), Refusal>(())
+/// ```
 pub fn verdict(core: &[u64], round: &[u64]) -> Result<Verdict, Refusal> {
     from_flat(ffi::verdict(core, round))
 }
@@ -104,5 +129,43 @@ impl fmt::Display for Table {
             Self::Core => "core",
             Self::Round => "round",
         })
+    }
+}
+
+#[cfg(test)]
+mod tests {
+    use super::*;
+
+    fn read([kind, first, second, third]: [u64; 4]) -> Result<Verdict, Refusal> {
+        from_flat(FlatVerdict {
+            kind,
+            first,
+            second,
+            third,
+        })
+    }
+
+    #[test]
+    fn each_kind_of_verdict_is_read_and_printed() {
+        let (core, round) = (Table::Core, Table::Round);
+        let value = |table, row, index| Verdict::Value { table, row, index };
+        let lookup = |table, row, index| Verdict::Lookup { table, row, index };
+        let unbalanced = |table, row, index| Verdict::Unbalanced { table, row, index };
+        let cases = [
+            ([0, 3, 0, 0], Verdict::Holds { active: 3 }, "holds 3"),
+            ([1, 0, 1, 50], value(core, 1, 50), "core row 1 value 50"),
+            ([2, 0, 1, 54], lookup(core, 1, 54), "core row 1 lookup 54"),
+            ([3, 0, 4, 0], Verdict::Repeated { row: 4 }, "core row 4 timestamp 0"),
+            ([4, 1, 9, 140], value(round, 9, 140), "round row 9 value 140"),
+            ([5, 1, 9, 2], lookup(round, 9, 2), "round row 9 lookup 2"),
+            ([6, 0, 0, 2], unbalanced(core, 0, 2), "core row 0 balance 2"),
+            ([6, 1, 9, 1], unbalanced(round, 9, 1), "round row 9 balance 1"),
+        ];
+        for (words, verdict, line) in cases {
+            assert_eq!(read(words), Ok(verdict));
+            assert_eq!(verdict.to_string(), line);
+            assert_eq!(verdict.holds(), words[0] == 0);
+        }
+        assert_eq!(read([7, 5, 486, 0]), Err(Refusal::NotElement { place: 486 }));
     }
 }

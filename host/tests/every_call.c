@@ -33,10 +33,11 @@ static uint64_t operation[52];
 static uint64_t core[CORE + 1];
 static uint64_t rounds[ROUND + 1];
 static uint64_t all[KECCAK_TABLES_ROUND_TUPLE_WORDS + 1];
+static uint8_t file[KECCAK_TABLES_RECORD_BYTES + 1];
 
-static void bitwise_calls(void) {
+static void bitwise_rows(void) {
     static const uint64_t expected[11] = {52, 18, 4, 16, 54, 38, 0, 0, 0, 9024, 1};
-    uint64_t row[22], out[5];
+    uint64_t row[12];
     row[11] = GUARD;
     keccak_tables_answer answer = CALL(keccak_tables_generate_bitwise_row)(266804, row, 11);
     DONE(answer);
@@ -53,11 +54,13 @@ static void bitwise_calls(void) {
     number = keccak_tables_bitwise_row_index(52, 18, 16);
     REFUSED(number, 1, 16);
     CHECK(number.value == 0);
+}
 
+static void bitwise_counters(void) {
     size_t length = KECCAK_TABLES_BITWISE_COUNTERS;
     uint64_t *counters = calloc(length, sizeof *counters);
     CHECK(counters != NULL);
-    answer = CALL(keccak_tables_bitwise_bump)(counters, length, 7, 52, 18, 4);
+    keccak_tables_answer answer = CALL(keccak_tables_bitwise_bump)(counters, length, 7, 52, 18, 4);
     DONE(answer);
     CHECK(counters[2668047] == 1 && counters[2668046] == 0 && counters[2668048] == 0);
     answer = keccak_tables_bitwise_bump(counters, length, 10, 52, 18, 16);
@@ -70,10 +73,15 @@ static void bitwise_calls(void) {
     answer = keccak_tables_bitwise_bump(counters, length, 7, 52, 18, 4);
     REFUSED(answer, 5, 2668047);
     free(counters);
+}
 
+static void bitwise_tuples(void) {
+    uint64_t row[21], out[5];
+    out[4] = GUARD;
+    keccak_tables_answer answer = keccak_tables_generate_bitwise_row(266804, row, 21);
+    DONE(answer);
     for (size_t kind = 0; kind < 10; kind++)
         row[11 + kind] = 100 + kind;
-    out[4] = GUARD;
     keccak_tables_tuple tuple = CALL(keccak_tables_bitwise_bus_interaction)(row, 21, 9, out, 4);
     DONE(tuple);
     /* XOR is ByteAlu's operation 2. */
@@ -141,9 +149,9 @@ static void key_calls(void) {
     REFUSED(tuple, 3, 2);
 }
 
-static void core_calls(void) {
-    uint64_t row[487], keys[51], values[53], out[204];
-    row[486] = keys[50] = values[52] = core[CORE] = GUARD;
+static void core_rows(void) {
+    uint64_t row[487];
+    row[486] = core[CORE] = GUARD;
     keccak_tables_answer answer = CALL(keccak_tables_keccak_row)(operation, 52, 0, row, 486);
     DONE(answer);
     CHECK(row[0] == TIMESTAMP && row[2 + 2] == ADDRESS_HALF && row[2 + 4] == ADDRESS_WORD && row[485] == 1 && row[486] == GUARD);
@@ -159,8 +167,12 @@ static void core_calls(void) {
     REFUSED(answer, 2, 2);
     answer = keccak_tables_generate_keccak_trace(operation, 52, core, CORE - 1);
     REFUSED(answer, 3, CORE);
+}
 
-    answer = CALL(keccak_tables_is_wh_keys)(operation, 52, keys, 50);
+static void core_keys(void) {
+    uint64_t keys[51];
+    keys[50] = GUARD;
+    keccak_tables_answer answer = CALL(keccak_tables_is_wh_keys)(operation, 52, keys, 50);
     DONE(answer);
     CHECK(keys[0] == ADDRESS_WORD && keys[1] == ADDRESS_HALF && keys[48] == ADDRESS_WORD && keys[50] == GUARD);
     uint64_t address = operation[1];
@@ -174,8 +186,14 @@ static void core_calls(void) {
     CHECK(number.value == 8);
     number = keccak_tables_keccak_height(KECCAK_TABLES_MAX_OPS + 1);
     REFUSED(number, 1, 89478486);
+}
 
-    answer = CALL(keccak_tables_keccak_values)(row, 486, values, 52);
+/* The values and tuples of the first row that core_rows wrote. */
+static void core_evaluations(void) {
+    uint64_t row[487], values[53], out[204];
+    memcpy(row, core, 486 * sizeof *row);
+    row[486] = values[52] = GUARD;
+    keccak_tables_answer answer = CALL(keccak_tables_keccak_values)(row, 486, values, 52);
     DONE(answer);
     for (size_t value = 0; value < 52; value++)
         CHECK(values[value] == 0);
@@ -207,9 +225,9 @@ static void core_calls(void) {
     REFUSED(tuple, 5, 485);
 }
 
-static void round_calls(void) {
-    uint64_t row[1481], values[142], out[203];
-    row[1480] = values[141] = rounds[ROUND] = GUARD;
+static void round_rows(void) {
+    uint64_t row[1481];
+    row[1480] = rounds[ROUND] = GUARD;
     keccak_tables_answer answer = CALL(keccak_tables_keccak_rnd_row)(TIMESTAMP, operation + 2, 25, 0, row, 1480);
     DONE(answer);
     /* From the zero state, lane 0 is 1 after round 0. */
@@ -228,7 +246,9 @@ static void round_calls(void) {
     REFUSED(answer, 2, 2);
     answer = keccak_tables_generate_keccak_rnd_trace(operation, 52, rounds, ROUND - 1);
     REFUSED(answer, 3, ROUND);
+}
 
+static void round_numbers(void) {
     keccak_tables_number number = CALL(keccak_tables_keccak_rnd_height)(2731);
     DONE(number);
     CHECK(number.value == 131072);
@@ -239,8 +259,14 @@ static void round_calls(void) {
     CHECK(number.value == 1760);
     number = keccak_tables_padding_are_bytes(KECCAK_TABLES_MAX_OPS + 1);
     REFUSED(number, 1, 89478486);
+}
 
-    answer = CALL(keccak_tables_keccak_rnd_values)(row, 1480, values, 141);
+/* The values and tuples of the first row that round_rows wrote. */
+static void round_evaluations(void) {
+    const uint64_t *row = rounds;
+    uint64_t values[142], out[203];
+    values[141] = GUARD;
+    keccak_tables_answer answer = CALL(keccak_tables_keccak_rnd_values)(row, 1480, values, 141);
     DONE(answer);
     for (size_t value = 0; value < 141; value++)
         CHECK(values[value] == 0);
@@ -288,8 +314,7 @@ static void verdict_calls(void) {
     CHECK(verdict.kind == 7 && verdict.first == 5 && verdict.second == ROUND - 1 && verdict.third == 0);
 }
 
-static void file_calls(void) {
-    uint8_t file[419];
+static void file_lists(void) {
     uint64_t list[53];
     file[418] = 0xA5;
     list[52] = GUARD;
@@ -305,7 +330,10 @@ static void file_calls(void) {
     REFUSED(answer, 6, 0);
     answer = keccak_tables_read_operations(file, 418, list, 51);
     REFUSED(answer, 3, 52);
+}
 
+/* The sums of the file that file_lists wrote. */
+static void file_sums(void) {
     keccak_tables_cursor cursor = CALL(keccak_tables_tally_start)();
     DONE(cursor);
     cursor = CALL(keccak_tables_tally_feed)(cursor, file, 13);
@@ -339,12 +367,19 @@ static void file_calls(void) {
 int main(void) {
     operation[0] = TIMESTAMP;
     operation[1] = ((uint64_t)ADDRESS_WORD << 32) + ((uint64_t)ADDRESS_HALF << 16);
-    bitwise_calls();
+    bitwise_rows();
+    bitwise_counters();
+    bitwise_tuples();
     constant_calls();
     key_calls();
-    core_calls();
-    round_calls();
+    core_rows();
+    core_keys();
+    core_evaluations();
+    round_rows();
+    round_numbers();
+    round_evaluations();
     verdict_calls();
-    file_calls();
+    file_lists();
+    file_sums();
     return 0;
 }

@@ -1,7 +1,8 @@
-//! The changes that docs/WHY.md follows under 'A false byte, followed back', judged: each line of its table, in its order.
+//! The changes that docs/WHY.md follows under 'A false byte, followed back', judged: each line of its table. The two lines that
+//! leave a row honest in itself stand in a test of their own.
 
 use keccak_tables::verdict::{Table, Verdict, verdict};
-use keccak_tables::{Operation, keccak, keccak_rnd};
+use keccak_tables::{Operation, Refusal, keccak, keccak_rnd};
 
 // Groups of a round row, as docs/WHY.md draws them.
 const ROUND: usize = 2;
@@ -36,54 +37,57 @@ fn honest() -> (Vec<u64>, Vec<u64>) {
     (keccak::keccak_table(&operation.words()).unwrap(), round)
 }
 
+type Judged = Result<Verdict, Refusal>;
+
+fn lookup(index: u64) -> Judged {
+    let (table, row) = (Table::Round, 0);
+    Ok(Verdict::Lookup { table, row, index })
+}
+
+fn value(index: u64) -> Judged {
+    let (table, row) = (Table::Round, 0);
+    Ok(Verdict::Value { table, row, index })
+}
+
+/// No round row takes INPUT.
+const UNBALANCED: Judged = Ok(Verdict::Unbalanced {
+    table: Table::Core,
+    row: 0,
+    index: 2,
+});
+
 #[test]
 fn a_false_byte_followed_back() {
-    let (core, honest) = honest();
-    assert_eq!(verdict(&core, &honest), Ok(Verdict::Holds { active: 1 }));
-    let lookup = |index| {
-        Ok(Verdict::Lookup {
-            table: Table::Round,
-            row: 0,
-            index,
-        })
-    };
-    let unbalanced = Ok(Verdict::Unbalanced {
-        table: Table::Core,
-        row: 0,
-        index: 2,
-    });
-
-    let mut round = honest.clone();
+    let (core, mut round) = honest();
+    assert_eq!(verdict(&core, &round), Ok(Verdict::Holds { active: 1 }));
     round[IOTA] = 3;
     assert_eq!(verdict(&core, &round), lookup(1023));
     round[RC] = 3;
     assert_eq!(verdict(&core, &round), lookup(2));
-
-    let mut later = honest.clone();
-    keccak_rnd::keccak_rnd_row(5, &[0; 25], 15, &mut later).unwrap();
-    assert_eq!((later[ROUND], later[IOTA]), (15, 3));
-    assert_eq!(verdict(&core, &later), unbalanced);
-
     round[RC] = 1;
     round[CHI] = 2;
     assert_eq!(verdict(&core, &round), lookup(823));
     round[CHI_ANDS] = 2;
     assert_eq!(verdict(&core, &round), lookup(623));
     round[lane(ROT_RIGHT, 2, 2, 2)] = 2;
-    let value = Verdict::Value {
-        table: Table::Round,
-        row: 0,
-        index: 89,
-    };
-    assert_eq!(verdict(&core, &round), Ok(value));
+    assert_eq!(verdict(&core, &round), value(89));
     round[lane(THETA, 2, 2, 2)] = 64;
     assert_eq!(verdict(&core, &round), lookup(321));
+}
+
+/// An honest row of another round, then one from another START.
+#[test]
+fn a_false_byte_by_an_honest_row() {
+    let (core, mut round) = honest();
+    keccak_rnd::keccak_rnd_row(5, &[0; 25], 15, &mut round).unwrap();
+    assert_eq!((round[ROUND], round[IOTA]), (15, 3));
+    assert_eq!(verdict(&core, &round), UNBALANCED);
 
     let mut start = [0; 25];
     start[2 + 5 * 2] = 64 << 16;
     keccak_rnd::keccak_rnd_row(5, &start, 0, &mut round).unwrap();
     assert_eq!(round[IOTA], 3);
-    assert_eq!(verdict(&core, &round), unbalanced);
+    assert_eq!(verdict(&core, &round), UNBALANCED);
 }
 
 #[test]
@@ -95,10 +99,5 @@ fn a_shift_that_is_right_mod_p_only() {
     let mut values = [0; 141];
     keccak_rnd::round_values(&round[..keccak_rnd::NUM_COLUMNS], &mut values).unwrap();
     assert_eq!(values[20], 0);
-    let value = Verdict::Value {
-        table: Table::Round,
-        row: 0,
-        index: 0,
-    };
-    assert_eq!(verdict(&core, &round), Ok(value));
+    assert_eq!(verdict(&core, &round), value(0));
 }

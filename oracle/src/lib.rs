@@ -30,6 +30,8 @@ pub use answers::keccak::{CORE_COLUMNS, core_sums, core_table, core_tuples, core
 pub use answers::keccak_rc::{KECCAK_RC_COLUMNS, keccak_rc_row, keccak_rc_table, keccak_rc_tuples};
 pub use answers::keccak_rnd::{ROUND_COLUMNS, padding_are_bytes, round_sums, round_table, round_tuples, round_values};
 pub use answers::tally::tally;
+pub use executor::vm::instruction::execution::KECCAK_RHO;
 pub use operation::OPERATION_WORDS;
-pub use row::P;
+pub use row::{P, RowConstraints, evaluate_constraints};
+pub use stark::lookup::BusInteraction;
 pub use tuple::{Bus, BusSums, Side, Tuple, evaluate};

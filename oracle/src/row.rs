@@ -33,26 +33,43 @@ pub(crate) fn check_width(row: &[u64], width: usize) {
 /// The values of the constraints on a row, by index.
 ///
 /// Every index from 0 on must be emitted exactly once.
-pub(crate) fn values(constraints: &impl ConstraintSet<GoldilocksField, GoldilocksExtension>, row: &[u64]) -> Vec<u64> {
-    let mut evaluator = RowEvaluator {
-        row: elements(row),
-        values: Vec::new(),
+pub(crate) fn values(constraints: &impl RowConstraints, row: &[u64]) -> Vec<u64> {
+    let mut values: Vec<Option<FE>> = Vec::new();
+    let emit = |index, value| {
+        if values.len() <= index {
+            values.resize(index + 1, None);
+        }
+        let before = values[index].replace(value);
+        assert!(before.is_none(), "two constraints at index {index}");
     };
-    constraints.eval(&mut evaluator);
+    let row = &elements(row);
+    constraints.eval(&mut RowBuilder { row, emit });
     let value_at = |(index, value): (usize, Option<FE>)| match value {
         Some(value) => value.value(),
         None => panic!("no constraint at index {index}"),
     };
-    evaluator.values.into_iter().enumerate().map(value_at).collect()
+    values.into_iter().enumerate().map(value_at).collect()
 }
 
-/// The constraint builder whose expressions are their values on one row.
-struct RowEvaluator {
-    row: Vec<FE>,
-    values: Vec<Option<FE>>,
+/// Evaluates constraints on a row of elements: each value goes to its place in `out`. For a benchmark, which allocates
+/// nothing for a row.
+pub fn evaluate_constraints(constraints: &impl RowConstraints, row: &[FE], out: &mut [FE]) {
+    let emit = |index, value| out[index] = value;
+    constraints.eval(&mut RowBuilder { row, emit });
 }
 
-impl ConstraintBuilder<GoldilocksField, GoldilocksExtension> for RowEvaluator {
+/// The constraints of one of the compiled tables.
+pub trait RowConstraints: ConstraintSet<GoldilocksField, GoldilocksExtension> {}
+
+impl<T: ConstraintSet<GoldilocksField, GoldilocksExtension>> RowConstraints for T {}
+
+/// The constraint builder whose expressions are their values on one row, and which hands on each value with its index.
+struct RowBuilder<'a, E> {
+    row: &'a [FE],
+    emit: E,
+}
+
+impl<E: FnMut(usize, FE)> ConstraintBuilder<GoldilocksField, GoldilocksExtension> for RowBuilder<'_, E> {
     type Expr = FE;
 
     fn main(&self, offset: usize, column: usize) -> FE {
@@ -77,10 +94,6 @@ impl ConstraintBuilder<GoldilocksField, GoldilocksExtension> for RowEvaluator {
     }
 
     fn emit_base(&mut self, index: usize, root: FE) {
-        if self.values.len() <= index {
-            self.values.resize(index + 1, None);
-        }
-        let before = self.values[index].replace(root);
-        assert!(before.is_none(), "two constraints at index {index}");
+        (self.emit)(index, root);
     }
 }

@@ -5,6 +5,8 @@ mod common;
 use std::collections::BTreeMap;
 
 use common::{CONSTANTS, State, keccak_f, lanes_of, next, offset, operation, state_after};
+use oracle::Bus::*;
+use oracle::Side::{Receiver, Sender};
 use oracle::sample::{self, Generator};
 use oracle::{Bus, CORE_COLUMNS, Lookup, P, ROUND_COLUMNS, Side, Tuple};
 
@@ -135,9 +137,7 @@ fn a_changed_word_shows_in_the_values() {
 }
 
 #[test]
-fn tuples_by_bus() {
-    use Bus::*;
-    use Side::{Receiver, Sender};
+fn core_tuples_by_bus() {
     let core = numbers(&oracle::core_tuples(&[0; CORE_COLUMNS], 0));
     assert_eq!(core.values().sum::<usize>(), 84);
     let expected = [
@@ -151,7 +151,10 @@ fn tuples_by_bus() {
         ((Ecall, Receiver), 1),
     ];
     assert_eq!(core, BTreeMap::from(expected));
+}
 
+#[test]
+fn round_tuples_by_bus() {
     let round = numbers(&oracle::round_tuples(&[0; ROUND_COLUMNS]));
     assert_eq!(round.values().sum::<usize>(), 1_031);
     let expected = [
@@ -162,7 +165,10 @@ fn tuples_by_bus() {
         ((Keccak, Receiver), 1),
     ];
     assert_eq!(round, BTreeMap::from(expected));
+}
 
+#[test]
+fn tuples_of_lookups_by_bus() {
     let bitwise = oracle::bitwise_tuples(&[0; 21]);
     let buses = [
         Msb8, Msb16, Zero, AreBytes, IsHalfword, IsB20, Hwsl, ByteAlu, ByteAlu, ByteAlu,

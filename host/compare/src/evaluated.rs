@@ -123,55 +123,65 @@ impl Table {
             let what = format!("{name} row {row} of the table of {ops:?}");
             lend(comparison, words, &what, columns, &mut check);
         }
-
+        let drawn = self.drawn(words);
         comparison.group(format!("{name} rows with each column replaced in turn"));
-        let drawn: Vec<u64> = (0..self.columns).map(|_| words.below(P)).collect();
+        self.replaced_columns(comparison, words, [rows[1], &drawn], &mut check);
+        comparison.group(format!("{name} rows whose MU is 0 to 32 or p - 16 to p - 1"));
+        self.multiplicities(comparison, words, [rows[1], &drawn], &mut check);
+        comparison.group(format!("{name} rows of drawn words"));
+        for _ in 0..n {
+            let row = self.drawn(words);
+            lend(comparison, words, &format!("a drawn {name} row"), &row, &mut check);
+        }
+        comparison.group(format!("{name} rows of words at a border"));
+        let what = format!("a {name} row of border words");
+        for row in self.border_rows(words, n) {
+            lend(comparison, words, &what, &row, &mut check);
+        }
+    }
+
+    /// A row of drawn words.
+    fn drawn(&self, words: &mut Words) -> Vec<u64> {
+        (0..self.columns).map(|_| words.below(P)).collect()
+    }
+
+    /// Each column in turn holds another word than it did: in a written row an element, then a small number, and in a drawn row
+    /// an element.
+    fn replaced_columns(
+        &self,
+        comparison: &mut Comparison,
+        words: &mut Words,
+        [written, drawn]: [&[u64]; 2],
+        check: &mut impl Check,
+    ) {
         let element: fn(&mut Words) -> u64 = Words::element;
-        for (base, word) in [
-            (rows[1], element),
-            (rows[1], |words| words.below(32)),
-            (&drawn, element),
-        ] {
+        for (base, word) in [(written, element), (written, |words| words.below(32)), (drawn, element)] {
             for column in 0..self.columns {
                 let mut row = base.to_vec();
                 while row[column] == base[column] {
                     row[column] = word(words);
                 }
-                let what = format!("a {name} row whose column {column} was {}", base[column]);
-                lend(comparison, words, &what, &row, &mut check);
+                let what = format!("a {} row whose column {column} was {}", self.name, base[column]);
+                lend(comparison, words, &what, &row, check);
             }
         }
+    }
 
-        comparison.group(format!("{name} rows whose MU is 0 to 32 or p - 16 to p - 1"));
-        for base in [rows[1], &drawn] {
+    /// MU is each number about 0.
+    fn multiplicities(
+        &self,
+        comparison: &mut Comparison,
+        words: &mut Words,
+        bases: [&[u64]; 2],
+        check: &mut impl Check,
+    ) {
+        for base in bases {
             for mu in (0..=32).chain(P - 16..P) {
                 let mut row = base.to_vec();
                 row[self.columns - 1] = mu;
-                lend(
-                    comparison,
-                    words,
-                    &format!("a {name} row with MU {mu}"),
-                    &row,
-                    &mut check,
-                );
+                let what = format!("a {} row with MU {mu}", self.name);
+                lend(comparison, words, &what, &row, check);
             }
-        }
-
-        comparison.group(format!("{name} rows of drawn words"));
-        for _ in 0..n {
-            let row: Vec<u64> = (0..self.columns).map(|_| words.below(P)).collect();
-            lend(comparison, words, &format!("a drawn {name} row"), &row, &mut check);
-        }
-
-        comparison.group(format!("{name} rows of words at a border"));
-        for row in self.border_rows(words, n) {
-            lend(
-                comparison,
-                words,
-                &format!("a {name} row of border words"),
-                &row,
-                &mut check,
-            );
         }
     }
 

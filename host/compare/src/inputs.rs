@@ -120,6 +120,11 @@ pub fn states() -> Vec<[u64; 25]> {
     states
 }
 
+/// Eight bytes as a number, lowest first.
+pub fn number(bytes: &[u64]) -> u64 {
+    bytes.iter().rev().fold(0, |number, byte| number << 8 | byte)
+}
+
 /// The operation of a row of a table with `rows` rows to an operation, in words, where that row is no padding.
 pub fn operation_of_row(ops: &[u64], row: usize, rows: usize) -> String {
     match ops.chunks_exact(OP_WORDS).nth(row / rows) {

@@ -128,6 +128,21 @@ struct OnBus {
     values: Vec<u64>,
 }
 
+/// What an active row has on the Keccak bus.
+fn on_bus(table: Table, row: u64, columns: &[u64], tuples: Vec<Tuple>) -> impl Iterator<Item = OnBus> {
+    let active = is_active(columns);
+    (0..)
+        .zip(tuples)
+        .filter(move |(_, tuple)| active && tuple.bus == Bus::Keccak)
+        .map(move |(index, Tuple { side, values, .. })| OnBus {
+            table,
+            row,
+            index,
+            side,
+            values,
+        })
+}
+
 /// The first row with a tuple that is not found, and the first such tuple in it. What active rows have on the Keccak bus
 /// is put on `bus` in passing, because the Rust's tuples are evaluated all at once.
 fn first_lookup<'a>(
@@ -136,26 +151,19 @@ fn first_lookup<'a>(
     table: Table,
     bus: &mut Vec<OnBus>,
 ) -> Option<(u64, u64)> {
-    for (row, columns) in rows.enumerate() {
-        let row = row as u64;
-        for (index, tuple) in tuples(columns).into_iter().enumerate() {
-            let index = index as u64;
-            if tuple.multiplicity != 0 && !is_found(&tuple) {
-                return Some((row, index));
-            }
-            if tuple.bus == Bus::Keccak && is_active(columns) {
-                let (side, values) = (tuple.side, tuple.values);
-                bus.push(OnBus {
-                    table,
-                    row,
-                    index,
-                    side,
-                    values,
-                });
-            }
+    for (row, columns) in (0..).zip(rows) {
+        let tuples = tuples(columns);
+        if let Some(index) = tuples.iter().position(is_missing) {
+            return Some((row, index as u64));
         }
+        bus.extend(on_bus(table, row, columns, tuples));
     }
     None
+}
+
+/// Whether a tuple has to be found and is not.
+fn is_missing(tuple: &Tuple) -> bool {
+    tuple.multiplicity != 0 && !is_found(tuple)
 }
 
 /// Whether a tuple stands where it is looked up; of a bus that is not looked up here, yes.
@@ -215,43 +223,20 @@ fn unbalanced(bus: &[OnBus]) -> Option<Verdict> {
 /// most.
 #[cfg(test)]
 pub(crate) fn rules_broken(core: &[u64], round: &[u64]) -> usize {
-    let core_rows = || core.chunks_exact(CORE_COLUMNS);
-    let round_rows = || round.chunks_exact(ROUND_COLUMNS);
-    let values = core_rows()
-        .flat_map(oracle::core_values)
-        .chain(round_rows().flat_map(oracle::round_values));
-    let tuples = core_rows()
-        .flat_map(|row| oracle::core_tuples(row, 0))
-        .chain(round_rows().flat_map(oracle::round_tuples));
+    let core_rows = core.chunks_exact(CORE_COLUMNS).map(|row| (Table::Core, row));
+    let round_rows = round.chunks_exact(ROUND_COLUMNS).map(|row| (Table::Round, row));
+    let mut broken = usize::from(repeated_timestamp(core).is_some());
     let mut bus = Vec::new();
-    for (table, width) in [(Table::Core, CORE_COLUMNS), (Table::Round, ROUND_COLUMNS)] {
-        let words = if table == Table::Core { core } else { round };
-        for row in words.chunks_exact(width).filter(|row| is_active(row)) {
-            let tuples = if table == Table::Core {
-                oracle::core_tuples(row, 0)
-            } else {
-                oracle::round_tuples(row)
-            };
-            bus.extend(
-                tuples
-                    .into_iter()
-                    .filter(|tuple| tuple.bus == Bus::Keccak)
-                    .map(|tuple| OnBus {
-                        table,
-                        row: 0,
-                        index: 0,
-                        side: tuple.side,
-                        values: tuple.values,
-                    }),
-            );
-        }
+    for (table, row) in core_rows.chain(round_rows) {
+        let (values, tuples) = match table {
+            Table::Core => (oracle::core_values(row), oracle::core_tuples(row, 0)),
+            Table::Round => (oracle::round_values(row), oracle::round_tuples(row)),
+        };
+        broken += values.iter().filter(|&&value| value != 0).count();
+        broken += tuples.iter().filter(|tuple| is_missing(tuple)).count();
+        bus.extend(on_bus(table, 0, row, tuples));
     }
-    values.filter(|&value| value != 0).count()
-        + tuples
-            .filter(|tuple| tuple.multiplicity != 0 && !is_found(tuple))
-            .count()
-        + usize::from(repeated_timestamp(core).is_some())
-        + usize::from(unbalanced(&bus).is_some())
+    broken + usize::from(unbalanced(&bus).is_some())
 }
 
 #[cfg(test)]

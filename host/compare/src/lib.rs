@@ -5,6 +5,7 @@
 //! reads operation files, `limit` the longest ones, and `refusals` has the table of what each call refuses. A further area is a
 //! module beside them and a name in `bin/differential.rs`.
 
+#![deny(unsafe_code)]
 #![warn(missing_docs)]
 
 pub mod comparison;
@@ -14,12 +15,14 @@ pub mod inputs;
 pub mod judge;
 pub mod lent;
 pub mod limit;
+pub mod list_calls;
 pub mod refusals;
 pub mod refused;
 pub mod rows;
 pub mod tally;
 pub mod tuple_list;
 pub mod tuples;
+#[allow(unsafe_code)]
 pub mod untouched;
 pub mod values;
 pub mod verdicts;

@@ -6,6 +6,7 @@ use keccak_tables::{MAX_OPS, OP_WORDS};
 use crate::comparison::Comparison;
 use crate::inputs::Words;
 use crate::lent::Lent;
+use crate::list_calls::TOO_MANY;
 use crate::tally::{file_of, numbers};
 use crate::untouched::Repeated;
 
@@ -13,7 +14,7 @@ use crate::untouched::Repeated;
 const RECORDS: usize = 1 << 17;
 
 /// What every file with a byte too many is refused with.
-const PAST_END: Option<(u64, u64)> = Some((1, MAX_OPS as u64 + 1));
+const PAST_END: Option<(u64, u64)> = Some((1, TOO_MANY));
 
 /// The whole area; nothing in it but the piece's operations is drawn.
 pub fn compare(comparison: &mut Comparison, seed: u64, _n: usize) {

@@ -13,7 +13,8 @@ use crate::evaluated::{CORE, ROUND};
 use crate::inputs::Words;
 use crate::judge;
 use crate::lent::{Lent, LentBytes};
-use crate::rows::refusals::Needed;
+use crate::list_calls::{LIST_CALLS, TOO_MANY};
+use crate::refused::on_slice;
 use crate::tally::{file_of, first_fault, operations_of, read};
 use crate::untouched::Untouched;
 use crate::{rows, tuples, values, verdicts};
@@ -66,9 +67,6 @@ pub const MATRIX: [(&str, &[u64]); 30] = [
     ("read_operations", &[0, 3, 4, 6]),
     ("write_operations", &[0, 1, 2, 3, 4]),
 ];
-
-/// The detail of a list with too many operations.
-const TOO_MANY: u64 = MAX_OPS as u64 + 1;
 
 /// The whole area; `n` times the lists and files that are drawn.
 pub fn compare(comparison: &mut Comparison, seed: u64, n: usize) {
@@ -148,25 +146,6 @@ fn counters(comparison: &mut Comparison, words: &mut Words) {
     counters.kept(comparison, |_| "the other counters".into());
 }
 
-/// A call on a list, an index and a slice.
-type IndexedCall = fn(&[u64], usize, &mut [u64]) -> Result<(), Refusal>;
-
-/// The calls that write words, and the words that each needs for n operations.
-const LIST_CALLS: [(&str, Needed, IndexedCall); 4] = [
-    ("keccak_row", |_| 486, keccak::keccak_row),
-    (
-        "generate_keccak_trace",
-        |n| n.next_power_of_two().max(4) * 486,
-        |ops, _, table| keccak::generate_keccak_trace(ops, table),
-    ),
-    ("is_wh_keys", |n| 50 * n, |ops, _, out| keccak::is_wh_keys(ops, out)),
-    (
-        "generate_keccak_rnd_trace",
-        |n| (24 * n).next_power_of_two().max(4) * 1480,
-        |ops, _, table| keccak_rnd::generate_keccak_rnd_trace(ops, table),
-    ),
-];
-
 /// A list that is lent to each call on lists, an index for the call that takes one, and the refusals before and after that
 /// of the slice, which is lent one short, with just the room, and with one more.
 struct OnList<'a> {
@@ -194,25 +173,20 @@ impl OnList<'_> {
         })
     }
 
-    fn input(&self, name: &str, room: usize) -> String {
-        format!("{name}, {}, index {}, a slice of {room}", self.what, self.index)
+    fn input(&self, name: &str) -> String {
+        format!("{name}, {}, index {}", self.what, self.index)
     }
 
     /// Every call on lists that writes words, with so many words more or fewer than it needs.
     fn write_words(&self, comparison: &mut Comparison, words: &mut Words, off: isize) {
-        let n = self.ops.len() / OP_WORDS;
-        for (name, needed, call) in LIST_CALLS {
-            let needed = needed(n);
+        for call in &LIST_CALLS {
+            let needed = (call.needed)(self.ops.len() / OP_WORDS);
             let room = needed.saturating_add_signed(off).min(1 << 20);
-            let expected = self.expected(name == "keccak_row", needed, room);
-            let mut out = Lent::drawn(room, words);
-            let answer = call(self.ops, self.index, out.slice());
-            comparison.answered(name, || self.input(name, room), answer, expected);
-            if expected.is_some() {
-                out.kept(comparison, |_| self.input(name, room));
-            } else {
-                out.guards_kept(comparison, || self.input(name, room));
-            }
+            let expected = self.expected(call.takes_index, needed, room);
+            let what = (call.name, || self.input(call.name));
+            on_slice(comparison, words, what, room, expected, |out| {
+                (call.call)(self.ops, self.index, out)
+            });
         }
     }
 
@@ -223,7 +197,7 @@ impl OnList<'_> {
         let expected = self.expected(false, needed, room);
         let mut file = LentBytes::drawn(room, words);
         let answer = write_operations(self.ops, file.slice());
-        let input = || self.input("write_operations", room);
+        let input = || format!("{}, {room} bytes", self.input("write_operations"));
         comparison.answered("write_operations", input, answer, expected);
         let written = if expected.is_none() {
             file_of(self.ops)
@@ -272,11 +246,7 @@ fn lists(comparison: &mut Comparison, words: &mut Words) {
 /// As many operations as a list may have, one more and two more, whole or not, the first address high or not. No slice has the
 /// room, so nothing but the first address could be read.
 fn long_lists(comparison: &mut Comparison, words: &mut Words) {
-    let Some(mut untouched) = Untouched::new((MAX_OPS + 3) * OP_WORDS) else {
-        println!(
-            "no addresses for a list of {} operations: lists about the limit are not tried",
-            MAX_OPS + 3
-        );
+    let Some(mut untouched) = Untouched::operations(MAX_OPS + 3) else {
         return;
     };
     for address in [0, u64::MAX] {

@@ -8,14 +8,14 @@ use crate::inputs::Words;
 use crate::lent::Lent;
 use crate::tuple_list::TupleCall;
 
-/// One call, by the archive's name for it, on a drawn slice of `length` words. `expected` is the refusal's number and detail,
-/// or none where the call is accepted; refused, it leaves every word as it was, and accepted, every guard.
+/// One call on a drawn slice of `length` words: by the archive's name for it, and with what else it gets, in words.
+/// `expected` is the refusal's number and detail, or none where the call is accepted; refused, it leaves every word as it was,
+/// and accepted, every guard.
 pub fn on_slice<T>(
     comparison: &mut Comparison,
     words: &mut Words,
-    name: &'static str,
+    (name, input): (&'static str, impl Fn() -> String),
     length: usize,
-    input: impl Fn() -> String,
     expected: Option<(u64, u64)>,
     call: impl FnOnce(&mut [u64]) -> Result<T, Refusal>,
 ) {
@@ -64,7 +64,8 @@ impl RowCall<'_> {
         let mut row = Lent::new(row, words);
         let input = row.slice().to_vec();
         let input = || format!("{}: {input:?}", self.name);
-        on_slice(comparison, words, self.call_name, room, input, expected, |out| {
+        let what = (self.call_name, input);
+        on_slice(comparison, words, what, room, expected, |out| {
             (self.call)(row.slice(), out)
         });
         row.kept(comparison, |_| input());

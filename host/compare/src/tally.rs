@@ -68,18 +68,7 @@ pub fn read(words: &mut Words, file: &[u8]) -> Result<Sums, Refusal> {
 
 /// The ten sums, in the order of the program's lines.
 pub fn numbers(sums: &Sums) -> [u64; 10] {
-    [
-        sums.ops,
-        sums.core_rows,
-        sums.round_rows,
-        sums.byte_alu,
-        sums.are_bytes,
-        sums.keccak_rc,
-        sums.is_halfword,
-        sums.is_wh,
-        sums.memw,
-        sums.ecall,
-    ]
+    sums.lines().map(|(_, number)| number)
 }
 
 fn sums(comparison: &mut Comparison, words: &mut Words, ops: &[u64]) {
@@ -156,4 +145,18 @@ pub fn first_fault(file: &[u8]) -> Option<(u64, u64)> {
         let address = u64::from_le_bytes(record[10..18].try_into().expect("eight bytes"));
         (u128::from(address) + 192 >= 1 << 64).then_some((4, address))
     })
+}
+
+#[cfg(test)]
+mod tests {
+    use super::*;
+
+    #[test]
+    fn the_lines_have_the_names_of_the_oracle() {
+        let sums = Tally::new().finish().expect("an empty file has sums");
+        assert_eq!(
+            sums.lines().map(|(name, _)| name),
+            oracle::tally(&[]).map(|(name, _)| name)
+        );
+    }
 }

@@ -56,3 +56,18 @@ fn expected_numbers(tuple: &oracle::Tuple) -> [u64; 4] {
         tuple.values.len() as u64,
     ]
 }
+
+#[cfg(test)]
+mod tests {
+    use keccak_tables::Bus;
+
+    /// Neither the host nor the oracle depends on the other, so each has its own list of the buses.
+    #[test]
+    fn the_buses_have_the_names_and_numbers_of_the_oracle() {
+        let [ours, theirs] = [
+            Bus::ALL.map(|bus| format!("{bus:?} {}", bus.number())),
+            oracle::Bus::ALL.map(|bus| format!("{bus:?} {}", bus.number())),
+        ];
+        assert_eq!(ours, theirs);
+    }
+}

@@ -6,6 +6,8 @@ use std::io::Write;
 use std::os::fd::{AsRawFd, FromRawFd};
 use std::ptr;
 
+use keccak_tables::OP_WORDS;
+
 /// Words that are 0 until they are set.
 pub struct Untouched {
     start: *mut u64,
@@ -29,11 +31,20 @@ const MAP_NORESERVE: i32 = 0x4000;
 
 impl Untouched {
     /// `length` words, where the system has that many addresses.
-    pub fn new(length: usize) -> Option<Self> {
+    fn new(length: usize) -> Option<Self> {
         let flags = MAP_PRIVATE | MAP_ANONYMOUS | MAP_NORESERVE;
         // SAFETY: a new mapping, at an address that the system chooses.
         let start = unsafe { mmap(ptr::null_mut(), length * 8, PROT_READ | PROT_WRITE, flags, -1, 0) };
         (start.addr() != usize::MAX).then_some(Self { start, length })
+    }
+
+    /// A list of `n` operations. Where the system has no addresses for it, that is told.
+    pub fn operations(n: usize) -> Option<Self> {
+        let list = Self::new(n * OP_WORDS);
+        if list.is_none() {
+            println!("no addresses for a list of {n} operations: lists about the limit are not tried");
+        }
+        list
     }
 
     /// The words.

@@ -21,42 +21,40 @@ pub fn compare(comparison: &mut Comparison, seed: u64, n: usize) {
         comparison.equal(input, &ours, &pair.expected.words());
     }
 
-    comparison.group("written tables with one or two words changed");
     let mut words = Words::new(seed);
     let written: Vec<Tables> = (0..5).map(|calls| Tables::written(calls, &mut words)).collect();
+    comparison.group("written tables with one or two words changed");
     for change in 0..n {
         let mut tables = written[words.below(5) as usize].clone();
         let mut changes = String::new();
         for _ in 0..=words.below(2) {
             changes += &changed(&mut tables, &mut words);
         }
-        judged(
-            comparison,
-            &|_| format!("change {change} of seed {seed}:{changes}"),
-            &tables,
-        );
+        let input = |_| format!("change {change} of seed {seed}:{changes}");
+        judged(comparison, &input, &tables);
     }
-
     comparison
         .group("written tables with rows exchanged, copied, dropped or shuffled, and now and then a word changed");
     for change in 0..n {
         let mut tables = written[words.below(5) as usize].clone();
-        let mut changes = String::new();
-        for _ in 0..=words.below(4) {
-            changes += &moved(&mut tables, &mut words);
-        }
-        if words.below(3) == 0 {
-            changes += &changed(&mut tables, &mut words);
-        }
-        judged(
-            comparison,
-            &|_| format!("move {change} of seed {seed}:{changes}"),
-            &tables,
-        );
+        let changes = moved_and_changed(&mut tables, &mut words);
+        let input = |_| format!("move {change} of seed {seed}:{changes}");
+        judged(comparison, &input, &tables);
     }
-
     comparison.group("tables of 30 calls in a drawn order, of rows or of calls, with up to two rows moved");
     many_calls(comparison, &mut words, seed, n.div_ceil(10));
+}
+
+/// Moves rows, one to four times, and now and then changes a word; says what was done.
+fn moved_and_changed(tables: &mut Tables, words: &mut Words) -> String {
+    let mut changes = String::new();
+    for _ in 0..=words.below(4) {
+        changes += &moved(tables, words);
+    }
+    if words.below(3) == 0 {
+        changes += &changed(tables, words);
+    }
+    changes
 }
 
 /// Tables of many calls whose round rows are in a drawn order, or with whole calls in a drawn order, and up to two rows moved: what the
@@ -72,11 +70,8 @@ fn many_calls(comparison: &mut Comparison, words: &mut Words, seed: u64, n: usiz
         for _ in 0..words.below(3) {
             changes += &moved(&mut tables, words);
         }
-        judged(
-            comparison,
-            &|_| format!("table {table} of many calls of seed {seed}:{changes}"),
-            &tables,
-        );
+        let input = |_| format!("table {table} of many calls of seed {seed}:{changes}");
+        judged(comparison, &input, &tables);
     }
 }
 

@@ -1,6 +1,6 @@
 //! The core row. Starts of the columns' groups and orders are those of the published keccak.rs.
 
-use super::group::{Axis, Group};
+use super::group::{Axis, Group, LANES, Make};
 use super::{AND, Operand, Sum, Tuple, Value, byte_alu, cells, constant, lane, receives, sends, state};
 use crate::keccak::NUM_COLUMNS;
 use crate::tuple::Bus;
@@ -12,50 +12,24 @@ pub(super) const OUTPUT: usize = INPUT + 200;
 pub(super) const POINTER: usize = OUTPUT + 200;
 pub(super) const MU: usize = NUM_COLUMNS - 1;
 
-const LANES: &[(Axis, usize)] = &[(Axis::Y, 5), (Axis::X, 5), (Axis::Byte, 8)];
-
 pub static COLUMNS: [Group<()>; 6] = [
-    Group {
-        name: "TIMESTAMP",
-        axes: &[(Axis::Word, 2)],
-        says: "when the call was made, low and high 32 bits",
-        make: (),
-    },
-    Group {
-        name: "ADDRESS",
-        axes: &[(Axis::Byte, 8)],
-        says: "a byte of the address of the state",
-        make: (),
-    },
-    Group {
-        name: "INPUT",
-        axes: LANES,
-        says: "a byte of the state before",
-        make: (),
-    },
-    Group {
-        name: "OUTPUT",
-        axes: LANES,
-        says: "a byte of the state after",
-        make: (),
-    },
-    Group {
-        name: "POINTER",
-        axes: &[(Axis::Lane, 25), (Axis::Limb, 3)],
-        says: "the address of a lane, in limbs of 16, 16 and 32 bits",
-        make: (),
-    },
-    Group {
-        name: "MU",
-        axes: &[],
-        says: "1 in an active row, 0 in a padding row",
-        make: (),
-    },
+    Group::columns(
+        "TIMESTAMP",
+        &[(Axis::Word, 2)],
+        "when the call was made, low and high 32 bits",
+    ),
+    Group::columns("ADDRESS", &[(Axis::Byte, 8)], "a byte of the address of the state"),
+    Group::columns("INPUT", LANES, "a byte of the state before"),
+    Group::columns("OUTPUT", LANES, "a byte of the state after"),
+    Group::columns(
+        "POINTER",
+        &[(Axis::Lane, 25), (Axis::Limb, 3)],
+        "the address of a lane, in limbs of 16, 16 and 32 bits",
+    ),
+    Group::columns("MU", &[], "1 in an active row, 0 in a padding row"),
 ];
 
-type MakeValue = fn(&[usize]) -> Value;
-
-pub static VALUES: [Group<MakeValue>; 3] = [
+pub static VALUES: [Group<Make<Value>>; 3] = [
     Group {
         name: "pointer",
         axes: &[(Axis::Lane, 25), (Axis::Word, 2)],
@@ -109,9 +83,7 @@ fn high_difference(lane: usize) -> Sum {
     Sum::bytes(ADDRESS + 4, 4).minus(Sum::column(pointer_high(lane)))
 }
 
-type MakeTuple = fn(&[usize]) -> Tuple;
-
-pub static TUPLES: [Group<MakeTuple>; 8] = [
+pub static TUPLES: [Group<Make<Tuple>>; 8] = [
     Group {
         name: "system call",
         axes: &[],

@@ -44,6 +44,12 @@ impl Axis {
 /// The axes of a group with their lengths, the slowest first.
 pub type Axes = &'static [(Axis, usize)];
 
+/// The axes of a state: its columns are counted by lane x + 5y.
+pub const LANES: Axes = &[(Axis::Y, 5), (Axis::X, 5), (Axis::Byte, 8)];
+
+/// Makes a thing of a group from where it is in it.
+pub type Make<T> = fn(&[usize]) -> T;
+
 /// A group: as many things as its axes span.
 #[derive(Debug)]
 pub struct Group<T: 'static> {
@@ -54,6 +60,14 @@ pub struct Group<T: 'static> {
     /// What it holds, in words.
     pub says: &'static str,
     pub(super) make: T,
+}
+
+impl Group<()> {
+    /// A group of columns, which stand for themselves.
+    pub(super) const fn columns(name: &'static str, axes: Axes, says: &'static str) -> Self {
+        let make = ();
+        Self { name, axes, says, make }
+    }
 }
 
 impl<T> Group<T> {
@@ -117,6 +131,13 @@ pub fn find<T>(groups: &'static [Group<T>], index: usize) -> Option<(&'static T,
         rest -= group.size();
     }
     None
+}
+
+/// The place at an index of groups that follow each other, and the thing that is there.
+pub fn made<T>(groups: &'static [Group<Make<T>>], index: usize) -> Option<(Place, T)> {
+    let (make, place) = find(groups, index)?;
+    let thing = make(&place.indexes());
+    Some((place, thing))
 }
 
 fn split(axes: Axes, mut rest: usize) -> Vec<(Axis, usize)> {

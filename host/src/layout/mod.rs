@@ -2,6 +2,16 @@
 //!
 //! This is for people who read a verdict. Nothing here is used to write or to judge a table; the tests hold every value
 //! and every tuple against the proved code.
+//!
+//! ```
+//! use keccak_tables::layout;
+//! use keccak_tables::verdict::Table;
+//!
+//! assert_eq!(layout::named(Table::Round, "CHI_ANDS[0][3][7]"), Some(1190));
+//! let (place, tuple) = layout::tuple(Table::Round, 654).expect("a round row has 1,031 tuples");
+//! assert_eq!((place.group, place.words().as_str()), ("AND of chi", "x 0, y 3, byte 7"));
+//! assert_eq!(tuple.values.len(), 4);
+//! ```
 
 mod core_row;
 mod group;
@@ -91,24 +101,18 @@ pub fn named(table: Table, name: &str) -> Option<usize> {
 
 /// The value at an index, and where it stands among the values of its kind.
 pub fn value(table: Table, index: usize) -> Option<(Place, Value)> {
-    let groups = match table {
-        Table::Core => &core_row::VALUES[..],
-        Table::Round => &round_row::VALUES[..],
-    };
-    let (make, place) = group::find(groups, index)?;
-    let value = make(&place.indexes());
-    Some((place, value))
+    match table {
+        Table::Core => group::made(&core_row::VALUES, index),
+        Table::Round => group::made(&round_row::VALUES, index),
+    }
 }
 
 /// The tuple at an index, and where it stands among the tuples of its kind.
 pub fn tuple(table: Table, index: usize) -> Option<(Place, Tuple)> {
-    let groups = match table {
-        Table::Core => &core_row::TUPLES[..],
-        Table::Round => &round_row::TUPLES[..],
-    };
-    let (make, place) = group::find(groups, index)?;
-    let tuple = make(&place.indexes());
-    Some((place, tuple))
+    match table {
+        Table::Core => group::made(&core_row::TUPLES, index),
+        Table::Round => group::made(&round_row::TUPLES, index),
+    }
 }
 
 /// A sender of MU.

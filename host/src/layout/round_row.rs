@@ -1,6 +1,6 @@
 //! The round row. Starts of the columns' groups and orders are those of the published keccak_rnd.rs.
 
-use super::group::{Axis, Group};
+use super::group::{Axes, Axis, Group, LANES, Make};
 use super::{AND, Operand, Sum, Tuple, Value, XOR, always_bytes, byte_alu, cells, lane, receives, sends, state};
 use crate::keccak_rnd::NUM_COLUMNS;
 use crate::tuple::Bus;
@@ -21,64 +21,51 @@ pub(super) const RC: usize = CHI + 200;
 pub(super) const IOTA: usize = RC + 8;
 pub(super) const MU: usize = NUM_COLUMNS - 1;
 
-/// A state: its columns are counted by lane x + 5y.
-const LANES: &[(Axis, usize)] = &[(Axis::Y, 5), (Axis::X, 5), (Axis::Byte, 8)];
 /// A state where x is slowest, as in the order of values and tuples.
-const BY_X: &[(Axis, usize)] = &[(Axis::X, 5), (Axis::Y, 5), (Axis::Byte, 8)];
-const SHEETS: &[(Axis, usize)] = &[(Axis::X, 5), (Axis::Byte, 8)];
-const HALVES: &[(Axis, usize)] = &[(Axis::X, 5), (Axis::Halfword, 4)];
-const BYTES: &[(Axis, usize)] = &[(Axis::Byte, 8)];
-
-const fn columns(name: &'static str, axes: &'static [(Axis, usize)], says: &'static str) -> Group<()> {
-    Group {
-        name,
-        axes,
-        says,
-        make: (),
-    }
-}
+const BY_X: Axes = &[(Axis::X, 5), (Axis::Y, 5), (Axis::Byte, 8)];
+const SHEETS: Axes = &[(Axis::X, 5), (Axis::Byte, 8)];
+const HALVES: Axes = &[(Axis::X, 5), (Axis::Halfword, 4)];
+const BYTES: Axes = &[(Axis::Byte, 8)];
 
 pub static COLUMNS: [Group<()>; 15] = [
-    columns(
+    Group::columns(
         "TIMESTAMP",
         &[(Axis::Word, 2)],
         "when the call was made, low and high 32 bits",
     ),
-    columns("ROUND", &[], "the round, 0 to 23"),
-    columns("START", LANES, "a byte of the state before the round"),
-    columns(
+    Group::columns("ROUND", &[], "the round, 0 to 23"),
+    Group::columns("START", LANES, "a byte of the state before the round"),
+    Group::columns(
         "CXZ",
         &[(Axis::X, 5), (Axis::Stage, 4), (Axis::Byte, 8)],
         "a byte of the XOR of the lanes y = 0 to stage + 1; stage 3 is the column's parity C",
     ),
-    columns(
+    Group::columns(
         "CXZ_LEFT",
         SHEETS,
         "a byte of C's halfwords shifted left by one bit, low sixteen bits",
     ),
-    columns("CXZ_RIGHT", HALVES, "the bit that this shift moves out of a halfword"),
-    columns(
+    Group::columns("CXZ_RIGHT", HALVES, "the bit that this shift moves out of a halfword"),
+    Group::columns(
         "DXZ",
         SHEETS,
         "a byte of D: C of x - 1, XOR C of x + 1 rotated by one bit",
     ),
-    columns("THETA", LANES, "a byte of the state after theta: START XOR D"),
-    columns(
+    Group::columns("THETA", LANES, "a byte of the state after theta: START XOR D"),
+    Group::columns(
         "ROT_LEFT",
         LANES,
         "a byte of THETA's halfwords shifted left by rho mod 16, low sixteen bits",
     ),
-    columns("ROT_RIGHT", LANES, "a byte of what this shift moves out of a halfword"),
-    columns("CHI_ANDS", LANES, "a byte of (not pi of x + 1) AND pi of x + 2"),
-    columns("CHI", LANES, "a byte of the state after chi: pi XOR CHI_ANDS"),
-    columns("RC", BYTES, "a byte of the round's constant"),
-    columns("IOTA", BYTES, "a byte of lane (0, 0) after iota: CHI XOR RC"),
-    columns("MU", &[], "1 in an active row, 0 in a padding row"),
+    Group::columns("ROT_RIGHT", LANES, "a byte of what this shift moves out of a halfword"),
+    Group::columns("CHI_ANDS", LANES, "a byte of (not pi of x + 1) AND pi of x + 2"),
+    Group::columns("CHI", LANES, "a byte of the state after chi: pi XOR CHI_ANDS"),
+    Group::columns("RC", BYTES, "a byte of the round's constant"),
+    Group::columns("IOTA", BYTES, "a byte of lane (0, 0) after iota: CHI XOR RC"),
+    Group::columns("MU", &[], "1 in an active row, 0 in a padding row"),
 ];
 
-type MakeValue = fn(&[usize]) -> Value;
-
-pub static VALUES: [Group<MakeValue>; 4] = [
+pub static VALUES: [Group<Make<Value>>; 4] = [
     Group {
         name: "carry of C",
         axes: HALVES,
@@ -125,9 +112,7 @@ fn shift_by_rho(at: &[usize]) -> Value {
     }
 }
 
-type MakeTuple = fn(&[usize]) -> Tuple;
-
-pub static TUPLES: [Group<MakeTuple>; 12] = [
+pub static TUPLES: [Group<Make<Tuple>>; 12] = [
     Group {
         name: "state before",
         axes: &[],

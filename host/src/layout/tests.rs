@@ -5,15 +5,14 @@ use crate::{P, keccak, keccak_rnd};
 
 const SYSCALL: u64 = 0x0000_0007_FFFF_FFFE;
 
-/// Elements by the rule of SplitMix64.
+/// Elements, each worked out from the one before it.
 fn drawn(seed: u64, count: usize) -> Vec<u64> {
-    let mix = |at: u64| {
-        let mut word = (seed << 32 | at).wrapping_mul(0x9E37_79B9_7F4A_7C15);
-        word = (word ^ word >> 30).wrapping_mul(0xBF58_476D_1CE4_E5B9);
-        word = (word ^ word >> 27).wrapping_mul(0x94D0_49BB_1331_11EB);
-        (word ^ word >> 31) % P
+    let mut word = seed;
+    let mut next = || {
+        word = element(i128::from(times(word, 6_364_136_223_846_793_005)) + 1);
+        word
     };
-    (1..=count as u64).map(mix).collect()
+    (0..count).map(|_| next()).collect()
 }
 
 /// Distinct numbers below 2^16: column 0 holds 1,000, and so on.
@@ -77,7 +76,7 @@ fn width(table: Table) -> usize {
 }
 
 fn rows(table: Table) -> Vec<Vec<u64>> {
-    let mut rows: Vec<Vec<u64>> = (0..5).map(|seed| drawn(seed, width(table))).collect();
+    let mut rows: Vec<Vec<u64>> = (2..7).map(|seed| drawn(seed, width(table))).collect();
     rows.push(numbered(width(table)));
     rows
 }

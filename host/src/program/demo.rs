@@ -3,7 +3,7 @@
 use std::ffi::OsString;
 use std::io::{self, Write};
 
-use super::{Failure, Outcome, Streams, explain};
+use super::{Failure, Outcome, Streams, explain, refused_line};
 use crate::keccak::LAST_ADDRESS;
 use crate::layout::{self, Place};
 use crate::refusal::Refusal;
@@ -119,7 +119,7 @@ fn show(ops: &[u64], tables: &Tables, streams: &mut Streams) -> Result<Outcome, 
             "NOT all as expected."
         }
     )?;
-    Ok(if fine { Outcome::Fine } else { Outcome::DoesNotHold })
+    Ok(Outcome::of(fine))
 }
 
 fn introduce(ops: &[u64], tables: &Tables, out: &mut dyn Write) -> io::Result<bool> {
@@ -158,10 +158,8 @@ fn show_trial(trial: &Trial, mut tables: Tables, out: &mut dyn Write) -> io::Res
 fn show_high_address(ops: &[u64], out: &mut dyn Write) -> io::Result<bool> {
     let mut ops = ops.to_vec();
     ops[1] = LAST_ADDRESS + 1;
-    let line = match keccak::keccak_table(&ops) {
-        Ok(_) => "written".into(),
-        Err(refusal) => line(Err(refusal)),
-    };
+    let answer = keccak::keccak_table(&ops);
+    let line = answer.map_or_else(refused_line, |_| "written".into());
     writeln!(
         out,
         "The core table is asked for, where call 0 is at address 2^64 - 192.\n    {line}"
@@ -177,7 +175,7 @@ fn show_high_address(ops: &[u64], out: &mut dyn Write) -> io::Result<bool> {
 fn line(answer: Result<Verdict, Refusal>) -> String {
     match answer {
         Ok(verdict) => verdict.to_string(),
-        Err(refusal) => format!("refused {} {}", refusal.number(), refusal.detail()),
+        Err(refusal) => refused_line(refusal),
     }
 }
 

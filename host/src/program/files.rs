@@ -1,6 +1,6 @@
 //! Files of words: 8 bytes each, lowest first.
 
-use std::fs::File;
+use std::fs::{self, File};
 use std::io::{self, BufWriter, Read, Write};
 use std::os::unix::fs::MetadataExt;
 use std::path::Path;
@@ -27,6 +27,8 @@ fn words_of(path: &Path) -> io::Result<Vec<u64>> {
         let got = fill(&mut file, &mut buffer)?;
         progress.add(got as u64);
         let (whole, rest) = buffer[..got].as_chunks::<8>();
+        // What comes without a length, or grows, may be longer than memory too.
+        words.try_reserve(whole.len()).map_err(io::Error::other)?;
         words.extend(whole.iter().map(|&word| u64::from_le_bytes(word)));
         if !rest.is_empty() {
             let bytes = 8 * words.len() + rest.len();
@@ -62,18 +64,34 @@ pub fn same(left: &File, right: &File) -> io::Result<bool> {
 pub struct WordFile<'a> {
     path: &'a Path,
     file: BufWriter<File>,
+    /// Whether there was no such file before.
+    made: bool,
 }
 
 impl<'a> WordFile<'a> {
     /// Opens a file, or makes it. It still holds what it held.
     pub fn open(path: &'a Path) -> Result<Self, Failure> {
         let mut options = File::options();
-        options.write(true).create(true).truncate(false);
-        let file = options.open(path).map_err(Failure::file(path))?;
+        let made = options.write(true).create_new(true).open(path);
+        let was_there = matches!(&made, Err(error) if error.kind() == io::ErrorKind::AlreadyExists);
+        let file = if was_there {
+            options.create_new(false).open(path)
+        } else {
+            made
+        };
         Ok(Self {
             path,
-            file: BufWriter::with_capacity(PIECE_BYTES, file),
+            file: BufWriter::with_capacity(PIECE_BYTES, file.map_err(Failure::file(path))?),
+            made: !was_there,
         })
+    }
+
+    /// Removes the file where `open` made it.
+    pub fn unmake(&self) {
+        if self.made {
+            // What can't be removed stays, empty.
+            let _ = fs::remove_file(self.path);
+        }
     }
 
     pub fn file(&self) -> &File {

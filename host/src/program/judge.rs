@@ -4,7 +4,7 @@ use std::ffi::OsString;
 use std::path::Path;
 
 use super::{Failure, Outcome, Streams, files, progress, refused};
-use crate::verdict::{Verdict, verdict};
+use crate::verdict::verdict;
 
 pub fn judge(arguments: &[OsString], streams: &mut Streams) -> Result<Outcome, Failure> {
     let [core, round] = arguments else {
@@ -18,15 +18,8 @@ pub fn judge(arguments: &[OsString], streams: &mut Streams) -> Result<Outcome, F
     match answer {
         Ok(answer) => {
             writeln!(streams.output, "{answer}")?;
-            Ok(outcome(answer))
+            Ok(Outcome::of(answer.holds()))
         }
         Err(refusal) => refused(refusal, streams),
-    }
-}
-
-fn outcome(verdict: Verdict) -> Outcome {
-    match verdict {
-        Verdict::Holds { .. } => Outcome::Fine,
-        _ => Outcome::DoesNotHold,
     }
 }

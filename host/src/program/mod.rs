@@ -57,6 +57,12 @@ enum Outcome {
     DoesNotHold,
 }
 
+impl Outcome {
+    const fn of(fine: bool) -> Self {
+        if fine { Self::Fine } else { Self::DoesNotHold }
+    }
+}
+
 /// Why a command could not do its work.
 #[derive(Debug)]
 enum Failure {
@@ -138,7 +144,11 @@ fn status(outcome: Result<Outcome, Failure>, hint: &str, streams: &mut Streams) 
 
 /// Prints a refusal: its line on standard output, its words on standard error.
 fn refused(refusal: Refusal, streams: &mut Streams) -> Result<Outcome, Failure> {
-    writeln!(streams.output, "refused {} {}", refusal.number(), refusal.detail())?;
+    writeln!(streams.output, "{}", refused_line(refusal))?;
     let _ = writeln!(streams.errors, "{refusal}");
     Ok(Outcome::DoesNotHold)
+}
+
+fn refused_line(refusal: Refusal) -> String {
+    format!("refused {} {}", refusal.number(), refusal.detail())
 }

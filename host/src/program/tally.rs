@@ -22,14 +22,17 @@ pub fn tally(arguments: &[OsString], streams: &mut Streams) -> Result<Outcome, F
         _ => return Err(Failure::Usage("tally takes one file or none: [OPS]".into())),
     };
     match answer {
-        Ok(sums) => {
-            lines(&sums)
-                .iter()
-                .try_for_each(|(name, number)| writeln!(streams.output, "{name} {number}"))?;
-            Ok(Outcome::Fine)
-        }
+        Ok(sums) => print(&sums.lines(), streams),
         Err(refusal) => refused(refusal, streams),
     }
+}
+
+/// Prints some of the lines of the sums.
+pub fn print(lines: &[(&str, u64)], streams: &mut Streams) -> Result<Outcome, Failure> {
+    lines
+        .iter()
+        .try_for_each(|(name, number)| writeln!(streams.output, "{name} {number}"))?;
+    Ok(Outcome::Fine)
 }
 
 /// The sums of a file that is read to its end or its first fault.
@@ -52,19 +55,4 @@ fn sums_of(input: &mut dyn Read, bytes: u64) -> io::Result<Result<Sums, Refusal>
         }
     }
     Ok(reader.finish())
-}
-
-fn lines(sums: &Sums) -> [(&'static str, u64); 10] {
-    [
-        ("ops", sums.ops),
-        ("core-rows", sums.core_rows),
-        ("round-rows", sums.round_rows),
-        ("ByteAlu", sums.byte_alu),
-        ("AreBytes", sums.are_bytes),
-        ("KeccakRc", sums.keccak_rc),
-        ("IsHalfword", sums.is_halfword),
-        ("IsWh", sums.is_wh),
-        ("Memw", sums.memw),
-        ("Ecall", sums.ecall),
-    ]
 }

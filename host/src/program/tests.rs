@@ -2,7 +2,7 @@
 
 use std::ffi::OsString;
 use std::fs;
-use std::io::Write;
+use std::io::{self, ErrorKind, Read, Write};
 use std::os::fd::AsRawFd;
 use std::path::PathBuf;
 
@@ -144,7 +144,8 @@ fn refused_files_leave_the_tables_alone() {
     assert!(!fs::exists(&round).unwrap());
 }
 
-/// The same file by another name: a hard link, a longer path to a file that there is not yet; nothing that was there is lost.
+/// The same file by another name: a hard link, a longer path to a file that there is not yet; nothing that was there is lost,
+/// and nothing is left behind.
 #[test]
 fn the_three_files_are_three() {
     let folder = Folder::new("three");
@@ -167,6 +168,7 @@ fn the_three_files_are_three() {
         let (status, output, errors) = ran(run, &["write", &ops, core, round], &[]);
         assert_eq!((status, output.as_str()), (2, ""), "{core}, {round}");
         assert!(errors.starts_with("OPS, CORE and ROUND must be three files\n"));
+        assert!(!fs::exists(&new).unwrap(), "{core}, {round}");
     }
     assert_eq!(fs::read(&ops).unwrap(), records);
     assert_eq!(fs::read(&core).unwrap(), b"before");
@@ -178,9 +180,20 @@ fn what_cannot_be_written_leaves_the_tables_alone() {
     let records = records(&operations(1));
     let ops = folder.put("ops", &records);
     let core = folder.put("core", b"before");
-    let (status, output, errors) = ran(run, &["write", &ops, &core, &folder.path("")], &[]);
+    let new = folder.path("new");
+    let dangling = folder.path("dangling");
+    std::os::unix::fs::symlink(folder.path("nowhere"), &dangling).unwrap();
+    for (round, said) in [(folder.path(""), "directory"), (dangling, "No such file")] {
+        for core in [&core, &new] {
+            let (status, output, errors) = ran(run, &["write", &ops, core, &round], &[]);
+            assert_eq!((status, output.as_str()), (2, ""));
+            assert!(errors.contains(said), "{errors}");
+        }
+    }
+    assert!(!fs::exists(&new).unwrap() && !fs::exists(folder.path("nowhere")).unwrap());
+    let (status, output, errors) = ran(run, &["write", &ops, &new, "/dev/full"], &[]);
     assert_eq!((status, output.as_str()), (2, ""));
-    assert!(errors.contains("directory"), "{errors}");
+    assert!(errors.starts_with("/dev/full: No space left"), "{errors}");
 
     // A pipe ends where it was read, so that a second reading finds nothing.
     let (reader, mut writer) = std::io::pipe().unwrap();
@@ -235,6 +248,78 @@ fn tallied_files() {
     assert!(empty.starts_with("ops 0\ncore-rows 4\nround-rows 4\nByteAlu 0\n"));
     let (status, output, _) = ran(run, &["tally"], &[0x4B, 0x4E]);
     assert_eq!((status, output.as_str()), (1, "refused 6 0\n"));
+}
+
+/// Bytes one at a time, each after an interruption.
+struct Halting<'a> {
+    bytes: &'a [u8],
+    halts: bool,
+}
+
+impl Read for Halting<'_> {
+    fn read(&mut self, buffer: &mut [u8]) -> io::Result<usize> {
+        self.halts = !self.halts;
+        if self.halts {
+            return Err(ErrorKind::Interrupted.into());
+        }
+        self.bytes.read(&mut buffer[..1])
+    }
+}
+
+/// A stream of which nothing works.
+struct Broken(ErrorKind);
+
+impl Read for Broken {
+    fn read(&mut self, _: &mut [u8]) -> io::Result<usize> {
+        Err(self.0.into())
+    }
+}
+
+impl Write for Broken {
+    fn write(&mut self, _: &[u8]) -> io::Result<usize> {
+        Err(self.0.into())
+    }
+
+    fn flush(&mut self) -> io::Result<()> {
+        Err(self.0.into())
+    }
+}
+
+/// Status and standard error of `tally` on streams.
+fn tallied(input: &mut dyn Read, output: &mut dyn Write) -> (u8, String) {
+    let mut errors = Vec::new();
+    let mut streams = Streams {
+        input,
+        output,
+        errors: &mut errors,
+    };
+    let status = run(&["tally".into()], &mut streams);
+    (status, String::from_utf8(errors).unwrap())
+}
+
+#[test]
+fn an_interrupted_read_goes_on() {
+    let bytes = records(&operations(2));
+    let mut output = Vec::new();
+    let mut input = Halting {
+        bytes: &bytes,
+        halts: false,
+    };
+    assert_eq!(tallied(&mut input, &mut output), (0, String::new()));
+    assert_eq!(String::from_utf8(output).unwrap(), ran(run, &["tally"], &bytes).1);
+}
+
+#[test]
+fn broken_streams_have_status_2() {
+    let (status, errors) = tallied(&mut Broken(ErrorKind::TimedOut), &mut Vec::new());
+    assert_eq!(status, 2);
+    assert!(errors.starts_with("standard input or output: "), "{errors}");
+    let (status, errors) = tallied(&mut &[][..], &mut Broken(ErrorKind::StorageFull));
+    assert_eq!(status, 2);
+    assert!(errors.starts_with("standard input or output: "), "{errors}");
+    // Whoever reads a pipe may end before it does.
+    let ended = tallied(&mut &[][..], &mut Broken(ErrorKind::BrokenPipe));
+    assert_eq!(ended, (2, String::new()));
 }
 
 #[test]

@@ -40,10 +40,7 @@ pub fn write(arguments: &[OsString], streams: &mut Streams) -> Result<Outcome, F
                 progress,
             };
             tables.write(ops, &sums)?;
-            writeln!(streams.output, "ops {}", sums.ops)?;
-            writeln!(streams.output, "core-rows {}", sums.core_rows)?;
-            writeln!(streams.output, "round-rows {}", sums.round_rows)?;
-            Ok(Outcome::Fine)
+            tally::print(&sums.lines()[..3], streams)
         }
         Err(refusal) => refused(refusal, streams),
     }
@@ -53,22 +50,33 @@ fn not_three_files() -> Failure {
     Failure::Usage("OPS, CORE and ROUND must be three files".into())
 }
 
-/// The two table files, empty. Neither loses what it held before both are open and known to be files of their own.
+/// The two table files, empty. Neither loses what it held before both are open and known to be files of their own; one that
+/// was made for nothing is removed.
 fn opened<'a>(
     path: &Path,
     ops: &File,
     core: &'a Path,
     round: &'a Path,
 ) -> Result<(WordFile<'a>, WordFile<'a>), Failure> {
-    let (core, round) = (WordFile::open(core)?, WordFile::open(round)?);
-    for (left, right) in [(ops, core.file()), (ops, round.file()), (core.file(), round.file())] {
+    let core = WordFile::open(core)?;
+    let round = WordFile::open(round).inspect_err(|_| core.unmake())?;
+    are_three(path, [ops, core.file(), round.file()]).inspect_err(|_| {
+        core.unmake();
+        round.unmake();
+    })?;
+    core.clear()?;
+    round.clear()?;
+    Ok((core, round))
+}
+
+/// Refuses two names of one file, however they are written.
+fn are_three(path: &Path, [ops, core, round]: [&File; 3]) -> Result<(), Failure> {
+    for (left, right) in [(ops, core), (ops, round), (core, round)] {
         if files::same(left, right).map_err(Failure::file(path))? {
             return Err(not_three_files());
         }
     }
-    core.clear()?;
-    round.clear()?;
-    Ok((core, round))
+    Ok(())
 }
 
 /// The two tables of the file at a path, of which some operations are written.

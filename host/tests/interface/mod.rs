@@ -109,10 +109,6 @@ fn of_rust_type(name: &str) -> Vec<Passed> {
         "u8" => vec![Passed::Byte],
         "u64" => vec![Passed::Word],
         "usize" => vec![Passed::Size],
-        "*const u8" => vec![Passed::ReadBytes],
-        "*mut u8" => vec![Passed::WriteBytes],
-        "*const u64" => vec![Passed::ReadWords],
-        "*mut u64" => vec![Passed::WriteWords],
         "&[u8]" => vec![Passed::ReadBytes, Passed::Size],
         "&mut [u8]" => vec![Passed::WriteBytes, Passed::Size],
         "&[u64]" => vec![Passed::ReadWords, Passed::Size],
@@ -152,35 +148,12 @@ fn after<'a>(text: &'a str, mark: &str) -> &'a str {
         .1
 }
 
-/// The functions that `file_ffi.rs` declares, and those that `ffi.rs` binds.
+/// The functions that `ffi.rs` binds: `name = symbol(arguments) -> answer`.
 pub fn bound() -> Functions {
-    let files = host_source("file_ffi.rs");
-    let (declared, _) = after(&files, "unsafe extern \"C\" {")
-        .split_once('}')
-        .expect("a block ends");
-    let declared = declared.split("fn ").skip(1).map(rust_function);
     let source = host_source("ffi.rs");
     let (bound, _) = after(&source, "\nbind! {").split_once('}').expect("a block ends");
-    let bound = bound
-        .split(';')
-        .filter(|binding| !binding.trim().is_empty())
-        .map(binding);
-    declared.chain(bound).collect()
-}
-
-/// `name = symbol(kind argument, ..) -> answer`.
-fn binding(text: &str) -> (String, Signature) {
-    let (name, rest) = after(text, "=").split_once('(').expect("a binding has parameters");
-    let (parameters, rest) = parenthesis(rest);
-    let takes = parts(parameters)
-        .flat_map(|parameter| match word(parameter) {
-            "read" => of_rust_type("&[u64]"),
-            "write" => of_rust_type("&mut [u64]"),
-            _ => rust_parameter(parameter),
-        })
-        .collect();
-    let answers = word(after(rest, "->")).to_string();
-    (name.trim().to_string(), Signature { takes, answers })
+    let bindings = bound.split(';').filter(|binding| !binding.trim().is_empty());
+    bindings.map(|binding| rust_function(after(binding, "="))).collect()
 }
 
 /// The header's prototypes.
@@ -265,7 +238,7 @@ pub fn export_structs() -> Structs {
 
 /// The bindings' structs; the sums within the answer of a file are spread out.
 pub fn bound_structs() -> Structs {
-    let mut structs = rust_structs(&(host_source("ffi.rs") + &host_source("file_ffi.rs")));
+    let mut structs = rust_structs(&host_source("ffi.rs"));
     let sums = rust_structs(&host_source("operation_file.rs"))
         .remove("Sums")
         .expect("the sums");

@@ -10,19 +10,35 @@ use crate::tuple_list::tuples;
 
 pub fn compare(comparison: &mut Comparison, words: &mut Words) {
     comparison.group("bitwise rows, all 2^20, by both of the Rust's writers");
+    rows(comparison);
+    comparison.group("bitwise rows into longer slices, with guards");
+    longer_rows(comparison, words);
+    comparison.group("indexes of bitwise rows, every X, Y and Z");
+    indexes(comparison);
+    comparison.group("bitwise counters after 30,000 drawn lookups, all 10,485,760");
+    many_counts(comparison, words);
+    comparison.group("one lookup on a counter that holds 0, 1, a drawn word, p - 2, p - 1");
+    single_counts(comparison, words);
+    comparison.group("tuples of bitwise rows");
+    for k in 0..400 {
+        let row = drawn_row(words, k % 2 == 0);
+        let (call, expected) = (bitwise::bus_interaction, oracle::bitwise_tuples(&row));
+        tuples(comparison, words, || "a bitwise row".into(), &row, call, &expected);
+    }
+}
+
+fn rows(comparison: &mut Comparison) {
     let mut row = [0; bitwise::NUM_PRECOMPUTED_COLS];
     for index in 0..bitwise::NUM_ROWS {
         let input = || format!("bitwise row {index}");
         comparison.done(input, bitwise::generate_bitwise_row(index, &mut row));
         comparison.equal(|_| input(), &row, &oracle::bitwise_row(index));
-        comparison.equal(
-            |_| input(),
-            &row,
-            &oracle::bitwise_table_row(index)[..bitwise::NUM_PRECOMPUTED_COLS],
-        );
+        let in_table = oracle::bitwise_table_row(index);
+        comparison.equal(|_| input(), &row, &in_table[..bitwise::NUM_PRECOMPUTED_COLS]);
     }
+}
 
-    comparison.group("bitwise rows into longer slices, with guards");
+fn longer_rows(comparison: &mut Comparison, words: &mut Words) {
     for _ in 0..2000 {
         let index = words.below(1 << 20) as usize;
         let mut row = Lent::drawn(bitwise::NUM_PRECOMPUTED_COLS + words.below(12) as usize, words);
@@ -30,45 +46,28 @@ pub fn compare(comparison: &mut Comparison, words: &mut Words) {
         comparison.done(input, bitwise::generate_bitwise_row(index, row.slice()));
         row.holds(comparison, |_| input(), &oracle::bitwise_row(index));
     }
+}
 
-    comparison.group("indexes of bitwise rows, every X, Y and Z");
+fn indexes(comparison: &mut Comparison) {
     for z in 0..16 {
         for (x, y) in (0..=255).flat_map(|x| (0..=255).map(move |y| (x, y))) {
             let input = || format!("row_index({x}, {y}, {z})");
             if let Some(index) = comparison.done(input, bitwise::row_index(x, y, z)) {
-                comparison.equal(
-                    |_| input(),
-                    &[index as u64],
-                    &[oracle::bitwise_row_index(x, y, z) as u64],
-                );
+                let expected = oracle::bitwise_row_index(x, y, z);
+                comparison.equal(|_| input(), &[index as u64], &[expected as u64]);
             }
         }
     }
+}
 
-    comparison.group("bitwise counters after 30,000 drawn lookups, all 10,485,760");
-    many_counts(comparison, words);
-
-    comparison.group("one lookup on a counter that holds 0, 1, a drawn word, p - 2, p - 1");
-    single_counts(comparison, words);
-
-    comparison.group("tuples of bitwise rows");
-    for k in 0..400 {
-        let row: Vec<u64> = if k % 2 == 0 {
-            let index = words.below(1 << 20) as usize;
-            let fixed = oracle::bitwise_row(index).to_vec();
-            fixed.into_iter().chain((0..10).map(|_| words.element())).collect()
-        } else {
-            (0..bitwise::NUM_COLUMNS).map(|_| words.element()).collect()
-        };
-        tuples(
-            comparison,
-            words,
-            || "a bitwise row".into(),
-            &row,
-            bitwise::bus_interaction,
-            &oracle::bitwise_tuples(&row),
-        );
+/// A row of drawn elements; or a written one, whose multiplicities are drawn.
+fn drawn_row(words: &mut Words, written: bool) -> Vec<u64> {
+    let mut row = Vec::new();
+    if written {
+        row.extend(oracle::bitwise_row(words.below(1 << 20) as usize));
     }
+    row.resize_with(bitwise::NUM_COLUMNS, || words.element());
+    row
 }
 
 /// A lookup; half of them fall on a few rows, so that counters rise above 1.

@@ -28,24 +28,15 @@ pub fn compare(comparison: &mut Comparison, words: &mut Words) {
 
     comparison.group("tuples of constant rows");
     for row in oracle::keccak_rc_table(7).chunks_exact(keccak_rc::NUM_COLUMNS) {
-        tuples(
-            comparison,
-            words,
-            || "a constant row".into(),
-            row,
-            keccak_rc::bus_interaction,
-            &oracle::keccak_rc_tuples(row),
-        );
+        tuples_of(comparison, words, row);
     }
     for _ in 0..200 {
         let row: Vec<u64> = (0..keccak_rc::NUM_COLUMNS).map(|_| words.element()).collect();
-        tuples(
-            comparison,
-            words,
-            || "a constant row".into(),
-            &row,
-            keccak_rc::bus_interaction,
-            &oracle::keccak_rc_tuples(&row),
-        );
+        tuples_of(comparison, words, &row);
     }
+}
+
+fn tuples_of(comparison: &mut Comparison, words: &mut Words, row: &[u64]) {
+    let (call, expected) = (keccak_rc::bus_interaction, oracle::keccak_rc_tuples(row));
+    tuples(comparison, words, || "a constant row".into(), row, call, &expected);
 }

@@ -25,13 +25,7 @@ pub fn compare(comparison: &mut Comparison, words: &mut Words) {
     comparison.group("tuples of rows of keys");
     for _ in 0..400 {
         let row: Vec<u64> = (0..is_wh::NUM_COLUMNS).map(|_| words.element()).collect();
-        tuples(
-            comparison,
-            words,
-            || "a row of keys".into(),
-            &row,
-            is_wh::bus_interaction,
-            &oracle::is_wh_tuples(&row),
-        );
+        let (call, expected) = (is_wh::bus_interaction, oracle::is_wh_tuples(&row));
+        tuples(comparison, words, || "a row of keys".into(), &row, call, &expected);
     }
 }

@@ -7,13 +7,8 @@ mod keys;
 pub mod refusals;
 mod tables;
 
-use keccak_tables::Refusal;
-
 use crate::comparison::Comparison;
 use crate::inputs::Words;
-
-/// A call that takes a list of operations and a slice to write to.
-type ListCall = fn(&[u64], &mut [u64]) -> Result<(), Refusal>;
 
 /// The whole area: `n` drawn operations, and everything that is not drawn.
 pub fn compare(comparison: &mut Comparison, seed: u64, n: usize) {

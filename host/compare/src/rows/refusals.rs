@@ -7,19 +7,20 @@ use keccak_tables::{MAX_OPS, OP_WORDS, P, bitwise, is_wh, keccak, keccak_rc, kec
 use crate::comparison::Comparison;
 use crate::inputs::Words;
 use crate::lent::Lent;
+use crate::list_calls::{LIST_CALLS, ListCall, TOO_MANY};
 use crate::refused::{on_slice, tuple_calls};
-use crate::rows::ListCall;
 use crate::untouched::Untouched;
-
-/// The detail of a list with too many operations, and of a count of them.
-const TOO_MANY: u64 = MAX_OPS as u64 + 1;
 
 /// The refusals of the calls of this area.
 pub fn compare(comparison: &mut Comparison, words: &mut Words) {
     comparison.group("refusals: bitwise rows, indexes and counters");
-    bitwise_calls(comparison, words);
+    bitwise_rows(comparison, words);
+    bitwise_indexes(comparison);
+    short_counters(comparison, words);
+    counters_about_p(comparison, words);
     comparison.group("refusals: constant rows and tables");
-    constant_calls(comparison, words);
+    constant_rows(comparison, words);
+    constant_tables(comparison, words);
     comparison.group("refusals: tuples");
     tuples_of_lookups(comparison, words);
     comparison.group("refusals: calls that take operations");
@@ -29,7 +30,7 @@ pub fn compare(comparison: &mut Comparison, words: &mut Words) {
     counts(comparison);
 }
 
-fn bitwise_calls(comparison: &mut Comparison, words: &mut Words) {
+fn bitwise_rows(comparison: &mut Comparison, words: &mut Words) {
     let end = bitwise::NUM_ROWS;
     for index in [0, 1, end - 1, end, end + 1, usize::MAX] {
         for length in [0, 1, 10, 11, 12] {
@@ -38,64 +39,53 @@ fn bitwise_calls(comparison: &mut Comparison, words: &mut Words) {
                 (_, 0..11) => Some((3, 11)),
                 _ => None,
             };
-            let input = format!("generate_bitwise_row({index})");
-            let call = |row: &mut [u64]| bitwise::generate_bitwise_row(index, row);
-            on_slice(
-                comparison,
-                words,
-                "generate_bitwise_row",
-                length,
-                || input.clone(),
-                expected,
-                call,
-            );
+            let what = ("generate_bitwise_row", || format!("generate_bitwise_row({index})"));
+            on_slice(comparison, words, what, length, expected, |row| {
+                bitwise::generate_bitwise_row(index, row)
+            });
         }
     }
+}
+
+fn bitwise_indexes(comparison: &mut Comparison) {
     for z in [15, 16, 17, 255] {
         let input = || format!("row_index(1, 2, {z})");
         let expected = (z >= 16).then_some((1, 16));
         comparison.answered("bitwise_row_index", input, bitwise::row_index(1, 2, z), expected);
     }
+}
+
+fn short_counters(comparison: &mut Comparison, words: &mut Words) {
+    let end = bitwise::NUM_COUNTERS;
     for kind in [0, 9, 10, 11, usize::MAX] {
         for z in [0, 15, 16, 255] {
             for length in [0, 1, 1000] {
                 let expected = match (kind, z) {
                     (10.., _) => (1, 10),
                     (_, 16..) => (1, 16),
-                    _ => (3, 10_485_760),
+                    _ => (3, end as u64),
                 };
-                let input = format!("bump of kind {kind}, z = {z}");
-                let call = |counters: &mut [u64]| bitwise::bump(counters, kind, 3, 4, z);
-                on_slice(
-                    comparison,
-                    words,
-                    "bitwise_bump",
-                    length,
-                    || input.clone(),
-                    Some(expected),
-                    call,
-                );
+                let what = ("bitwise_bump", || format!("bump of kind {kind}, z = {z}"));
+                on_slice(comparison, words, what, length, Some(expected), |counters| {
+                    bitwise::bump(counters, kind, 3, 4, z)
+                });
             }
         }
     }
-    let end = bitwise::NUM_COUNTERS;
-    let call = |counters: &mut [u64]| bitwise::bump(counters, 0, 0, 0, 0);
-    on_slice(
-        comparison,
-        words,
-        "bitwise_bump",
-        end - 1,
-        || "bump at 0".into(),
-        Some((3, end as u64)),
-        call,
-    );
-    // A counter that is p or more, the first, one between and the last; then the same place holding p - 1.
+    let what = ("bitwise_bump", || "bump at 0".into());
+    on_slice(comparison, words, what, end - 1, Some((3, end as u64)), |counters| {
+        bitwise::bump(counters, 0, 0, 0, 0)
+    });
+}
+
+/// A counter that is p or more, the first, one between and the last; then the same place holding p - 1.
+fn counters_about_p(comparison: &mut Comparison, words: &mut Words) {
     for (kind, x, y, z) in [(0, 0, 0, 0), (6, 1, 2, 3), (9, 255, 255, 15)] {
         let place = (usize::from(x) + 256 * usize::from(y) + 65_536 * usize::from(z)) * 10 + kind;
         for (word, refused) in [(P, true), (P + 1, true), (u64::MAX, true), (P - 1, false)] {
-            let mut counters = Lent::new(&vec![0; end], words);
-            counters.slice()[place] = word;
-            let mut counters = Lent::new(counters.slice(), words);
+            let mut counters = vec![0; bitwise::NUM_COUNTERS];
+            counters[place] = word;
+            let mut counters = Lent::new(&counters, words);
             let answer = bitwise::bump(counters.slice(), kind, x, y, z);
             let input = || format!("bump of the counter at {place}, which holds {word}");
             let expected = refused.then_some((5, place as u64));
@@ -107,7 +97,7 @@ fn bitwise_calls(comparison: &mut Comparison, words: &mut Words) {
     }
 }
 
-fn constant_calls(comparison: &mut Comparison, words: &mut Words) {
+fn constant_rows(comparison: &mut Comparison, words: &mut Words) {
     for round in [0, 23, 24, 31, 32, 33, usize::MAX] {
         for length in [0, 8, 9, 10] {
             let expected = match (round, length) {
@@ -115,43 +105,27 @@ fn constant_calls(comparison: &mut Comparison, words: &mut Words) {
                 (_, 0..9) => Some((3, 9)),
                 _ => None,
             };
-            let input = format!("generate_row({round})");
-            let call = |out: &mut [u64]| keccak_rc::generate_row(round, out);
-            on_slice(
-                comparison,
-                words,
-                "keccak_rc_generate_row",
-                length,
-                || input.clone(),
-                expected,
-                call,
-            );
+            let what = ("keccak_rc_generate_row", || format!("generate_row({round})"));
+            on_slice(comparison, words, what, length, expected, |out| {
+                keccak_rc::generate_row(round, out)
+            });
         }
     }
+}
+
+fn constant_tables(comparison: &mut Comparison, words: &mut Words) {
     for length in [0, 319, 320, 321] {
         let short = (length < 320).then_some((3, 320));
-        on_slice(
-            comparison,
-            words,
-            "generate_keccak_rc_trace",
-            length,
-            || "the constant table".into(),
-            short,
-            keccak_rc::generate_keccak_rc_trace,
-        );
+        let what = ("generate_keccak_rc_trace", || "the constant table".into());
+        let call = keccak_rc::generate_keccak_rc_trace;
+        on_slice(comparison, words, what, length, short, call);
         for n in [0, 1, TOO_MANY - 1, TOO_MANY, TOO_MANY + 1, u64::MAX] {
             let expected = if n >= TOO_MANY { Some((1, TOO_MANY)) } else { short };
-            let input = format!("update_multiplicities to {n}");
-            let call = |table: &mut [u64]| keccak_rc::update_multiplicities(table, n);
-            on_slice(
-                comparison,
-                words,
-                "keccak_rc_update_multiplicities",
-                length,
-                || input.clone(),
-                expected,
-                call,
-            );
+            let input = || format!("update_multiplicities to {n}");
+            let what = ("keccak_rc_update_multiplicities", input);
+            on_slice(comparison, words, what, length, expected, |table| {
+                keccak_rc::update_multiplicities(table, n)
+            });
         }
     }
 }
@@ -169,80 +143,38 @@ fn tuples_of_lookups(comparison: &mut Comparison, words: &mut Words) {
     tuple_calls(comparison, words, names, is_wh::NUM_COLUMNS, &[1, 1, 1, 1, 2], call);
 }
 
-/// The words that a call needs for n operations.
-pub type Needed = fn(usize) -> usize;
-
-/// The calls that take a list, with the words that each needs.
-const LIST_CALLS: [(&str, Needed, ListCall); 4] = [
-    (
-        "generate_keccak_trace",
-        |n| n.next_power_of_two().max(4) * 486,
-        keccak::generate_keccak_trace,
-    ),
-    (
-        "generate_keccak_rnd_trace",
-        |n| (24 * n).next_power_of_two().max(4) * 1480,
-        keccak_rnd::generate_keccak_rnd_trace,
-    ),
-    ("is_wh_keys", |n| 50 * n, keccak::is_wh_keys),
-    (
-        "keccak_row",
-        |_| 486,
-        |ops, row| keccak::keccak_row(ops, (ops.len() / OP_WORDS).saturating_sub(1), row),
-    ),
-];
-
 fn operation_calls(comparison: &mut Comparison, words: &mut Words) {
-    for (name, needed, call) in LIST_CALLS {
+    for call in &LIST_CALLS {
         for n in [0, 1, 3, 5] {
-            let none = (name == "keccak_row" && n == 0).then_some((1, 0));
-            let needed = needed(n);
-            for past in [0, 1, 51] {
-                let mut ops = words.operations(n);
-                ops.extend(words.take(past));
-                for length in [0, needed.saturating_sub(1), needed, needed + 1] {
-                    let expected = none
-                        .or((past > 0).then_some((2, 2)))
-                        .or((length < needed).then_some((3, needed as u64)));
-                    let input = format!("{name} on {n} operations and {past} words");
-                    on_slice(
-                        comparison,
-                        words,
-                        name,
-                        length,
-                        || input.clone(),
-                        expected,
-                        |out| call(&ops, out),
-                    );
-                }
-            }
-            high_addresses(comparison, words, (name, needed, call), n);
+            lists_about_whole(comparison, words, call, n);
+            high_addresses(comparison, words, call, n);
         }
     }
-    let ops = words.operations(3);
-    for index in [0, 2, 3, 4, usize::MAX] {
-        let expected = (index >= 3).then_some((1, 3));
-        let input = format!("keccak_row({index}) of 3 operations");
-        on_slice(
-            comparison,
-            words,
-            "keccak_row",
-            486,
-            || input.clone(),
-            expected,
-            |row| keccak::keccak_row(&ops, index, row),
-        );
-    }
+    indexes(comparison, words);
     too_many(comparison, words);
 }
 
+/// Lists with and without words past the last operation, and slices about the length needed.
+fn lists_about_whole(comparison: &mut Comparison, words: &mut Words, call: &ListCall, n: usize) {
+    let none = (call.takes_index && n == 0).then_some((1, 0));
+    let needed = (call.needed)(n);
+    for past in [0, 1, 51] {
+        let mut ops = words.operations(n);
+        ops.extend(words.take(past));
+        for length in [0, needed.saturating_sub(1), needed, needed + 1] {
+            let expected = none
+                .or((past > 0).then_some((2, 2)))
+                .or((length < needed).then_some((3, needed as u64)));
+            let input = || format!("{} on {n} operations and {past} words", call.name);
+            let what = (call.name, input);
+            on_slice(comparison, words, what, length, expected, |out| call.at_last(&ops, out));
+        }
+    }
+}
+
 /// Each operation in turn at an address past the last one, and a second one after it; shorter slices are refused first.
-fn high_addresses(
-    comparison: &mut Comparison,
-    words: &mut Words,
-    (name, needed, call): (&'static str, usize, ListCall),
-    n: usize,
-) {
+fn high_addresses(comparison: &mut Comparison, words: &mut Words, call: &ListCall, n: usize) {
+    let needed = (call.needed)(n);
     for at in 0..n {
         for address in [LAST_ADDRESS, LAST_ADDRESS + 1, LAST_ADDRESS + 2, u64::MAX] {
             let mut ops = words.operations(n);
@@ -251,62 +183,45 @@ fn high_addresses(
             if high && at + 1 < n {
                 ops[(n - 1) * OP_WORDS + 1] = u64::MAX - 1;
             }
-            let input = format!("{name}, operation {at} of {n} at address {address}");
-            let expected = high.then_some((4, address));
-            on_slice(
-                comparison,
-                words,
-                name,
-                needed,
-                || input.clone(),
-                expected,
-                |out| call(&ops, out),
-            );
-            if needed > 0 {
-                let expected = Some((3, needed as u64));
-                on_slice(
-                    comparison,
-                    words,
-                    name,
-                    needed - 1,
-                    || input.clone(),
-                    expected,
-                    |out| call(&ops, out),
-                );
+            let input = || format!("{}, operation {at} of {n} at address {address}", call.name);
+            let short = Some((3, needed as u64));
+            for (length, expected) in [(needed, high.then_some((4, address))), (needed - 1, short)] {
+                let what = (call.name, input);
+                on_slice(comparison, words, what, length, expected, |out| call.at_last(&ops, out));
             }
         }
+    }
+}
+
+fn indexes(comparison: &mut Comparison, words: &mut Words) {
+    let ops = words.operations(3);
+    for index in [0, 2, 3, 4, usize::MAX] {
+        let expected = (index >= 3).then_some((1, 3));
+        let what = ("keccak_row", || format!("keccak_row({index}) of 3 operations"));
+        on_slice(comparison, words, what, 486, expected, |row| {
+            keccak::keccak_row(&ops, index, row)
+        });
     }
 }
 
 /// More operations than a list may have, as many as it may have and a word, and as many: none of them is read, because a
 /// check of the lengths refuses each.
 fn too_many(comparison: &mut Comparison, words: &mut Words) {
-    let Some(untouched) = Untouched::new((MAX_OPS + 2) * OP_WORDS) else {
-        println!(
-            "no addresses for a list of {} operations: lists about the limit are not tried",
-            MAX_OPS + 2
-        );
+    let Some(untouched) = Untouched::operations(MAX_OPS + 2) else {
         return;
     };
-    for (name, needed, call) in LIST_CALLS {
+    for call in &LIST_CALLS {
         for (operations, past, expected) in [
-            (MAX_OPS, 0, (3, needed(MAX_OPS) as u64)),
+            (MAX_OPS, 0, (3, (call.needed)(MAX_OPS) as u64)),
             (MAX_OPS, 1, (2, 2)),
             (MAX_OPS + 1, 0, (1, TOO_MANY)),
             (MAX_OPS + 1, 1, (1, TOO_MANY)),
             (MAX_OPS + 2, 0, (1, TOO_MANY)),
         ] {
             let ops = &untouched.words()[..operations * OP_WORDS + past];
-            let input = format!("{name} on {operations} operations and {past} words");
-            on_slice(
-                comparison,
-                words,
-                name,
-                8,
-                || input.clone(),
-                Some(expected),
-                |out| call(ops, out),
-            );
+            let input = || format!("{} on {operations} operations and {past} words", call.name);
+            let what = (call.name, input);
+            on_slice(comparison, words, what, 8, Some(expected), |out| call.at_last(ops, out));
         }
     }
 }
@@ -322,18 +237,12 @@ fn round_rows(comparison: &mut Comparison, words: &mut Words) {
                     _ => None,
                 };
                 let mut start = Lent::drawn(lanes, words);
-                let input = format!("keccak_rnd_row of round {round} from {lanes} lanes");
-                let call = |row: &mut [u64]| keccak_rnd::keccak_rnd_row(1, start.slice(), round, row);
-                on_slice(
-                    comparison,
-                    words,
-                    "keccak_rnd_row",
-                    length,
-                    || input.clone(),
-                    expected,
-                    call,
-                );
-                start.kept(comparison, |_| format!("START, which is only read: {input}"));
+                let input = || format!("keccak_rnd_row of round {round} from {lanes} lanes");
+                let what = ("keccak_rnd_row", input);
+                on_slice(comparison, words, what, length, expected, |row| {
+                    keccak_rnd::keccak_rnd_row(1, start.slice(), round, row)
+                });
+                start.kept(comparison, |_| format!("START, which is only read: {}", input()));
             }
         }
     }

@@ -1,9 +1,9 @@
 //! Core and round tables, their single rows, keys and heights.
 
-use keccak_tables::{MAX_OPS, OP_WORDS, keccak, keccak_rnd};
+use keccak_tables::{MAX_OPS, OP_WORDS, Operation, Refusal, keccak, keccak_rnd};
 
 use crate::comparison::Comparison;
-use crate::inputs::{Words, addresses, operation_of_row, states};
+use crate::inputs::{Words, addresses, number, operation_of_row, states};
 use crate::lent::Lent;
 
 pub fn compare(comparison: &mut Comparison, words: &mut Words, n: usize) {
@@ -12,7 +12,6 @@ pub fn compare(comparison: &mut Comparison, words: &mut Words, n: usize) {
         let ops = words.operations(n);
         tables(comparison, words, &ops);
     }
-
     comparison.group("tables and keys of drawn operations, in lists of 1 to 40");
     let mut left = n;
     while left > 0 {
@@ -21,75 +20,76 @@ pub fn compare(comparison: &mut Comparison, words: &mut Words, n: usize) {
         tables(comparison, words, &ops);
         left -= n;
     }
-
-    comparison.group("tables and keys at every edge of the address");
-    let ops: Vec<u64> = addresses()
-        .into_iter()
-        .flat_map(|address| {
-            let mut operation = words.operation();
-            operation.address = address;
-            operation.words()
-        })
-        .collect();
-    tables(comparison, words, &ops);
-
-    comparison.group("tables of the zero state, all ones, single bits and single lanes");
-    for states in states().chunks(32) {
-        let ops: Vec<u64> = states
-            .iter()
-            .flat_map(|&input| {
-                let mut operation = words.operation();
-                operation.input = input;
-                operation.output = input;
-                operation.words()
-            })
-            .collect();
-        tables(comparison, words, &ops);
-    }
-
+    at_edges(comparison, words);
     comparison.group("single core rows");
     for n in [1, 2, 7, 24] {
         let ops = words.operations(n);
         core_rows(comparison, words, &ops);
     }
-
     comparison.group("single round rows, every round, START as the Rust's rows have it");
     for _ in 0..12 {
         let ops = words.operations(1);
         round_rows(comparison, words, &ops);
     }
-
     comparison.group("heights and padding lookups");
+    heights_of_tables(comparison);
     heights(comparison);
 }
 
-/// Both tables and the keys of a list, each into a slice that is a little longer than it has to be.
+fn at_edges(comparison: &mut Comparison, words: &mut Words) {
+    comparison.group("tables and keys at every edge of the address");
+    let at = |words: &mut Words, address| Operation {
+        address,
+        ..words.operation()
+    };
+    let ops: Vec<u64> = addresses()
+        .into_iter()
+        .flat_map(|address| at(words, address).words())
+        .collect();
+    tables(comparison, words, &ops);
+
+    comparison.group("tables of the zero state, all ones, single bits and single lanes");
+    let of = |words: &mut Words, state| Operation {
+        input: state,
+        output: state,
+        ..words.operation()
+    };
+    for states in states().chunks(32) {
+        let ops: Vec<u64> = states.iter().flat_map(|&state| of(words, state).words()).collect();
+        tables(comparison, words, &ops);
+    }
+}
+
+/// Both tables and the keys of a list.
 fn tables(comparison: &mut Comparison, words: &mut Words, ops: &[u64]) {
-    let n = ops.len() / OP_WORDS;
-
+    let core = ("core table", keccak::NUM_COLUMNS, 1);
     let expected = oracle::core_table(ops);
-    let mut table = Lent::drawn(expected.len() + words.below(9) as usize, words);
-    let answer = keccak::generate_keccak_trace(ops, table.slice());
-    comparison.done(|| format!("the core table of {n} operations {ops:?}"), answer);
-    table.holds(comparison, in_table("core", ops, keccak::NUM_COLUMNS, 1), &expected);
-
+    table(comparison, words, core, ops, keccak::generate_keccak_trace, &expected);
+    let round = ("round table", keccak_rnd::NUM_COLUMNS, keccak_rnd::ROUNDS);
     let expected = oracle::round_table(ops);
-    let mut table = Lent::drawn(expected.len() + words.below(9) as usize, words);
-    let answer = keccak_rnd::generate_keccak_rnd_trace(ops, table.slice());
-    comparison.done(|| format!("the round table of {n} operations {ops:?}"), answer);
-    table.holds(
-        comparison,
-        in_table("round", ops, keccak_rnd::NUM_COLUMNS, keccak_rnd::ROUNDS),
-        &expected,
-    );
-
+    let call = keccak_rnd::generate_keccak_rnd_trace;
+    table(comparison, words, round, ops, call, &expected);
+    let keys = ("keys", keccak::KEY_WORDS, 1);
     let expected = oracle::is_wh_keys(ops);
-    let mut keys = Lent::drawn(expected.len() + words.below(9) as usize, words);
+    table(comparison, words, keys, ops, keccak::is_wh_keys, &expected);
+}
+
+/// One of them, by its name, its width and its rows to an operation, into a slice that is a little longer than it has to be.
+fn table(
+    comparison: &mut Comparison,
+    words: &mut Words,
+    (name, width, rows): (&str, usize, usize),
+    ops: &[u64],
+    call: fn(&[u64], &mut [u64]) -> Result<(), Refusal>,
+    expected: &[u64],
+) {
+    let mut table = Lent::drawn(expected.len() + words.below(9) as usize, words);
+    let answer = call(ops, table.slice());
     comparison.done(
-        || format!("the keys of {n} operations {ops:?}"),
-        keccak::is_wh_keys(ops, keys.slice()),
+        || format!("{name} of {} operations {ops:?}", ops.len() / OP_WORDS),
+        answer,
     );
-    keys.holds(comparison, in_table("keys", ops, keccak::KEY_WORDS, 1), &expected);
+    table.holds(comparison, in_table(name, ops, width, rows), expected);
 }
 
 /// Names the place in a table and the operation behind it.
@@ -137,39 +137,29 @@ fn words_past(round: usize) -> usize {
     round % 3
 }
 
-/// Eight bytes as a number, lowest first.
-fn number(bytes: &[u64]) -> u64 {
-    bytes.iter().rev().fold(0, |number, byte| number << 8 | byte)
-}
-
-/// Heights against the Rust's tables where these are small, and against its expression everywhere; padding lookups
-/// against its function.
-fn heights(comparison: &mut Comparison) {
+/// Heights against the Rust's tables, which are small.
+fn heights_of_tables(comparison: &mut Comparison) {
     let mut words = Words::new(0);
     for n in [0, 1, 2, 3, 4, 5, 10, 11, 21, 22, 42, 43, 64, 65, 85, 86] {
         let ops = words.operations(n);
-        let input = |_| format!("heights for n = {n}");
         let core = keccak::keccak_height(n).map_or(0, |rows| rows as u64);
         let round = keccak_rnd::keccak_rnd_height(n).map_or(0, |rows| rows as u64);
-        comparison.equal(
-            input,
-            &[core, round],
-            &[
-                (oracle::core_table(&ops).len() / keccak::NUM_COLUMNS) as u64,
-                (oracle::round_table(&ops).len() / keccak_rnd::NUM_COLUMNS) as u64,
-            ],
-        );
+        let expected = [
+            oracle::core_table(&ops).len() / keccak::NUM_COLUMNS,
+            oracle::round_table(&ops).len() / keccak_rnd::NUM_COLUMNS,
+        ];
+        let input = |_| format!("heights for n = {n}");
+        comparison.equal(input, &[core, round], &expected.map(|rows| rows as u64));
     }
+}
+
+/// Heights against the Rust's expression, padding lookups against its function.
+fn heights(comparison: &mut Comparison) {
     for n in counts() {
-        let core = comparison.done(|| format!("the core height for n = {n}"), keccak::keccak_height(n));
-        let round = comparison.done(
-            || format!("the round height for n = {n}"),
-            keccak_rnd::keccak_rnd_height(n),
-        );
-        let padding = comparison.done(
-            || format!("padding lookups for n = {n}"),
-            keccak_rnd::padding_are_bytes(n),
-        );
+        let input = |what| move || format!("{what} for n = {n}");
+        let core = comparison.done(input("the core height"), keccak::keccak_height(n));
+        let round = comparison.done(input("the round height"), keccak_rnd::keccak_rnd_height(n));
+        let padding = comparison.done(input("padding lookups"), keccak_rnd::padding_are_bytes(n));
         let (Some(core), Some(round), Some(padding)) = (core, round, padding) else {
             continue;
         };

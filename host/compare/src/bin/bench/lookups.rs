@@ -9,13 +9,14 @@ use std::hint::black_box;
 use compare::inputs::Words;
 use compare::tuple_list::TupleCall;
 use keccak_tables::is_wh::IsWhKey;
-use keccak_tables::{OP_WORDS, bitwise, is_wh, keccak, keccak_rc, keccak_rnd};
+use keccak_tables::{Operation, bitwise, is_wh, keccak, keccak_rc, keccak_rnd};
 use oracle::tables;
 use oracle::tables::types::FE;
-use oracle::{Counters, Lookup};
-use stark::lookup::BusInteraction;
+use oracle::{BusInteraction, Counters, Lookup};
 
-use crate::timing::{best, line, ratio, time};
+use crate::rows::{core_operations, flat};
+use crate::timing::both;
+use crate::tuples::evaluate_all;
 
 /// Inputs of a run.
 const INPUTS: usize = 10_000;
@@ -28,7 +29,7 @@ pub fn run() {
     let lookups: Vec<Lookup> = (0..INPUTS).map(|_| drawn(&mut words)).collect();
     numbers(&words.take(INPUTS), &lookups);
     counters(&lookups);
-    keys(&words.operations(INPUTS / 25));
+    keys(&(0..INPUTS / 25).map(|_| words.operation()).collect::<Vec<_>>());
     let row = |columns| (0..columns).map(|_| words.element()).collect::<Vec<u64>>();
     let [bitwise_row, constant_row, key_row] =
         [bitwise::NUM_COLUMNS, keccak_rc::NUM_COLUMNS, is_wh::NUM_COLUMNS].map(row);
@@ -50,12 +51,9 @@ fn drawn(words: &mut Words) -> Lookup {
 }
 
 /// Both times of `items` calls, keys or tuples, and their ratio.
-fn calls(name: &str, items: usize, mut ours: impl FnMut(), mut rust: impl FnMut()) {
+fn calls(name: &str, items: usize, ours: impl FnMut(), rust: impl FnMut()) {
     println!("{name}: time of one");
-    let [ours, rust] = best(RUNS, [Box::new(|| time(&mut ours)), Box::new(|| time(&mut rust))]);
-    line("ours", ours, items);
-    line("the Rust", rust, items);
-    ratio(name, ours, rust);
+    both(name, RUNS, items, ("ours", ours), ("the Rust", rust));
 }
 
 /// The calls that take numbers and give one, or a small row.
@@ -108,16 +106,8 @@ fn counters(lookups: &[Lookup]) {
 }
 
 /// The keys of a list; the Rust's iterator is written to a slice that is lent, as ours.
-fn keys(ops: &[u64]) {
-    let theirs: Vec<tables::keccak::KeccakOperation> = ops
-        .chunks_exact(OP_WORDS)
-        .map(|words| tables::keccak::KeccakOperation {
-            timestamp: words[0],
-            state_addr: words[1],
-            input: words[2..27].try_into().expect("25 lanes"),
-            output: words[27..].try_into().expect("25 lanes"),
-        })
-        .collect();
+fn keys(operations: &[Operation]) {
+    let (ops, theirs) = (&flat(operations), core_operations(operations));
     let mut lent = vec![1; theirs.len() * keccak::KEY_WORDS];
     let mut taken = lent.clone();
     let ours = || keccak::is_wh_keys(black_box(ops), black_box(&mut lent)).expect("keys");
@@ -128,7 +118,7 @@ fn keys(ops: &[u64]) {
         }
         black_box(&taken);
     };
-    calls("keys", ops.len() / OP_WORDS * 25, ours, rust);
+    calls("keys", operations.len() * 25, ours, rust);
     assert_eq!(lent, taken, "the keys");
 }
 
@@ -137,16 +127,17 @@ fn tuples(name: &str, row: &[u64], call: impl TupleCall, interactions: &[BusInte
     let elements: Vec<FE> = row.iter().copied().map(FE::from).collect();
     let ours = || {
         let mut out = [0; 16];
-        for index in (0..TIMES).flat_map(|_| 0..interactions.len()) {
-            black_box(call(black_box(row), index, &mut out)).expect("a tuple");
-            black_box(&out);
+        for _ in 0..TIMES {
+            for index in 0..interactions.len() {
+                black_box(call(black_box(row), index, &mut out)).expect("a tuple");
+                black_box(&out);
+            }
         }
     };
     let rust = || {
         let mut out = [FE::zero(); 16];
-        for interaction in (0..TIMES).flat_map(|_| interactions) {
-            let _ = black_box(oracle::evaluate(black_box(interaction), &elements, &mut out));
-            black_box(&out);
+        for _ in 0..TIMES {
+            evaluate_all(interactions, &elements, &mut out);
         }
     };
     calls(name, TIMES * interactions.len(), ours, rust);

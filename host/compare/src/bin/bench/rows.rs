@@ -9,13 +9,12 @@
 //! same memory again and again, so no run pays for memory that was never touched.
 
 use std::hint::black_box;
-use std::time::Duration;
 
 use compare::inputs::Words;
-use keccak_tables::{Operation, bitwise, keccak, keccak_rc, keccak_rnd};
+use keccak_tables::{Operation, Refusal, bitwise, keccak, keccak_rc, keccak_rnd};
 use oracle::tables;
 
-use crate::timing::{best, line, ratio, time};
+use crate::timing::{best, both, line, ratio, time};
 
 /// Runs of each, of a table that the caches hold and of a large one.
 const RUNS: usize = 400;
@@ -35,74 +34,87 @@ fn operations(n: usize) -> Vec<Operation> {
     (0..n).map(|_| words.operation()).collect()
 }
 
-fn flat(operations: &[Operation]) -> Vec<u64> {
+pub fn flat(operations: &[Operation]) -> Vec<u64> {
     operations.iter().flat_map(Operation::words).collect()
 }
 
+/// The operations as the Rust's core table takes them.
+pub fn core_operations(operations: &[Operation]) -> Vec<tables::keccak::KeccakOperation> {
+    let theirs = |operation: &Operation| tables::keccak::KeccakOperation {
+        timestamp: operation.timestamp,
+        state_addr: operation.address,
+        input: operation.input,
+        output: operation.output,
+    };
+    operations.iter().map(theirs).collect()
+}
+
+/// The operations as the Rust's round table takes them.
+fn round_operations(operations: &[Operation]) -> Vec<tables::keccak_rnd::KeccakRoundOperation> {
+    let theirs = |operation: &Operation| tables::keccak_rnd::KeccakRoundOperation {
+        timestamp: operation.timestamp,
+        input: operation.input,
+        output: operation.output,
+    };
+    operations.iter().map(theirs).collect()
+}
+
+fn core_rows(name: &str, n: usize, runs: usize) {
+    let operations = operations(n);
+    let theirs = core_operations(&operations);
+    let rust = || tables::keccak::generate_keccak_trace(black_box(&theirs));
+    let ours = (
+        keccak::keccak_table as Allocating,
+        keccak::generate_keccak_trace as Lent,
+    );
+    let size = (n.next_power_of_two(), keccak::NUM_COLUMNS);
+    table(name, &operations, size, runs, ours, rust);
+}
+
+fn round_rows(name: &str, n: usize, runs: usize) {
+    let operations = operations(n);
+    let theirs = round_operations(&operations);
+    let rust = || tables::keccak_rnd::generate_keccak_rnd_trace(black_box(&theirs));
+    let ours = (
+        keccak_rnd::keccak_rnd_table as Allocating,
+        keccak_rnd::generate_keccak_rnd_trace as Lent,
+    );
+    let size = ((24 * n).next_power_of_two(), keccak_rnd::NUM_COLUMNS);
+    table(name, &operations, size, runs, ours, rust);
+}
+
+/// Our two writers of a table: into memory of its own, and into memory that is lent.
+type Allocating = fn(&[u64]) -> Result<Vec<u64>, Refusal>;
+type Lent = fn(&[u64], &mut [u64]) -> Result<(), Refusal>;
+
 /// A table writer's four times, and its two ratios.
-fn table(name: &str, rows: usize, times: [Duration; 4]) {
-    let [allocating, lent, rust, zeros] = times;
+fn table<T>(
+    name: &str,
+    operations: &[Operation],
+    (rows, columns): (usize, usize),
+    runs: usize,
+    (allocating, lent): (Allocating, Lent),
+    rust: impl Fn() -> T,
+) {
+    let ops = flat(operations);
+    let words = rows * columns;
+    let mut kept = vec![1; words];
+    println!("{name}, {} operations, {rows} rows: time of a row", operations.len());
+    let [allocating, lent, rust, zeros] = best(
+        runs,
+        [
+            Box::new(|| time(|| allocating(black_box(&ops)))),
+            Box::new(|| time(|| lent(black_box(&ops), black_box(&mut kept)))),
+            Box::new(|| time(&rust)),
+            Box::new(|| time(|| vec![0u64; black_box(words)])),
+        ],
+    );
     line("ours, with an allocation", allocating, rows);
     line("ours, into lent memory", lent, rows);
     line("the Rust, which allocates", rust, rows);
     line("allocating zeros alone", zeros, rows);
     ratio(name, allocating, rust);
     ratio(&format!("{name}-lent"), lent, rust);
-}
-
-fn core_rows(name: &str, n: usize, runs: usize) {
-    let rows = n.next_power_of_two();
-    let operations = operations(n);
-    let ops = flat(&operations);
-    let theirs: Vec<tables::keccak::KeccakOperation> = operations
-        .iter()
-        .map(|operation| tables::keccak::KeccakOperation {
-            timestamp: operation.timestamp,
-            state_addr: operation.address,
-            input: operation.input,
-            output: operation.output,
-        })
-        .collect();
-    let words = rows * keccak::NUM_COLUMNS;
-    let mut lent = vec![1; words];
-    println!("{name}, {n} operations, {rows} rows: time of a row");
-    let times = best(
-        runs,
-        [
-            Box::new(|| time(|| keccak::keccak_table(black_box(&ops)))),
-            Box::new(|| time(|| keccak::generate_keccak_trace(black_box(&ops), black_box(&mut lent)))),
-            Box::new(|| time(|| tables::keccak::generate_keccak_trace(black_box(&theirs)))),
-            Box::new(|| time(|| vec![0u64; black_box(words)])),
-        ],
-    );
-    table(name, rows, times);
-}
-
-fn round_rows(name: &str, n: usize, runs: usize) {
-    let rows = (24 * n).next_power_of_two();
-    let operations = operations(n);
-    let ops = flat(&operations);
-    let theirs: Vec<tables::keccak_rnd::KeccakRoundOperation> = operations
-        .iter()
-        .map(|operation| tables::keccak_rnd::KeccakRoundOperation {
-            timestamp: operation.timestamp,
-            input: operation.input,
-            output: operation.output,
-        })
-        .collect();
-    let words = rows * keccak_rnd::NUM_COLUMNS;
-    let mut lent = vec![1; words];
-    println!("{name}, {n} operations, {rows} rows: time of a row");
-    let times = best(
-        runs,
-        [
-            Box::new(|| time(|| keccak_rnd::keccak_rnd_table(black_box(&ops)))),
-            Box::new(|| time(|| keccak_rnd::generate_keccak_rnd_trace(black_box(&ops), black_box(&mut lent)))),
-            Box::new(|| time(|| tables::keccak_rnd::generate_keccak_rnd_trace(black_box(&theirs)))),
-            Box::new(|| time(|| vec![0u64; black_box(words)])),
-        ],
-    );
-    table(name, rows, times);
 }
 
 /// All 2^20 bitwise rows, one call each: ours into a lent row of 11 words, theirs a returned array.
@@ -120,10 +132,8 @@ fn bitwise_rows() {
             black_box(tables::bitwise::generate_bitwise_row(black_box(index)));
         }
     };
-    let [ours, rust] = best(LARGE_RUNS, [Box::new(|| time(ours)), Box::new(|| time(rust))]);
-    line("ours, into a lent row", ours, bitwise::NUM_ROWS);
-    line("the Rust, a returned array", rust, bitwise::NUM_ROWS);
-    ratio("bitwise", ours, rust);
+    let (ours, rust) = (("ours, into a lent row", ours), ("the Rust, a returned array", rust));
+    both("bitwise", LARGE_RUNS, bitwise::NUM_ROWS, ours, rust);
 }
 
 /// The constant table with its multiplicities, a thousand times; both allocate it.
@@ -145,8 +155,5 @@ fn constant_table() {
             black_box(trace);
         }
     };
-    let [ours, rust] = best(LARGE_RUNS, [Box::new(|| time(ours)), Box::new(|| time(rust))]);
-    line("ours", ours, TIMES);
-    line("the Rust", rust, TIMES);
-    ratio("constants", ours, rust);
+    both("constants", LARGE_RUNS, TIMES, ("ours", ours), ("the Rust", rust));
 }

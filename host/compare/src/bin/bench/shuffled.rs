@@ -20,16 +20,9 @@ pub const CALLS: usize = 100;
 pub fn run(calls: usize) {
     let mut words = Words::new(7);
     let ordered = Tables::written(calls, &mut words);
+    let [by_calls, by_rows, dropped] = &shuffled(&ordered, calls, &mut words);
     let rows = ordered.core.len() / keccak::NUM_COLUMNS + ordered.round.len() / keccak_rnd::NUM_COLUMNS;
     println!("shuffled, {calls} calls, {rows} rows: time in all, and of a row");
-
-    let call = keccak_rnd::ROUNDS * keccak_rnd::NUM_COLUMNS;
-    let mut by_calls = ordered.clone();
-    shuffle(&mut by_calls.round[..calls * call], call, &mut words);
-    let mut by_rows = ordered.clone();
-    shuffle(&mut by_rows.round, keccak_rnd::NUM_COLUMNS, &mut words);
-    let mut dropped = by_rows.clone();
-    clear_an_active_row(&mut dropped.round, &mut words);
 
     // Many calls take long enough for one run to tell.
     let runs = (1000 / calls.max(1)).clamp(1, 5);
@@ -39,9 +32,9 @@ pub fn run(calls: usize) {
         runs,
         [
             Box::new(|| holds(&ordered)),
-            Box::new(|| holds(&by_calls)),
-            Box::new(|| holds(&by_rows)),
-            Box::new(|| fails(&dropped)),
+            Box::new(|| holds(by_calls)),
+            Box::new(|| holds(by_rows)),
+            Box::new(|| fails(dropped)),
         ],
     );
     let names = [
@@ -57,6 +50,18 @@ pub fn run(calls: usize) {
     for (name, time) in names.into_iter().zip(times).skip(1) {
         ratio(name, time, times[0]);
     }
+}
+
+/// The three tables that leave the order.
+fn shuffled(ordered: &Tables, calls: usize, words: &mut Words) -> [Tables; 3] {
+    let call = keccak_rnd::ROUNDS * keccak_rnd::NUM_COLUMNS;
+    let mut by_calls = ordered.clone();
+    shuffle(&mut by_calls.round[..calls * call], call, words);
+    let mut by_rows = ordered.clone();
+    shuffle(&mut by_rows.round, keccak_rnd::NUM_COLUMNS, words);
+    let mut dropped = by_rows.clone();
+    clear_an_active_row(&mut dropped.round, words);
+    [by_calls, by_rows, dropped]
 }
 
 /// Clears one of the active rows, drawn.

@@ -17,7 +17,7 @@ use compare::inputs::Words;
 use keccak_tables::keccak::LAST_ADDRESS;
 use keccak_tables::operation_file::{RECORD_BYTES, Tally, write_operations};
 
-use crate::timing::{best, line, ratio, time};
+use crate::timing::{best, both, line, ratio, time};
 
 /// The bytes of a file where none are given; it has as many whole records as go into them, and at least one.
 pub const BYTES: usize = 1_000_000_000;
@@ -60,16 +60,15 @@ pub fn run(bytes: usize) {
 
 fn tally_program(file: &File, records: usize) {
     println!("tally-program, the same file: time of a record");
-    let [ours, rust] = best(
+    let ours = || counted(program(file), records);
+    let rust = || counted(rust(file), records);
+    both(
+        "tally-program",
         RUNS,
-        [
-            Box::new(|| time(|| counted(program(file), records))),
-            Box::new(|| time(|| counted(rust(file), records))),
-        ],
+        records,
+        ("the program", ours),
+        ("the Rust", rust),
     );
-    line("the program", ours, records);
-    line("the Rust", rust, records);
-    ratio("tally-program", ours, rust);
 }
 
 /// A file of so many records, without a name.

@@ -41,6 +41,20 @@ pub fn time<T>(call: impl FnOnce() -> T) -> Duration {
     time
 }
 
+/// Ours and theirs on `items` items, each with its name: both times and their ratio.
+pub fn both<A, B>(
+    name: &str,
+    runs: usize,
+    items: usize,
+    (our_name, mut ours): (&str, impl FnMut() -> A),
+    (their_name, mut theirs): (&str, impl FnMut() -> B),
+) {
+    let [ours, theirs] = best(runs, [Box::new(|| time(&mut ours)), Box::new(|| time(&mut theirs))]);
+    line(our_name, ours, items);
+    line(their_name, theirs, items);
+    ratio(name, ours, theirs);
+}
+
 /// The best of some runs of each call, one after the other in turn.
 pub fn best<const N: usize>(runs: usize, mut calls: [Box<dyn FnMut() -> Duration + '_>; N]) -> [Duration; N] {
     let mut best = [Duration::MAX; N];

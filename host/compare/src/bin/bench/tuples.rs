@@ -10,9 +10,9 @@
 use std::hint::black_box;
 
 use compare::evaluated::{CORE, ROUND, Table};
+use oracle::BusInteraction;
 use oracle::tables::types::FE;
 use oracle::tables::{keccak, keccak_rnd};
-use stark::lookup::BusInteraction;
 
 use crate::timing::{best, line, ratio, time};
 use crate::values::rows;
@@ -30,43 +30,49 @@ fn tuples(name: &str, table: &Table, interactions: &[BusInteraction]) {
     let words = &rows(table)[..ROWS * table.columns];
     let elements: Vec<FE> = words.iter().copied().map(FE::from).collect();
     println!("{name}, {ROWS} rows: time of a row's {} tuples", table.num_tuples);
-
-    let ours = || {
-        let mut out = [0; 256];
-        for row in words.chunks_exact(table.columns) {
-            for index in 0..table.num_tuples {
-                let _ = black_box((table.tuple)(black_box(row), index, 11, &mut out));
-                black_box(&out);
-            }
-        }
-    };
     let rust = || {
         let mut out = [FE::zero(); 256];
         for row in elements.chunks_exact(table.columns) {
-            for interaction in interactions {
-                let _ = black_box(oracle::evaluate(black_box(interaction), row, &mut out));
-                black_box(&out);
-            }
+            evaluate_all(interactions, row, &mut out);
         }
     };
-    let at_once = || {
-        let mut out = vec![0; table.tuple_words];
-        for row in words.chunks_exact(table.columns) {
-            let _ = black_box((table.tuples)(black_box(row), 11, &mut out));
-            black_box(&out);
-        }
-    };
-    let [ours, at_once, rust] = best(
+    let [by_index, at_once, rust] = best(
         RUNS,
         [
-            Box::new(|| time(ours)),
-            Box::new(|| time(at_once)),
+            Box::new(|| time(|| by_index(table, words))),
+            Box::new(|| time(|| at_once(table, words))),
             Box::new(|| time(rust)),
         ],
     );
-    line("ours, by index", ours, ROWS);
+    line("ours, by index", by_index, ROWS);
     line("ours, at once", at_once, ROWS);
     line("the Rust", rust, ROWS);
-    ratio(name, ours, rust);
+    ratio(name, by_index, rust);
     ratio(&format!("{name}-at-once"), at_once, rust);
+}
+
+fn by_index(table: &Table, words: &[u64]) {
+    let mut out = [0; 256];
+    for row in words.chunks_exact(table.columns) {
+        for index in 0..table.num_tuples {
+            let _ = black_box((table.tuple)(black_box(row), index, 11, &mut out));
+            black_box(&out);
+        }
+    }
+}
+
+fn at_once(table: &Table, words: &[u64]) {
+    let mut out = vec![0; table.tuple_words];
+    for row in words.chunks_exact(table.columns) {
+        let _ = black_box((table.tuples)(black_box(row), 11, &mut out));
+        black_box(&out);
+    }
+}
+
+/// The Rust's side: every interaction on a row of elements.
+pub fn evaluate_all(interactions: &[BusInteraction], row: &[FE], out: &mut [FE]) {
+    for interaction in interactions {
+        let _ = black_box(oracle::evaluate(black_box(interaction), row, out));
+        black_box(&*out);
+    }
 }

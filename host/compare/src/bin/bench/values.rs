@@ -10,13 +10,12 @@ use std::hint::black_box;
 
 use compare::evaluated::{CORE, ROUND, Table};
 use compare::inputs::Words;
-use math::field::goldilocks::GoldilocksField;
+use oracle::RowConstraints;
 use oracle::tables::keccak::KeccakConstraints;
 use oracle::tables::keccak_rnd::KeccakRndConstraints;
-use oracle::tables::types::{FE, GoldilocksExtension};
-use stark::constraints::builder::{ConstraintBuilder, ConstraintSet};
+use oracle::tables::types::FE;
 
-use crate::timing::{best, line, ratio, time};
+use crate::timing::both;
 
 const RUNS: usize = 1000;
 
@@ -25,7 +24,7 @@ pub fn run() {
     values("round-values", &ROUND, &KeccakRndConstraints);
 }
 
-fn values(name: &str, table: &Table, constraints: &impl ConstraintSet<GoldilocksField, GoldilocksExtension>) {
+fn values(name: &str, table: &Table, constraints: &impl RowConstraints) {
     let words = rows(table);
     let elements: Vec<FE> = words.iter().copied().map(FE::from).collect();
     let rows = words.len() / table.columns;
@@ -41,54 +40,14 @@ fn values(name: &str, table: &Table, constraints: &impl ConstraintSet<Goldilocks
     let rust = || {
         let mut out = [FE::zero(); 256];
         for row in elements.chunks_exact(table.columns) {
-            constraints.eval(&mut RowBuilder {
-                row: black_box(row),
-                values: &mut out[..table.num_values],
-            });
+            oracle::evaluate_constraints(constraints, black_box(row), &mut out[..table.num_values]);
             black_box(&out);
         }
     };
-    let [ours, rust] = best(RUNS, [Box::new(|| time(ours)), Box::new(|| time(rust))]);
-    line("ours", ours, rows);
-    line("the Rust", rust, rows);
-    ratio(name, ours, rust);
+    both(name, RUNS, rows, ("ours", ours), ("the Rust", rust));
 }
 
 /// The written table that both evaluate: 64 core rows, or 128 round rows.
 pub fn rows(table: &Table) -> Vec<u64> {
     (table.written)(&Words::new(7).operations(table.operations)).expect("drawn operations are accepted")
-}
-
-/// A builder whose expressions are their values on a row.
-struct RowBuilder<'a> {
-    row: &'a [FE],
-    values: &'a mut [FE],
-}
-
-impl ConstraintBuilder<GoldilocksField, GoldilocksExtension> for RowBuilder<'_> {
-    type Expr = FE;
-
-    fn main(&self, _offset: usize, column: usize) -> FE {
-        self.row[column]
-    }
-
-    fn const_base(&self, number: u64) -> FE {
-        FE::from(number)
-    }
-
-    fn const_signed(&self, number: i64) -> FE {
-        FE::from_signed(number)
-    }
-
-    fn zero(&self) -> FE {
-        FE::zero()
-    }
-
-    fn one(&self) -> FE {
-        FE::one()
-    }
-
-    fn emit_base(&mut self, index: usize, root: FE) {
-        self.values[index] = root;
-    }
 }

@@ -15,7 +15,7 @@ use compare::verdicts::words;
 use keccak_tables::verdict::verdict;
 use keccak_tables::{keccak, keccak_rnd};
 
-use crate::timing::{best, line, ratio, time};
+use crate::timing::both;
 
 pub fn run() {
     let written = |calls| Tables::written(calls, &mut Words::new(7));
@@ -42,14 +42,7 @@ fn judges(name: &str, tables: &Tables, runs: usize) {
     let answer = judge::verdict(core, round);
     assert_eq!(words(verdict(core, round)), answer.words(), "{name}");
     println!("{name}, {rows} rows, '{answer}': time of a row");
-    let [ours, rust] = best(
-        runs,
-        [
-            Box::new(|| time(|| verdict(black_box(core), black_box(round)))),
-            Box::new(|| time(|| judge::verdict(black_box(core), black_box(round)))),
-        ],
-    );
-    line("ours", ours, rows);
-    line("the independent judge", rust, rows);
-    ratio(name, ours, rust);
+    let ours = || verdict(black_box(core), black_box(round));
+    let other = || judge::verdict(black_box(core), black_box(round));
+    both(name, runs, rows, ("ours", ours), ("the independent judge", other));
 }
