@@ -1,6 +1,7 @@
 /*
  * The proved Keccak tables, by C linkage: the functions of libkeccak_tables.a, which `rt staticlib keccak_tables` makes.
- * crates/keccak_tables/src has the contract of each; host/tests/header.rs holds this page against it.
+ * crates/keccak_tables/src has the contract of each. host/tests/header.rs holds the names, parameters, structs and numbers of this
+ * page against it; the refusals that are said here are tried by the differential runs.
  *
  * A slice is a pointer, then a length: in words of 64 bits, or in bytes where the pointer is one to bytes. The pointer is not
  * NULL, even where the length is 0, and is aligned; a slice that is written overlaps no other slice of the call. That is all
@@ -161,6 +162,8 @@ keccak_tables_number keccak_tables_bitwise_row_index(uint8_t x, uint8_t y, uint8
  * Adds one, mod p, to the counter of a kind of lookup in the row of x, y and z, at row * 10 + kind. Kinds: 0 MSB8, 1 MSB16,
  * 2 ZERO, 3 ARE_BYTES, 4 IS_HALF, 5 IS_B20, 6 HWSL, 7 AND, 8 OR, 9 XOR.
  * 1 kind >= 10, then z >= 16; 3 counters < 10,485,760; 5 that counter is p or more.
+ * A row's counter of kind k belongs in column 11 + k of its 21 columns. ByteAlu (op, a, b, c) is looked up as kind 7 + op at x = a,
+ * y = b, z = 0; AreBytes (a, b) as kind 3 likewise; IsHalfword (h) as kind 4 at x = h mod 256, y = h div 256, z = 0.
  */
 keccak_tables_answer keccak_tables_bitwise_bump(uint64_t *counters, size_t counters_length, size_t kind, uint8_t x, uint8_t y,
                                                 uint8_t z);
@@ -269,11 +272,14 @@ keccak_tables_cursor keccak_tables_tally_start(void);
 
 /*
  * Reads the next piece of the file, cut anywhere; a fault stays what it is. 1 a byte after record 89,478,485; 4 a record's
- * address, once it is read whole; 6 a wrong mark.
+ * address, told when all 418 bytes of the record are read; 6 a wrong mark. A cursor number of 7 or more counts as 6.
  */
 keccak_tables_cursor keccak_tables_tally_feed(keccak_tables_cursor cursor, const uint8_t *bytes, size_t bytes_length);
 
-/* What the file says at its end: the reader's fault, or 6 a cut record, or the sums. */
+/*
+ * What the file says at its end: the reader's fault; 1 more than 89,478,485 records, or bytes after the last of them (only a reader
+ * that no call made); 6 a cut record; or the sums.
+ */
 keccak_tables_sums keccak_tables_tally_finish(keccak_tables_cursor cursor);
 
 /* Writes the operations of a whole file. 1, 4 and 6 as a reader gives them, for the first faulty record; then 3 ops < 52 n. */
