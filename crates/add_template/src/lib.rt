@@ -11,8 +11,8 @@ use templates::AddOperand;
 use templates::Cond;
 ghost use mathlib.Core.Path.{_≡_};
 ghost use Prim.Native.Nat.{_<_};
-ghost use Rattle.field.specs.Field.{p};
-ghost use Rattle.templates.specs.Templates.{carry0, add-pair-carry-hi, emit-add-pair};
+ghost use Rattle.field.specs.Field.{p, fadd};
+ghost use Rattle.templates.specs.Templates.{add-operand-hi, carry0, add-pair-carry-hi, emit-add-pair};
 ghost use Rattle.operand_words.specs.Within.{OperandIn};
 ghost use Rattle.bit_values.specs.Conditions.{CondIn, columnsOf};
 
@@ -32,6 +32,15 @@ pub fn carry0(row: &[u64], lhs: AddOperand, rhs: AddOperand, sum: AddOperand) ->
     })
 }
 
+// The sum of the high words of lhs and rhs.
+fn high_sum(row: &[u64], lhs: AddOperand, rhs: AddOperand) -> Fe
+    requires { ⌜ OperandIn (now row) lhs × OperandIn (now row) rhs ⌝ }
+    ensures sum { λ r. ⌜ r .value ≡ fadd (add-operand-hi (now (row .entry)) lhs) (add-operand-hi (now (row .entry)) rhs) ⌝ }
+    ensures below { λ r. ⌜ r .value < p ⌝ }
+{
+    add_operand_hi(row, lhs).add(add_operand_hi(row, rhs))
+}
+
 // The carry out of the high words.
 pub fn add_pair_carry_hi(row: &[u64], lhs: AddOperand, rhs: AddOperand, sum: AddOperand) -> Fe
     requires { ⌜ OperandIn (now row) lhs × OperandIn (now row) rhs × OperandIn (now row) sum ⌝ }
@@ -39,7 +48,7 @@ pub fn add_pair_carry_hi(row: &[u64], lhs: AddOperand, rhs: AddOperand, sum: Add
     ensures below { λ r. ⌜ r .value < p ⌝ }
 {
     let low = carry0(row, lhs, rhs, sum);
-    let both = add_operand_hi(row, lhs).add(add_operand_hi(row, rhs));
+    let both = high_sum(row, lhs, rhs);
     let gap = both.add(low).sub(add_operand_hi(row, sum));
     gap.mul(Fe {
         value: INV_SHIFT_32,

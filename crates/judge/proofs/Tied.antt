@@ -1,17 +1,24 @@
--- Demand 3 of what the two calls answer and write: `verdict` answers `verdictOf`, and `generate_keccak_rnd_trace` writes
--- the round table of its operations, so what demand3 claims of these definitions holds of the calls. Assumes nothing.
---     Answered    what the contract of `verdict` says of its answer, in its words
---     Wrote       what the contract of `generate_keccak_rnd_trace` says of the words of the table, in its words
-use mathlib.Core.Path.{_≡_, sym, ap, subst, _∙_}
+-- Demand 3 of what the two calls answer and write. Of a call nothing is known but its contract: `Learnt` is what the
+-- `ensures` clauses in `src/` tell a caller, as the toolchain reads them, so from weaker clauses `answered` and `wrote`
+-- would not follow. Assumes nothing.
+--     Answered    a call of `verdict` on a core table and a round table, and its answer
+--     Wrote       a call of `generate_keccak_rnd_trace` on a list and a slice, and what the slice holds when it ends
+-- In both `lent` is the parameters when the call begins and `ended` when it ends, `.0` the first and `.1 .0` the second;
+-- their lifetimes, and where in memory they are, may be any.
+use mathlib.Core.Path.{_≡_, refl, sym, ap, ap₂, subst, _∙_}
 use mathlib.Core.Logic.{_↔_}
-use mathlib.Core.List.{List, _++_, append-nil}
+use mathlib.Core.List.{List, [], _++_, append-nil}
 use mathlib.Core.Option.{Option}
 use Prim.Native.Nat.{ℕ, _*_, _≤_}
 use native.Mathlib.Omega.{arith}
 use lib.ListN.{length, drop-of-length-le}
+use contract.Lifetimes.{Lfts}
+use denote.Triple.Clauses.{AtExit}
+use borrow.Fn.Kinds.{Dens, endedOf}
 use Rattle.lists.proofs.Laws.{length-table}
-use Rattle.answer.specs.Refusal.{overwrite, afterwards}
+use Rattle.answer.specs.Refusal.{overwrite, afterwards, answerOf}
 use Rattle.answer.specs.declared.Refusal.{Refusal}
+use Rattle.answer.specs.declared.Answer.{Answer}
 use Rattle.keccak.specs.Row.{opAt}
 use Rattle.keccak.specs.Refusals.{opCount}
 use Rattle.keccak_rnd.specs.Row.{roundTable, roundHeight, roundRowAt}
@@ -23,12 +30,60 @@ use Rattle.verdict.specs.Claims.{Supposed, Claims, Answers, EachActive, Compute
 use Rattle.verdict.specs.declared.Verdict.{Verdict}
 use Rattle.verdict.specs.declared.Verdict.the-variants.{Holds}
 use Rattle.verdict.proofs.Demand3.{demand3}
+use Rattle.keccak_rnd_trace.proofs.generate_keccak_rnd_trace.Kinds as trace-kinds
+use Rattle.keccak_rnd_trace.proofs.generate_keccak_rnd_trace.Reads as trace
+use Rattle.judge.proofs.verdict.Kinds as verdict-kinds
+use Rattle.judge.proofs.verdict.Reads as verdict
 
-abbrev pub Answered : List ℕ → List ℕ → Verdict → Type 0
-Answered core round v = v ≡ verdictOf core round
+pub record Answered (core round : List ℕ) (v : Verdict) : Type 0 where
+  pub lifetimes : Lfts 2
+  pub lent : Dens lifetimes verdict-kinds.ps
+  pub ended : AtExit (endedOf 2 verdict-kinds.ps verdict-kinds.r) lifetimes
+  pub core-is : lent .0 .now ≡ core
+  pub round-is : lent .1 .0 .now ≡ round
+  pub says : verdict.Learnt lifetimes lent v ended
 
-abbrev pub Wrote : List ℕ → List ℕ → List ℕ → Type 0
-Wrote ops before after = after ≡ roundTraceAfter ops before
+pub answered : {core round : List ℕ} {v : Verdict} → Answered core round v → v ≡ verdictOf core round
+answered c = c .says ∙ ap₂ verdictOf (c .core-is) (c .round-is)
+
+pub record Wrote (ops before after : List ℕ) : Type 0 where
+  pub lifetimes : Lfts 2
+  pub lent : Dens lifetimes trace-kinds.ps
+  pub answer : Answer
+  pub ended : AtExit (endedOf 2 trace-kinds.ps trace-kinds.r) lifetimes
+  pub ops-are : lent .0 .now ≡ ops
+  pub before-is : lent .1 .0 .now ≡ before
+  pub after-is : ended .1 .0 .now ≡ after
+  pub says : trace.Learnt lifetimes lent answer ended
+
+pub wrote : {ops before after : List ℕ} → Wrote ops before after → after ≡ roundTraceAfter ops before
+wrote c = sym (c .after-is) ∙ c .says .1 ∙ ap₂ roundTraceAfter (c .ops-are) (c .before-is)
+
+-- and nothing else is asked of a call: on any two tables one that answers `verdictOf`, on any list and slice one that
+-- leaves `roundTraceAfter` in it, meets the contract
+pub some-answered : (core round : List ℕ) → Answered core round (verdictOf core round)
+some-answered core round =
+    record {
+      lifetimes = ([], ([], tt));
+      lent = (record { ptr = (0, 0); name = 0; now = core }, (record { ptr = (0, 0); name = 0; now = round }, tt));
+      ended = (record { ptr = (0, 0); name = 0; now = core }, (record { ptr = (0, 0); name = 0; now = round }, tt));
+      core-is = refl;
+      round-is = refl;
+      says = refl;
+    }
+
+pub some-wrote : (ops before : List ℕ) → Wrote ops before (roundTraceAfter ops before)
+some-wrote ops before =
+    record {
+      lifetimes = ([], ([], tt));
+      lent = (record { ptr = (0, 0); name = 0; now = ops }, (record { ptr = (0, 0); name = 0; now = before }, tt));
+      answer = answerOf (roundTraceRefusal (length before) ops);
+      ended = (record { ptr = (0, 0); name = 0; now = ops }, (record { ptr = (0, 0); name = 0; now = roundTraceAfter ops before }, tt));
+      ops-are = refl;
+      before-is = refl;
+      after-is = refl;
+      says = (refl, refl);
+    }
 
 -- new words over a slice that is as long as they are
 whole : (new old : List ℕ) → length old ≡ length new → overwrite new old ≡ new
@@ -42,12 +97,12 @@ module _ (core : List ℕ) (supposed : Supposed core) where
   -- exactly for a round table that passes and balances does the call answer 'holds', with the number of active core rows
   pub holds-answered : (round : List ℕ) (v : Verdict) → Answered core round v → (v ≡ Holds (actives coreLayout core)) ↔ Answers 24 core round
   holds-answered round v a = (
-    (λ e. claims .verdict round .0 (sym a ∙ e)),
-    λ h. a ∙ claims .verdict round .1 h,
+    (λ e. claims .verdict round .0 (sym (answered a) ∙ e)),
+    λ h. answered a ∙ claims .verdict round .1 h,
   )
 
   pub number-answered : (round : List ℕ) (v : Verdict) (n : ℕ) → Answered core round v → v ≡ Holds n → n ≡ actives coreLayout core
-  number-answered round v n a e = claims .number round n (sym a ∙ e)
+  number-answered round v n a e = claims .number round n (sym (answered a) ∙ e)
 
   -- the writer, called with the active core rows as operations and a table as long as ours, writes our table
   pub ours-written : (before after : List ℕ) → length before ≡ length (ourRounds 24 4 core) → Wrote (operations core) before after →
@@ -56,7 +111,7 @@ module _ (core : List ℕ) (supposed : Supposed core) where
   ours-written before after e w =
       let h : ℕ = roundHeight 24 4 (opCount (operations core)) in
       let n : h * 1480 ≤ length before = omega (arith, e, length-table h 1480 (roundRowAt 24 (opCount (operations core)) (opAt (operations core)))) in
-      w
+      wrote w
       ∙ ap (λ (o : Option Refusal). afterwards o (overwrite (ourRounds 24 4 core) before) before) (claims .none-refused (length before) _ n)
       ∙ whole (ourRounds 24 4 core) before e
 

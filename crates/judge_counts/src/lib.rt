@@ -52,8 +52,8 @@ fn add(y: &[u64], send: Port, receive: Port, x: &[u64], s: Port, t: Counts) -> C
     }
 }
 
-// Whether the row y has the timestamp of the row x and is active. MU comes last: it stands on another page than the
-// timestamp.
+// Whether the row y has the timestamp of the row x and is active. MU comes last: in a round row it stands 1,479 words
+// after the timestamp begins, on another page.
 fn of_call(x: &[u64], y: &[u64], mu: usize) -> bool
     requires { ⌜ (2 ≤ length (now x)) × (2 ≤ length (now y)) × (mu < length (now y)) ⌝ }
     ensures { λ r. ⌜ r ≡ (eqb (word (now (y .entry)) mu) 1 && sameStamp (now (x .entry)) (now (y .entry))) ⌝ }

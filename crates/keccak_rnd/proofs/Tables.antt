@@ -16,7 +16,7 @@ use Rattle.fips202.specs.Fips.{RHO}
 use Rattle.fips202.specs.Lanes.{lane, grid, Lanes}
 use Rattle.fips202.proofs.Steps.{lane-of, lane-grid, grid-same}
 use Rattle.keccak_rnd.specs.Row.{cxzByte, cByte, cxzRightBit, rotatedC, dByte, thetaLanes, rotLeftByte, rotRightByte, piLanes, chiLanes, byLane, roundGroups}
-use Rattle.keccak_rnd.specs.Parts.{stagesOf, cxzTable, leftTable, rightTable, dTable, parityBytes, leftBytes, rightBits, rotatedFrom, Joins, turnBytes, stageCell, byteCell, bitCell, frontGroups, rhoGroups, chiGroups, leftLane, rightLane}
+use Rattle.keccak_rnd.specs.Parts.{stagesOf, cxzTable, leftTable, rightTable, dTable, parityBytes, leftBytes, rightBits, rotatedFrom, Joins, dBytes, stageCell, byteCell, bitCell, frontGroups, rhoGroups, chiGroups, leftLane, rightLane}
 use Rattle.keccak_rnd.proofs.Lanes.{rotated-lt}
 
 -- ---- an array of four, five, eight elements by its places
@@ -78,11 +78,11 @@ left-eight c p q r s =
     eight (leftByte (word c) 1) (h₀ .0) (h₀ .1) (h₁ .0) (h₁ .1) (h₂ .0) (h₂ .1) (h₃ .0) (h₃ .1)
 
 -- ---- D of a column
-pub turn-eight : (c r : List ℕ) (g : ℕ → ℕ) → r ≡ tab 8 g
+pub d-eight : (c r : List ℕ) (g : ℕ → ℕ) → r ≡ tab 8 g
     → bitXor (word c 0) (word r 0) ∷ bitXor (word c 1) (word r 1) ∷ bitXor (word c 2) (word r 2) ∷ bitXor (word c 3) (word r 3)
     ∷ bitXor (word c 4) (word r 4) ∷ bitXor (word c 5) (word r 5) ∷ bitXor (word c 6) (word r 6) ∷ bitXor (word c 7) (word r 7) ∷ []
     ≡ tab 8 (λ b. bitXor (word c b) (g b))
-turn-eight c r g e = eight (λ b. bitXor (word c b) (g b)) (at 0 (omega arith)) (at 1 (omega arith)) (at 2 (omega arith)) (at 3 (omega arith)) (at 4 (omega arith)) (at 5 (omega arith)) (at 6 (omega arith)) (at 7 (omega arith))
+d-eight c r g e = eight (λ b. bitXor (word c b) (g b)) (at 0 (omega arith)) (at 1 (omega arith)) (at 2 (omega arith)) (at 3 (omega arith)) (at 4 (omega arith)) (at 5 (omega arith)) (at 6 (omega arith)) (at 7 (omega arith))
   where
     at : (b : ℕ) → b < 8 → bitXor (word c b) (word r b) ≡ bitXor (word c b) (g b)
     at b h = ap (bitXor (word c b)) (ap (λ (l : List ℕ). word l b) e ∙ getD-tab 8 g b 0 h)
@@ -147,10 +147,10 @@ module _ (s : List ℕ) where
       subst (λ (n : ℕ). n < 256) (sym (joined-is x (2 * h) hx (omega arith)) ∙ even-joined (getD (leftTable s) x []) (getD (rightTable s) x []) h)
       (rotated-lt s x hs hx (2 * h) (omega arith))
 
-  pub d-table-is : tab 5 (turnBytes (cxzTable s) (leftTable s) (rightTable s)) ≡ dTable s
-  unfolding turnBytes dTable dByte
+  pub d-table-is : tab 5 (dBytes (cxzTable s) (leftTable s) (rightTable s)) ≡ dTable s
+  unfolding dBytes dTable dByte
   d-table-is =
-      tab-same 5 (turnBytes (cxzTable s) (leftTable s) (rightTable s)) (λ x. tab 8 (dByte s x))
+      tab-same 5 (dBytes (cxzTable s) (leftTable s) (rightTable s)) (λ x. tab 8 (dByte s x))
       (λ x hx. tab-same 8
       (λ b. bitXor (word (parityBytes (cxzTable s) ((x + 4) % 5)) b) (rotatedFrom (getD (leftTable s) ((x + 1) % 5) []) (getD (rightTable s) ((x + 1) % 5) []) b))
       (dByte s x)
@@ -234,8 +234,8 @@ joins-of s hs {left} {right} p q x hx =
     (subst (λ (r : List (List ℕ)). Joins (getD (leftTable s) x []) (getD r x [])) (sym q) (joins s hs x hx))
 
 pub d-is : (s : List ℕ) {cxz : List (List (List ℕ))} {left right d : List (List ℕ)} → cxz ≡ cxzTable s → left ≡ leftTable s → right ≡ rightTable s
-    → d ≡ tab 5 (turnBytes cxz left right) → d ≡ dTable s
-d-is s p q r e = e ∙ (λ t. tab 5 (turnBytes (p t) (q t) (r t))) ∙ d-table-is s
+    → d ≡ tab 5 (dBytes cxz left right) → d ≡ dTable s
+d-is s p q r e = e ∙ (λ t. tab 5 (dBytes (p t) (q t) (r t))) ∙ d-table-is s
 
 pub front-same : (stamp : ℕ → ℕ) (n : ℕ) (s : List ℕ) {cxz : List (List (List ℕ))} {left right d : List (List ℕ)} → cxz ≡ cxzTable s → left ≡ leftTable s → right ≡ rightTable s → d ≡ dTable s
     → rowOf (frontGroups stamp n s cxz left right d) ≡ rowOf (frontGroups stamp n s (cxzTable s) (leftTable s) (rightTable s) (dTable s))

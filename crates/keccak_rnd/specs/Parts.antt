@@ -49,8 +49,8 @@ abbrev pub Joins : List ℕ → List ℕ → Type 0
 Joins left right = (h : ℕ) → h < 4 → word left (2 * h) + word right ((h + 3) % 4) < 256
 
 -- D[x] from the tables
-unfoldable pub turnBytes : List (List (List ℕ)) → List (List ℕ) → List (List ℕ) → ℕ → List ℕ
-turnBytes cxz left right x =
+unfoldable pub dBytes : List (List (List ℕ)) → List (List ℕ) → List (List ℕ) → ℕ → List ℕ
+dBytes cxz left right x =
     tab 8
     (λ b.
     bitXor (word (parityBytes cxz ((x + 4) % 5)) b)

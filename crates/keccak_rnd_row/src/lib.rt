@@ -114,7 +114,7 @@ fn put_front(
 fn put_theta(row: &mut [u64], at: usize, timestamp: u64, round: u64, s: [u64; 25]) -> [[u8; 8]; 5]
     requires { ⌜ at + 463 ≤ length (now row) ⌝ }
     ensures row { λ _. ⌜ now (row .exit) ≡ sets (now (row .entry)) at (rowOf (frontGroups (wordAt timestamp) round s (cxzTable s) (leftTable s) (rightTable s) (dTable s))) ⌝ }
-    ensures turns { λ d. ⌜ d ≡ dTable s ⌝ }
+    ensures d { λ d. ⌜ d ≡ dTable s ⌝ }
 {
     let cxz = cxz_table(s);
     let left = left_table(cxz);

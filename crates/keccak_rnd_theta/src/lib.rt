@@ -9,7 +9,7 @@ ghost use lib.ListN.{getD};
 ghost use Rattle.lists.specs.Tab.{tab, word};
 ghost use Rattle.bits.specs.Bits.{laneOf};
 ghost use Rattle.fips202.specs.Lanes.{grid, lane};
-ghost use Rattle.keccak_rnd.specs.Parts.{Joins, rotatedFrom, turnBytes};
+ghost use Rattle.keccak_rnd.specs.Parts.{Joins, rotatedFrom, dBytes};
 
 // C[x] rotated by one: an even byte takes the carry of the halfword below it, byte 0 that of halfword 3.
 fn rotated(left: [u8; 8], right: [u8; 4]) -> [u8; 8]
@@ -29,7 +29,7 @@ fn rotated(left: [u8; 8], right: [u8; 4]) -> [u8; 8]
 }
 
 // D of one column: C of the column before it, plus the rotated C of the column after it.
-fn turn(before: [u8; 8], left: [u8; 8], right: [u8; 4]) -> [u8; 8]
+fn d_bytes(before: [u8; 8], left: [u8; 8], right: [u8; 4]) -> [u8; 8]
     requires { ⌜ Joins left right ⌝ }
     ensures { λ r. ⌜ r ≡ tab 8 (λ b. bitXor (word before b) (rotatedFrom left right b)) ⌝ }
 {
@@ -49,14 +49,14 @@ fn turn(before: [u8; 8], left: [u8; 8], right: [u8; 4]) -> [u8; 8]
 // D of the five columns.
 pub fn d_table(cxz: [[[u8; 8]; 4]; 5], left: [[u8; 8]; 5], right: [[u8; 4]; 5]) -> [[u8; 8]; 5]
     requires { ⌜ ((x : ℕ) → x < 5 → Joins (getD left x []) (getD right x [])) ⌝ }
-    ensures { λ r. ⌜ r ≡ tab 5 (turnBytes cxz left right) ⌝ }
+    ensures { λ r. ⌜ r ≡ tab 5 (dBytes cxz left right) ⌝ }
 {
     [
-        turn(cxz[4][3], left[1], right[1]),
-        turn(cxz[0][3], left[2], right[2]),
-        turn(cxz[1][3], left[3], right[3]),
-        turn(cxz[2][3], left[4], right[4]),
-        turn(cxz[3][3], left[0], right[0]),
+        d_bytes(cxz[4][3], left[1], right[1]),
+        d_bytes(cxz[0][3], left[2], right[2]),
+        d_bytes(cxz[1][3], left[3], right[3]),
+        d_bytes(cxz[2][3], left[4], right[4]),
+        d_bytes(cxz[3][3], left[0], right[0]),
     ]
 }
 
@@ -75,12 +75,12 @@ fn lane_of(c: [u8; 8]) -> u64
 pub fn after_theta(s: [u64; 25], d: [[u8; 8]; 5]) -> State
     ensures { λ t. ⌜ t .lanes ≡ grid (λ x y. bitXor (lane s x y) (laneOf (word (getD d x [])))) ⌝ }
 {
-    let turns = [
+    let d_lanes = [
         lane_of(d[0]),
         lane_of(d[1]),
         lane_of(d[2]),
         lane_of(d[3]),
         lane_of(d[4]),
     ];
-    State { lanes: s }.theta_planes(turns)
+    State { lanes: s }.theta_planes(d_lanes)
 }

@@ -19,7 +19,7 @@ ghost use lib.ListN.{length};
 
 const FACTOR: u64 = 6364136223846793005;
 
-// The number of the Keccak system call, 3 * 2^32 + 11.
+// A number for the Keccak system call, 3 * 2^32 + 11: made up, since the real one is not published.
 const SYSCALL: u64 = 12884901899;
 
 // FACTOR · x + y mod p.

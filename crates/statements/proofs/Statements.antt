@@ -257,7 +257,7 @@ pub case-late : (core round : List ℕ) → ToCoreBalance (coreKind 24) roundKin
     (r i : ℕ) × ((verdictOf core round ≡ Unbalanced Core r i) ⊎ (verdictOf core round ≡ Unbalanced Round r i))
 case-late = late-row 24
 
--- ---- the code's tie to demand 3 (judge/proofs/Tied.antt: `Answered` and `Wrote` are the two contracts' words)
+-- ---- the code's tie to demand 3 (judge/proofs/Tied.antt): `Answered` and `Wrote` are calls, known by their contracts
 -- "Exactly for such a round table the verdict on both tables is 'holds' with the number of active core rows": of what
 -- `verdict` answers
 module _ (core : List ℕ) (supposed : Supposed core) where

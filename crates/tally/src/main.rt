@@ -33,8 +33,8 @@ fn read_some(c: Cursor, buf: &mut [u8]) -> Turn
     }
 }
 
-// Reads to the end, a failed read, a fault, or past the most bytes that a file may have. The reader stands where the
-// bytes that came take it.
+// Reads until nothing comes, a fault, or past the most bytes that a file may have. The contract says that there are bytes
+// which take the reader where it stands, not that they are those that came: that is in what each read feeds.
 fn read_all() -> Turn
     ensures { λ r. ⌜ ((file : List ℕ) × (r .cursor ≡ feedOf fileStart file) × (0 < r .got → isRefused (r .cursor) ≡ false → 37402006731 ≤ length file)) ⌝ }
 {

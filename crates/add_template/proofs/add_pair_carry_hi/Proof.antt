@@ -10,20 +10,14 @@ use Rattle.add_template.proofs.add_pair_carry_hi.Tie as tie
 carry0-requires : tie.Need-carry0-requires
 carry0-requires c κs = search needs
 
-add-operand-hi-requires : tie.Need-add-operand-hi-requires
-add-operand-hi-requires c κs = search needs
-
-add-operand-hi-requires-2 : tie.Need-add-operand-hi-requires-2
-add-operand-hi-requires-2 c κs = search needs
+high-sum-requires : tie.Need-high-sum-requires
+high-sum-requires c κs = search needs
 
 add-requires : tie.Need-add-requires
 add-requires c κs = search needs
 
-add-requires-2 : tie.Need-add-requires-2
-add-requires-2 c κs = search needs
-
-add-operand-hi-requires-3 : tie.Need-add-operand-hi-requires-3
-add-operand-hi-requires-3 c κs = search needs
+add-operand-hi-requires : tie.Need-add-operand-hi-requires
+add-operand-hi-requires c κs = search needs
 
 sub-requires : tie.Need-sub-requires
 sub-requires c κs = search needs
@@ -36,28 +30,17 @@ unfolding add-pair-carry-hi
 returns c =
     let third = c .before .before in
     let all = third .before in
-    let both = all .before in
-    let second = both .before in
-    let first = second .before in (
+    let both = all .before in (
       c .mul .ensures .0
           ∙ ap (λ (x : ℕ). fmul x INV-SHIFT-32)
           (c .before .sub .ensures .0
           ∙ ap₂ fsub
-          (all .add2 .ensures .0 ∙ ap₂ fadd (both .add .ensures .0 ∙ ap₂ fadd (first .add-operand-hi .ensures .0) (second .add-operand-hi2 .ensures .0)) (first .before .carry0 .ensures .0))
-          (third .add-operand-hi3 .ensures .0)),
+          (all .add .ensures .0 ∙ ap₂ fadd (both .high-sum .ensures .0) (both .before .carry0 .ensures .0))
+          (third .add-operand-hi .ensures .0)),
       c .mul .ensures .1,
     )
 
 pub add-pair-carry-hi-spec : {M : Type 1} → statement M
 add-pair-carry-hi-spec =
     tie.close
-    (tie.spec
-    carry0-requires
-    add-operand-hi-requires
-    add-operand-hi-requires-2
-    add-requires
-    add-requires-2
-    add-operand-hi-requires-3
-    sub-requires
-    mul-requires
-    returns)
+    (tie.spec carry0-requires high-sum-requires add-requires add-operand-hi-requires sub-requires mul-requires returns)

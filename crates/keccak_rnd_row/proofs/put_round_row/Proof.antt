@@ -1,7 +1,7 @@
 -- `put_round_row` meets its contract: the three parts make the row. Assumes nothing.
-use mathlib.Core.Path.{refl, sym, ap, _∙_}
+use mathlib.Core.Path.{_≡_, refl, sym, ap, _∙_}
 use mathlib.Core.List.{List, []}
-use Prim.Native.Nat.{ℕ, _-_}
+use Prim.Native.Nat.{ℕ, _+_, _-_}
 use native.Mathlib.Nat.{add-zero}
 use lib.Bits.{bitXor}
 use lib.ListN.{getD}
@@ -44,8 +44,21 @@ put-chi-requires c κs = search needs
 same-length : tie.Need-same-length
 same-length c = search needs
 
-returns : tie.Need-returns
+-- the three parts, stored one after the other, are the row
+three-parts : (l : List ℕ) (at : ℕ) {front rho row : List ℕ} (stamp : ℕ → ℕ) (r : ℕ) (s : List ℕ) {t u v : List ℕ} →
+    front ≡ sets l at (rowOf (frontGroups stamp r s (cxzTable s) (leftTable s) (rightTable s) (dTable s))) →
+    rho ≡ sets front (at + 463) (rowOf (rhoGroups t)) →
+    row ≡ sets rho (at + 1063) (rowOf (chiGroups r u v)) →
+    t ≡ thetaLanes s → u ≡ piLanes s → v ≡ chiLanes s →
+    row ≡ sets l at (roundRow stamp r s)
 unfolding roundRow frontGroups rhoGroups chiGroups
+three-parts l at {front} {rho} stamp r s e₁ e₂ e₃ a b c =
+    let w0 = wrote-groups (frontGroups stamp r s (cxzTable s) (leftTable s) (rightTable s) (dTable s)) (wrote-none l at) (sym (add-zero at)) e₁ in
+    let w1 = wrote-groups (rhoGroups (thetaLanes s)) w0 refl (e₂ ∙ ap (λ (x : List ℕ). sets front (at + 463) (rowOf (rhoGroups x))) a) in
+    let w2 = wrote-groups (chiGroups r (piLanes s) (chiLanes s)) w1 refl (e₃ ∙ (λ i. sets rho (at + 1063) (rowOf (chiGroups r (b i) (c i))))) in
+    w2 .is ∙ ap (sets l at) (parts-row s stamp r)
+
+returns : tie.Need-returns
 returns c =
     let c2 = c .before .before in
     let c1 = c2 .before .before .before .before in
@@ -53,17 +66,12 @@ returns c =
     let rp = ch .before in
     let th = rp .before in
     let pt = th .before .before .before in
-    let start = pt .before .before .before in
-    let a = start .args in
+    let a = pt .before .before .before .args in
     let s = a .s in
-    let r = a .round in
     let thetaE = th .after-theta .ensures ∙ ap (λ (d : List (List ℕ)). grid (λ x y. bitXor (lane s x y) (laneOf (word (getD d x []))))) (pt .put-theta .ensures .1) ∙ theta-of s in
     let piE = rp .rho-pi .ensures ∙ ap rhoPiL thetaE in
     let chiE = ch .chi .ensures ∙ ap chiL piE in
-    let w0 = wrote-groups (frontGroups (wordAt (a .timestamp)) r s (cxzTable s) (leftTable s) (rightTable s) (dTable s)) (wrote-none (a .row .now) (a .at)) (sym (add-zero _)) (pt .put-theta .ensures .0) in
-    let w1 = wrote-groups (rhoGroups (thetaLanes s)) w0 refl (c1 .put-rho .ensures ∙ ap (sets _ _) (ap (λ (t : List ℕ). rowOf (rhoGroups t)) thetaE)) in
-    let w2 = wrote-groups (chiGroups r (piLanes s) (chiLanes s)) w1 refl (c2 .put-chi .ensures ∙ ap (sets _ _) (λ t. rowOf (chiGroups r (piE t) (chiE t)))) in
-    w2 .is ∙ ap (sets (a .row .now) (a .at)) (parts-row s (wordAt (a .timestamp)) r)
+    three-parts (a .row .now) (a .at) (wordAt (a .timestamp)) (a .round) s (pt .put-theta .ensures .0) (c1 .put-rho .ensures) (c2 .put-chi .ensures) thetaE piE chiE
 
 pub put-round-row-spec : {M : Type 1} → statement M
 put-round-row-spec =

@@ -1,9 +1,9 @@
--- `turn` meets its contract, byte by byte. Assumes nothing.
+-- `d_bytes` meets its contract, byte by byte. Assumes nothing.
 use Prim.Native.Nat.{_-_}
 use borrow.Author.Needs.{needs}
-use Rattle.keccak_rnd.proofs.Tables.{turn-eight}
-use Rattle.keccak_rnd_theta.proofs.turn.Statement.{statement}
-use Rattle.keccak_rnd_theta.proofs.turn.Tie as tie
+use Rattle.keccak_rnd.proofs.Tables.{d-eight}
+use Rattle.keccak_rnd_theta.proofs.d_bytes.Statement.{statement}
+use Rattle.keccak_rnd_theta.proofs.d_bytes.Tie as tie
 
 rotated-requires : tie.Need-rotated-requires
 rotated-requires c κs = search needs
@@ -57,10 +57,10 @@ array-read-t61 : tie.Need-array-read-t61
 array-read-t61 c = search needs
 
 returns : tie.Need-returns
-returns c = turn-eight (c .before .args .t1) _ _ (c .rotated .ensures)
+returns c = d-eight (c .before .args .t1) _ _ (c .rotated .ensures)
 
-pub turn-spec : {M : Type 1} → statement M
-turn-spec =
+pub d-bytes-spec : {M : Type 1} → statement M
+d-bytes-spec =
     tie.close
     (tie.spec
     rotated-requires
