@@ -20,6 +20,7 @@ use lib.ListN.{length}
 use Rattle.lists.specs.Tab.{pick, word}
 use Rattle.lists.specs.First.{any}
 use Rattle.lists.specs.Failure.{Separates}
+use Rattle.lists.proofs.Then.{by-le}
 use Rattle.lists.proofs.Decides.{decides-eq, decides-map, decides-no}
 use Rattle.lists.proofs.Failure.{at-none-iff, at-some-iff, in-none-iff, in-some-iff, separates-map, separates-no, separates-yes, separates-le, separates-and, separates-any}
 use Rattle.field.specs.Field.{p}
@@ -46,7 +47,6 @@ use Rattle.verdict.specs.declared.Verdict.the-variants.{Refused, Value, 
 use Rattle.verdict.proofs.Judge.{even-balanced}
 use Rattle.verdict.proofs.Stages.{passes, answers, core-refused, round-refused, both-whole}
 use Rattle.verdict.proofs.Tuples.{core-bus, round-bus}
-use Rattle.verdict.proofs.Rows.{lt-or-ge}
 
 -- ---- each test separates what fails from what holds
 equal-separates : (a b : ℕ) → Separates (eqb a b) (a ≡ b) (a ≡ b → ⊥)
@@ -325,7 +325,7 @@ module _ (K L : Kind) (core round : List ℕ) where
       go none n = absurd (no-repeat (K .layout) core .0 n q r l a b e)
       go (some s) n =
           let f = a-repeat (K .layout) core s .0 n in
-          elim (lt-or-ge r s) [ inl k ↦ absurd (f .lower r k b q l a e) | inr k ↦ (s, k, f .fails, said (Repeated s) (h, f)) ]
+          by-le s r (λ k. (s, k, f .fails, said (Repeated s) (h, f))) (λ k. absurd (f .lower r k b q l a e))
 
   -- both tables pass and the timestamps differ, but the bus is not balanced: the verdict names an unbalanced tuple
   pub out-of-balance : ToCoreBalance K L core round → (Balanced K L core round → ⊥) →
