@@ -14,20 +14,20 @@ use mathlib.Core.Option.{Option, none, some}
 use mathlib.Core.List.{List}
 use Prim.Native.Nat.{ℕ, zero, suc, _+_, _%_, _≤_, _<_}
 use native.Mathlib.Omega.{arith}
-use borrow.Author.Tests.{eqb-true, eqb-false}
 use lib.Dec.{eqb}
 use lib.ListN.{length}
 use Rattle.lists.specs.Tab.{pick, word}
 use Rattle.lists.specs.First.{any}
 use Rattle.lists.specs.Failure.{Separates}
-use Rattle.lists.proofs.Then.{by-le}
-use Rattle.lists.proofs.Decides.{decides-eq, decides-map, decides-no}
+use Rattle.lists.proofs.Then.{by-le, T-true}
+use Rattle.lists.proofs.Decides.{decides-eq, decides-map}
 use Rattle.lists.proofs.Failure.{at-none-iff, at-some-iff, in-none-iff, in-some-iff, separates-map, separates-no, separates-yes, separates-le, separates-and, separates-any}
 use Rattle.field.specs.Field.{p}
 use Rattle.field.specs.Elements.{notElement, firstNotElement}
 use Rattle.field.proofs.NotElement.{all-elements, none-found}
 use Rattle.lookup.specs.Tuple.{Tuple}
 use Rattle.lookup.specs.declared.Bus.the-variants.{Keccak}
+use Rattle.lookup.specs.declared.Side.{Side}
 use Rattle.lookup.specs.declared.Side.the-variants.{Sender, Receiver}
 use Rattle.keccak.specs.Tuples.{coreTuple}
 use Rattle.keccak_rnd.specs.Tuples.{roundTuple}
@@ -46,7 +46,7 @@ use Rattle.verdict.specs.declared.Verdict.{Verdict}
 use Rattle.verdict.specs.declared.Verdict.the-variants.{Refused, Value, Lookup, Repeated, Unbalanced, Holds}
 use Rattle.verdict.proofs.Judge.{even-balanced}
 use Rattle.verdict.proofs.Stages.{passes, answers, core-refused, round-refused, both-whole}
-use Rattle.verdict.proofs.Tuples.{core-bus, round-bus}
+use Rattle.verdict.proofs.Tuples.{place, at-place, core-bus, round-bus}
 
 -- ---- each test separates what fails from what holds
 equal-separates : (a b : ℕ) → Separates (eqb a b) (a ≡ b) (a ≡ b → ⊥)
@@ -346,12 +346,11 @@ verdict-says nr = verdict-iff (coreKind nr) roundKind
 -- "a core row's send before its receive, a round row's receive before its send": which index an unbalanced tuple has
 keccak-places : (M : Kind) (S R : ℕ) → OnBus M S R → (x : List ℕ) (i : ℕ) → M .tuple x i .bus ≡ Keccak →
     ((i ≡ S) × (M .tuple x i .side ≡ Sender)) ⊎ ((i ≡ R) × (M .tuple x i .side ≡ Receiver))
-keccak-places M S R bus x i k = go (eqb i S) (eqb i R) refl refl
+keccak-places M S R bus x i k = go (M .tuple x i .side) refl (at-place bus x i (T-true (onKeccak (M .tuple x i)) (bus-decides (M .tuple x i .bus) Keccak .from k)))
   where
-    go : (a b : Bool) → eqb i S ≡ a → eqb i R ≡ b → ((i ≡ S) × (M .tuple x i .side ≡ Sender)) ⊎ ((i ≡ R) × (M .tuple x i .side ≡ Receiver))
-    go true b e f = let q = eqb-true i S e in inl (q, ap (λ (j : ℕ). M .tuple x j .side) q ∙ ap (λ (y : Tuple). y .side) (bus .send x))
-    go false true e f = let q = eqb-true i R f in inr (q, ap (λ (j : ℕ). M .tuple x j .side) q ∙ ap (λ (y : Tuple). y .side) (bus .receive x))
-    go false false e f = absurd (decides-no (bus-decides (M .tuple x i .bus) Keccak) (bus .others x i (eqb-false i S e) (eqb-false i R f)) k)
+    go : (s : Side) → M .tuple x i .side ≡ s → i ≡ place bus (M .tuple x i .side) → ((i ≡ S) × (M .tuple x i .side ≡ Sender)) ⊎ ((i ≡ R) × (M .tuple x i .side ≡ Receiver))
+    go Sender e q = inl (q ∙ ap (place bus) e, e)
+    go Receiver e q = inr (q ∙ ap (place bus) e, e)
 
 pub core-places : (nr : ℕ) (x : List ℕ) (i : ℕ) → coreTuple nr 0 x i .bus ≡ Keccak →
     ((i ≡ 2) × (coreTuple nr 0 x i .side ≡ Sender)) ⊎ ((i ≡ 3) × (coreTuple nr 0 x i .side ≡ Receiver))

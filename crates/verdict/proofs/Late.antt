@@ -11,6 +11,7 @@ use Rattle.lists.proofs.Count.{count-find, count-hit}
 use Rattle.lists.proofs.Tests.{T-of, and-true, true-and}
 use Rattle.lists.proofs.Then.{by-le, T-true}
 use Rattle.lists.proofs.Select.{words-same, words-sound}
+use Rattle.lookup.specs.declared.Side.the-variants.{Sender, Receiver}
 use Rattle.field.specs.Field.{fadd}
 use Rattle.field.proofs.Field.{fadd-small}
 use Rattle.keccak.specs.Tuples.{keccakValues, coreTuple, coreReceived}
@@ -24,7 +25,7 @@ use Rattle.verdict.specs.declared.Table.the-variants.{Core, Round}
 use Rattle.verdict.specs.declared.Verdict.the-variants.{Unbalanced}
 use Rattle.verdict.proofs.Tables.{passes-row, all-below}
 use Rattle.verdict.proofs.Judge.{is-active, active-is}
-use Rattle.verdict.proofs.Tuples.{carriesAt, sent-count, received-count, core-bus, round-bus}
+use Rattle.verdict.proofs.Tuples.{carriesAt, carried-count, core-bus, round-bus}
 use Rattle.verdict.proofs.Failures.{round-passes, out-of-balance}
 
 -- what an active row sends is sent, and what is received, an active row receives
@@ -33,13 +34,13 @@ module _ {K : Kind} {S R : ℕ} (bus : OnBus K S R) (ws : List ℕ) where
   unfolding carriesAt
   is-sent r a =
       let x : List ℕ = K .tuple (row (K .layout) ws r) S .values in
-      subst (λ (n : ℕ). 1 ≤ n) (sym (sent-count bus ws x)) (count-hit (carriesAt K S ws x) (rows (K .layout) ws) r (a .there)
+      subst (λ (n : ℕ). 1 ≤ n) (sym (carried-count bus Sender ws x)) (count-hit (carriesAt K S ws x) (rows (K .layout) ws) r (a .there)
       (true-and (active (K .layout) ws r) (wordsTest x x) (is-active (K .layout) ws a) (T-true (wordsTest x x) (words-same x))))
 
   who-receives : (x : List ℕ) → 1 ≤ received K ws x → (r : ℕ) × Active (K .layout) ws r × (x ≡ K .tuple (row (K .layout) ws r) R .values)
   unfolding carriesAt
   who-receives x h =
-      let f = count-find (carriesAt K R ws x) (rows (K .layout) ws) (subst (λ (n : ℕ). 1 ≤ n) (received-count bus ws x) h) in
+      let f = count-find (carriesAt K R ws x) (rows (K .layout) ws) (subst (λ (n : ℕ). 1 ≤ n) (carried-count bus Receiver ws x) h) in
       let v : List ℕ = K .tuple (row (K .layout) ws (f .0)) R .values in
       let g = and-true (active (K .layout) ws (f .0)) (wordsTest x v) (f .2) in
       (f .0, active-is (K .layout) ws (f .0) (f .1) (g .0), words-sound x v (T-of (wordsTest x v) (g .1)))
