@@ -1,4 +1,4 @@
--- What the scan for a repeated timestamp cites: two rows compared, a twin, a row above all before it. Assumes nothing.
+-- What the scan for a repeated timestamp cites: two rows compared, a row with the same timestamp, a row above all before it. Assumes nothing.
 use mathlib.Core.Path.{_≡_, refl, sym, ap, ap₂, subst, _∙_}
 use mathlib.Core.Logic.{inl, inr}
 use mathlib.Core.Bool.{Bool, true, false, _&&_}
@@ -15,7 +15,7 @@ use Rattle.lists.specs.First.{first, atIndex, any}
 use Rattle.lists.proofs.First.{first-start, at-more}
 use Rattle.lists.proofs.Laws.{word-rowAt}
 use Rattle.verdict.specs.Kind.{row, active, sameStamp}
-use Rattle.verdict.specs.Verdict.{twin, repeats}
+use Rattle.verdict.specs.Verdict.{sameStampAt, repeats}
 use Rattle.verdict.specs.CoreAndRound.{coreLayout}
 use Rattle.verdict.proofs.Parts.{stamp-words}
 use Rattle.verdict.proofs.Rising.{key, BelowTo, rising-start, rising-skip, rising-step, rising-new, inactive-new}
@@ -36,17 +36,17 @@ module _ (core : List ℕ) where
       ap (λ (b : Bool). b && eqb (word core (q * 486 + 1)) (word core (r * 486 + 1))) (sym (eq-eqb _ _ e))
       ∙ stamp-words coreLayout core (omega arith) q r
 
-  -- ---- a twin
-  pub twin-off : (r q : ℕ) → active coreLayout core q ≡ false → twin coreLayout core r q ≡ false
-  unfolding twin
-  twin-off r q e = rw e
+  -- ---- a row with the same timestamp
+  pub same-stamp-off : (r q : ℕ) → active coreLayout core q ≡ false → sameStampAt coreLayout core r q ≡ false
+  unfolding sameStampAt
+  same-stamp-off r q e = rw e
 
-  pub twin-on : (r q : ℕ) (b : Bool) → active coreLayout core q ≡ true →
-      sameStamp (row coreLayout core q) (row coreLayout core r) ≡ b → twin coreLayout core r q ≡ b
-  unfolding twin
-  twin-on r q b e h = rw (e, h)
+  pub same-stamp-on : (r q : ℕ) (b : Bool) → active coreLayout core q ≡ true →
+      sameStamp (row coreLayout core q) (row coreLayout core r) ≡ b → sameStampAt coreLayout core r q ≡ b
+  unfolding sameStampAt
+  same-stamp-on r q b e h = rw (e, h)
 
-  pub repeats-on : (r : ℕ) (b : Bool) → active coreLayout core r ≡ true → any (twin coreLayout core r) r ≡ b →
+  pub repeats-on : (r : ℕ) (b : Bool) → active coreLayout core r ≡ true → any (sameStampAt coreLayout core r) r ≡ b →
       repeats coreLayout core r ≡ b
   unfolding repeats
   repeats-on r b e h = rw (e, h)
@@ -123,7 +123,7 @@ module _ (core : List ℕ) where
 
     -- one that is not above them, and is looked for among them
     pub new-below : (low high : ℕ) → low ≡ word core (a * 486) → high ≡ word core (a * 486 + 1) → exceeds s high low ≡ false →
-        t ≡ s → active coreLayout core a ≡ true → any (twin coreLayout core a) a ≡ false → New core (a + 1) t
+        t ≡ s → active coreLayout core a ≡ true → any (sameStampAt coreLayout core a) a ≡ false → New core (a + 1) t
     unfolding exceeds
     new-below low high el eh x q e v =
         let k = key-is core a low high el eh in

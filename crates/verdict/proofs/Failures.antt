@@ -37,7 +37,7 @@ use Rattle.matching.proofs.Matching.{matched-decides}
 use Rattle.answer.specs.declared.Refusal.the-variants.{PastEnd, NotWhole, TooShort, HighAddress, NotElement, BadRecord}
 use Rattle.keccak.specs.Columns.{TIMESTAMP-0, TIMESTAMP-1}
 use Rattle.verdict.specs.Kind.{Layout, Kind, rows, row, isActive, active, actives, Active, SameTimestamp, sameStamp, DistinctTimestamps, Passes, onKeccak, sent, received, OnBus, BalancedAt, Balanced}
-use Rattle.verdict.specs.Verdict.{ragged, badValue, firstValue, badLookup, firstLookup, twin, repeats, firstRepeat, uneven, unevenTuple, badTuple, firstUnbalanced, stage, fromRoundBalance, fromCoreBalance, fromRoundLookup, fromRoundValue, fromRepeat, fromCoreLookup, fromCoreValue, fromRoundWords, fromCoreWords, judged}
+use Rattle.verdict.specs.Verdict.{ragged, badValue, firstValue, badLookup, firstLookup, sameStampAt, repeats, firstRepeat, uneven, unevenTuple, badTuple, firstUnbalanced, stage, fromRoundBalance, fromCoreBalance, fromRoundLookup, fromRoundValue, fromRepeat, fromCoreLookup, fromCoreValue, fromRoundWords, fromCoreWords, judged}
 use Rattle.verdict.specs.CoreAndRound.{coreKind, roundKind, verdictAt}
 use Rattle.verdict.specs.Kind.{Whole, Elements, ZeroAt, MatchedAt, Values, Lookups}
 use Rattle.verdict.specs.Failures.{RepeatsAt, NewAt, FirstValue, FirstLookup, FirstRepeat, FirstNotElement, UnevenAt, EvenAt, FirstUnbalanced, EachEven, ToCoreValue, ToCoreLookup, ToRepeat, ToRoundValue, ToRoundLookup, ToCoreBalance, ToRoundBalance, Says}
@@ -70,13 +70,13 @@ module _ (A : Layout) (ws : List ℕ) where
       (equal-separates (word x TIMESTAMP-0) (word y TIMESTAMP-0)) (equal-separates (word x TIMESTAMP-1) (word y TIMESTAMP-1)))
 
   repeat-separates : (r : ℕ) → r < rows A ws → Separates (repeats A ws r) (RepeatsAt A ws r) (NewAt A ws r)
-  unfolding repeats twin
+  unfolding repeats sameStampAt
   repeat-separates r l =
       separates-map (
         (λ x. record { active = x .0; earlier = x .1 .0; before = x .1 .1; earlier-active = x .1 .2 .0; same = x .1 .2 .1 }),
         λ x. (x .active, (x .earlier, x .before, (x .earlier-active, x .same))),
       ) ((λ h. h), λ h. h)
-      (separates-and (active A ws r) (any (twin A ws r) r) (active-separates r l) (separates-any (twin A ws r) r (λ q g.
+      (separates-and (active A ws r) (any (sameStampAt A ws r) r) (active-separates r l) (separates-any (sameStampAt A ws r) r (λ q g.
       separates-and (active A ws q) (sameStamp (row A ws q) (row A ws r)) (active-separates q (omega arith)) (stamp-separates (row A ws q) (row A ws r)))))
 
 module _ (K : Kind) (ws : List ℕ) where
