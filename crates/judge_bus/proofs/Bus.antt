@@ -1,4 +1,4 @@
--- What the search for an unbalanced tuple cites: the laws of verdict's Tuples and Pair by port. Assumes nothing.
+-- What the search for an unbalanced tuple cites: the laws of verdict's Tuples and of UnevenRow by port. Assumes nothing.
 --     uneven-left                       what the walk passed is even, so the counts of the other rows decide
 --     Two                               what the tables say of the two tuples of a row
 --     spot-off, spot-on, spot-early, spot-late   what a row says of the search: not active; no tuple; the first one; the second
@@ -22,7 +22,7 @@ use Rattle.verdict.specs.Kind.{rows, row, active, isActive, sent, received}
 use Rattle.verdict.specs.Verdict.{uneven, badTuple, firstUnbalanced}
 use Rattle.verdict.specs.CoreAndRound.{coreLayout, roundLayout, coreKind, roundKind}
 use Rattle.verdict.proofs.Tuples.{carried-count, core-bus, round-bus}
-use Rattle.verdict.proofs.Pair.{two-early, two-late, two-none, bad-side, bad-other}
+use Rattle.judge_bus.proofs.UnevenRow.{two-early, two-late, two-none, bad-side, bad-other}
 use Rattle.judge_scan.specs.Spot.{spotOf}
 use Rattle.judge_scan.specs.declared.Spot.the-variants.{At}
 use Rattle.judge_tuples.specs.Port.{tupleOf, widthOf}
