@@ -27,7 +27,7 @@ use Rattle.verdict.specs.Kind.{rows, row, active, Active, SameTimestamp, Distin
 use Rattle.verdict.specs.CoreAndRound.{coreLayout, roundLayout, coreKind, roundKind}
 use Rattle.verdict.proofs.Judge.{is-active, active-is}
 use Rattle.verdict.proofs.Tuples.{core-bus, round-bus}
-use Rattle.verdict.proofs.Walk.{one, even-all}
+use Rattle.judge_links.proofs.Walk.{one, even-all}
 use Rattle.judge_tuples.specs.Port.{tupleOf, roundOf}
 use Rattle.judge_tuples.specs.declared.Port.{Port}
 use Rattle.judge_tuples.specs.declared.Port.the-variants.{CoreSend, CoreReceive, RoundReceive, RoundSend}

@@ -1,4 +1,4 @@
--- What the search for an unbalanced tuple cites: the laws of verdict's Tuples and Pair by port. Assumes nothing.
+-- What the search for an unbalanced tuple cites: the laws of verdict's Tuples and of UnevenRow by port. Assumes nothing.
 --     uneven-left                       what the walk passed is even, so the counts of the other rows decide
 --     Two                               what the tables say of the two tuples of a row
 --     spot-off, spot-on, spot-early, spot-late   what a row says of the search: not active; no tuple; the first one; the second
@@ -17,11 +17,12 @@ use Rattle.lists.specs.First.{first, inRow}
 use Rattle.lists.proofs.First.{first-more, first-hit, in-none}
 use Rattle.keccak.specs.Tuples.{coreTuple}
 use Rattle.keccak_rnd.specs.Tuples.{roundTuple}
+use Rattle.lookup.specs.declared.Side.the-variants.{Sender, Receiver}
 use Rattle.verdict.specs.Kind.{rows, row, active, isActive, sent, received}
 use Rattle.verdict.specs.Verdict.{uneven, badTuple, firstUnbalanced}
 use Rattle.verdict.specs.CoreAndRound.{coreLayout, roundLayout, coreKind, roundKind}
-use Rattle.verdict.proofs.Tuples.{sent-count, received-count, core-bus, round-bus}
-use Rattle.verdict.proofs.Pair.{two-early, two-late, two-none, bad-send, bad-receive, bad-other}
+use Rattle.verdict.proofs.Tuples.{carried-count, core-bus, round-bus}
+use Rattle.judge_bus.proofs.UnevenRow.{two-early, two-late, two-none, bad-side, bad-other}
 use Rattle.judge_scan.specs.Spot.{spotOf}
 use Rattle.judge_scan.specs.declared.Spot.the-variants.{At}
 use Rattle.judge_tuples.specs.Port.{tupleOf, widthOf}
@@ -48,10 +49,10 @@ module _ (core round v : List ℕ) where
       not (eqb (t .sent + u .sent) (t .received + u .received)) ≡ uneven (coreKind 24) roundKind core round v
   unfolding Even uneven layoutOf
   uneven-left a b t u h c d =
-      let es = sent-count (core-bus 24) core v ∙ sym (counts (core-sends core v) (rows coreLayout core)) in
-      let fs = sent-count round-bus round v ∙ sym (counts (round-sends round v) (rows roundLayout round)) in
-      let er = received-count (core-bus 24) core v ∙ sym (counts (core-receives core v) (rows coreLayout core)) in
-      let fr = received-count round-bus round v ∙ sym (counts (round-receives round v) (rows roundLayout round)) in
+      let es = carried-count (core-bus 24) Sender core v ∙ sym (counts (core-sends core v) (rows coreLayout core)) in
+      let fs = carried-count round-bus Sender round v ∙ sym (counts (round-sends round v) (rows roundLayout round)) in
+      let er = carried-count (core-bus 24) Receiver core v ∙ sym (counts (core-receives core v) (rows coreLayout core)) in
+      let fr = carried-count round-bus Receiver round v ∙ sym (counts (round-receives round v) (rows roundLayout round)) in
       ap not (eqb-same (t .sent + u .sent) (t .received + u .received) (sent (coreKind 24) core v + sent roundKind round v) (received (coreKind 24) core v + received roundKind round v)
       (λ z. omega (arith, h v, es, fs, er, fr, c .sends, c .receives, d .sends, d .receives))
       (λ z. omega (arith, h v, es, fs, er, fr, c .sends, c .receives, d .sends, d .receives)))
@@ -87,8 +88,8 @@ two-core =
       width = refl;
       order = omega arith;
       inside = omega arith;
-      early = λ core round ws r. bad-send (coreKind 24) roundKind core round (core-bus 24) ws r;
-      late = λ core round ws r. bad-receive (coreKind 24) roundKind core round (core-bus 24) ws r;
+      early = λ core round ws r. bad-side (coreKind 24) roundKind core round (core-bus 24) ws r Sender;
+      late = λ core round ws r. bad-side (coreKind 24) roundKind core round (core-bus 24) ws r Receiver;
       other = λ core round ws r i n m. bad-other (coreKind 24) roundKind core round (core-bus 24) ws r i n m;
     }
 
@@ -101,8 +102,8 @@ two-round =
       width = refl;
       order = omega arith;
       inside = omega arith;
-      early = λ core round ws r. bad-receive (coreKind 24) roundKind core round round-bus ws r;
-      late = λ core round ws r. bad-send (coreKind 24) roundKind core round round-bus ws r;
+      early = λ core round ws r. bad-side (coreKind 24) roundKind core round round-bus ws r Receiver;
+      late = λ core round ws r. bad-side (coreKind 24) roundKind core round round-bus ws r Sender;
       other = λ core round ws r i n m. bad-other (coreKind 24) roundKind core round round-bus ws r i m n;
     }
 

@@ -1,1 +1,2 @@
+pub mod UnevenRow
 pub mod Bus

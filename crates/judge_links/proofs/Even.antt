@@ -19,7 +19,7 @@ use Rattle.keccak_rnd.specs.Tuples.{roundTuple}
 use Rattle.verdict.specs.Kind.{rows}
 use Rattle.verdict.specs.CoreAndRound.{coreLayout, roundLayout, coreKind, roundKind}
 use Rattle.verdict.proofs.Tuples.{carriesAt, core-bus, round-bus}
-use Rattle.verdict.proofs.Walk.{EvenTo}
+use Rattle.judge_links.proofs.Walk.{EvenTo}
 use Rattle.judge_tuples.specs.Port.{tupleOf, widthOf}
 use Rattle.judge_tuples.specs.declared.Port.{Port}
 use Rattle.judge_tuples.specs.declared.Port.the-variants.{CoreSend, CoreReceive, RoundReceive, RoundSend}

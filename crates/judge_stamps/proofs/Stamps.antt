@@ -1,12 +1,9 @@
--- What the scan for a repeated timestamp cites: two rows compared, a twin, a row above all before it. Assumes nothing.
+-- What the scan for a repeated timestamp cites: two rows compared, a row with the same timestamp, a row above all before it. Assumes nothing.
 use mathlib.Core.Path.{_≡_, refl, sym, ap, ap₂, subst, _∙_}
-use mathlib.Core.Logic.{inl, inr}
 use mathlib.Core.Bool.{Bool, true, false, _&&_}
 use mathlib.Core.List.{List}
 use mathlib.Core.Option.{none}
 use Prim.Native.Nat.{ℕ, _+_, _*_, _^_, _≤_, _<_}
-use native.Mathlib.Nat.{eq-or-lt-of-le, le-of-suc-le-suc}
-use native.Mathlib.Numerals.{add-one}
 use native.Mathlib.Omega.{arith}
 use borrow.Author.Tests.{ne-eqb, eq-eqb, le-leb, lt-leb, leb-true, leb-false, ltb-true, ltb-false}
 use lib.Dec.{eqb, leb, ltb}
@@ -15,38 +12,46 @@ use Rattle.lists.specs.First.{first, atIndex, any}
 use Rattle.lists.proofs.First.{first-start, at-more}
 use Rattle.lists.proofs.Laws.{word-rowAt}
 use Rattle.verdict.specs.Kind.{row, active, sameStamp}
-use Rattle.verdict.specs.Verdict.{twin, repeats}
+use Rattle.verdict.specs.Verdict.{sameStampAt, repeats}
 use Rattle.verdict.specs.CoreAndRound.{coreLayout}
-use Rattle.verdict.proofs.Parts.{stamp-words}
-use Rattle.verdict.proofs.Rising.{key, BelowTo, rising-start, rising-skip, rising-step, rising-new, inactive-new}
+use Rattle.judge_stamps.proofs.Rising.{key, BelowTo, rising-start, rising-skip, rising-keep, rising-step, rising-new, inactive-new}
 use Rattle.judge_stamps.specs.Highest.{boundOf, exceeds}
 use Rattle.judge_stamps.specs.declared.Highest.{Highest}
 
+-- ---- two rows
+stamp-words : (core : List ℕ) (q r : ℕ) →
+    (eqb (word core (q * 486)) (word core (r * 486)) && eqb (word core (q * 486 + 1)) (word core (r * 486 + 1))) ≡ sameStamp (row coreLayout core q) (row coreLayout core r)
+unfolding sameStamp
+stamp-words core q r =
+    ap₂ _&&_ (ap₂ eqb (low q) (low r)) (ap₂ eqb (sym (word-rowAt 486 core q 1 (omega arith))) (sym (word-rowAt 486 core r 1 (omega arith))))
+  where
+    low : (r : ℕ) → word core (r * 486) ≡ word (row coreLayout core r) 0
+    low r = let e : r * 486 ≡ r * 486 + 0 = omega arith in ap (word core) e ∙ sym (word-rowAt 486 core r 0 (omega arith))
+
 module _ (core : List ℕ) where
-  -- ---- two rows
   pub stamps-apart : (q r : ℕ) → (word core (q * 486) ≡ word core (r * 486) → ⊥) →
       false ≡ sameStamp (row coreLayout core q) (row coreLayout core r)
   stamps-apart q r n =
       ap (λ (b : Bool). b && eqb (word core (q * 486 + 1)) (word core (r * 486 + 1))) (sym (ne-eqb _ _ n))
-      ∙ stamp-words coreLayout core (omega arith) q r
+      ∙ stamp-words core q r
 
   pub stamps-by-high : (q r : ℕ) → word core (q * 486) ≡ word core (r * 486) →
       eqb (word core (q * 486 + 1)) (word core (r * 486 + 1)) ≡ sameStamp (row coreLayout core q) (row coreLayout core r)
   stamps-by-high q r e =
       ap (λ (b : Bool). b && eqb (word core (q * 486 + 1)) (word core (r * 486 + 1))) (sym (eq-eqb _ _ e))
-      ∙ stamp-words coreLayout core (omega arith) q r
+      ∙ stamp-words core q r
 
-  -- ---- a twin
-  pub twin-off : (r q : ℕ) → active coreLayout core q ≡ false → twin coreLayout core r q ≡ false
-  unfolding twin
-  twin-off r q e = rw e
+  -- ---- a row with the same timestamp
+  pub same-stamp-off : (r q : ℕ) → active coreLayout core q ≡ false → sameStampAt coreLayout core r q ≡ false
+  unfolding sameStampAt
+  same-stamp-off r q e = rw e
 
-  pub twin-on : (r q : ℕ) (b : Bool) → active coreLayout core q ≡ true →
-      sameStamp (row coreLayout core q) (row coreLayout core r) ≡ b → twin coreLayout core r q ≡ b
-  unfolding twin
-  twin-on r q b e h = rw (e, h)
+  pub same-stamp-on : (r q : ℕ) (b : Bool) → active coreLayout core q ≡ true →
+      sameStamp (row coreLayout core q) (row coreLayout core r) ≡ b → sameStampAt coreLayout core r q ≡ b
+  unfolding sameStampAt
+  same-stamp-on r q b e h = rw (e, h)
 
-  pub repeats-on : (r : ℕ) (b : Bool) → active coreLayout core r ≡ true → any (twin coreLayout core r) r ≡ b →
+  pub repeats-on : (r : ℕ) (b : Bool) → active coreLayout core r ≡ true → any (sameStampAt coreLayout core r) r ≡ b →
       repeats coreLayout core r ≡ b
   unfolding repeats
   repeats-on r b e h = rw (e, h)
@@ -59,14 +64,6 @@ module _ (core : List ℕ) where
       ap₂ (λ (h l : ℕ). h * 2 ^ 64 + l)
       (f ∙ sym (word-rowAt 486 core r 1 (omega arith)))
       (e ∙ ap (word core) z ∙ sym (word-rowAt 486 core r 0 (omega arith)))
-
-  pub rising-keep : (a b : ℕ) → key (row coreLayout core a) < b → BelowTo coreLayout core a b →
-      BelowTo coreLayout core (a + 1) b
-  unfolding BelowTo
-  rising-keep a b k h q l e = elim (eq-or-lt-of-le (le-of-suc-le-suc (subst (λ (m : ℕ). q < m) (add-one a) l))) [
-    | inl z ↦ let w = ap (λ (m : ℕ). key (row coreLayout core m)) z in omega arith
-    | inr g ↦ h q g e
-  ]
 
 -- a test that is true where a ≤ c and false where c < a
 by-leb : (b : Bool) (a c : ℕ) → (b ≡ true → a ≤ c) → (b ≡ false → c < a) → b ≡ leb a c
@@ -123,7 +120,7 @@ module _ (core : List ℕ) where
 
     -- one that is not above them, and is looked for among them
     pub new-below : (low high : ℕ) → low ≡ word core (a * 486) → high ≡ word core (a * 486 + 1) → exceeds s high low ≡ false →
-        t ≡ s → active coreLayout core a ≡ true → any (twin coreLayout core a) a ≡ false → New core (a + 1) t
+        t ≡ s → active coreLayout core a ≡ true → any (sameStampAt coreLayout core a) a ≡ false → New core (a + 1) t
     unfolding exceeds
     new-below low high el eh x q e v =
         let k = key-is core a low high el eh in
@@ -131,5 +128,5 @@ module _ (core : List ℕ) where
         subst (New core (a + 1)) (sym q)
         (record {
           fresh = at-more _ a (n .fresh) (repeats-on core a false e v);
-          below = rising-keep core a _ g (n .below);
+          below = rising-keep coreLayout core a _ g (n .below);
         })

@@ -6,7 +6,7 @@ ghost use mathlib.Core.Path.{_≡_};
 ghost use Prim.Native.Nat.{_+_, _*_, _<_};
 ghost use Rattle.lists.specs.First.{any, placeOf};
 ghost use Rattle.verdict.specs.Kind.{rows, row, sameStamp};
-ghost use Rattle.verdict.specs.Verdict.{twin, firstRepeat};
+ghost use Rattle.verdict.specs.Verdict.{sameStampAt, firstRepeat};
 ghost use Rattle.verdict.specs.CoreAndRound.{coreLayout};
 ghost use Rattle.judge_stamps.specs.Highest.{exceeds};
 
@@ -22,9 +22,9 @@ fn same_stamp(core: &[u64], q: usize, r: usize) -> bool
 }
 
 // Whether an earlier active row has the timestamp of row r.
-fn has_twin(core: &[u64], r: usize) -> bool
+fn has_same_stamp(core: &[u64], r: usize) -> bool
     requires { ⌜ r < rows coreLayout (now core) ⌝ }
-    ensures { λ b. ⌜ b ≡ any (twin coreLayout (now (core .entry)) r) r ⌝ }
+    ensures { λ b. ⌜ b ≡ any (sameStampAt coreLayout (now (core .entry)) r) r ⌝ }
 {
     let mut q = 0;
     while q < r {
@@ -79,7 +79,7 @@ pub fn first_repeat(core: &[u64]) -> Place
                     high,
                     low,
                 };
-            } else if has_twin(core, row) {
+            } else if has_same_stamp(core, row) {
                 return Place::At(row);
             }
         }

@@ -1,7 +1,6 @@
 -- A Keccak tuple is known by its timestamp, its round and the columns of its state, so two are the same exactly where
 -- these are. Assumes nothing.
 use mathlib.Core.Path.{_≡_, refl, sym, ap, ap₂, subst, _∙_}
-use mathlib.Core.Logic.{inl, inr}
 use mathlib.Core.Bool.{Bool, true, false, not, _&&_}
 use mathlib.Core.List.{List}
 use Prim.Native.Nat.{ℕ, zero, suc, _+_, _*_, _-_, _/_, _%_, _≤_, _<_}
@@ -14,7 +13,7 @@ use Rattle.lists.specs.First.{any}
 use Rattle.lists.specs.Select.{wordsTest}
 use Rattle.lists.proofs.First.{any-clear, any-nothing}
 use Rattle.lists.proofs.Tests.{T-of, and-true, true-and}
-use Rattle.lists.proofs.Then.{T-true}
+use Rattle.lists.proofs.Then.{by-le, T-true}
 use Rattle.lists.proofs.Laws.{getD-tab, tab-same}
 use Rattle.lists.proofs.Select.{words-same, words-sound}
 use Rattle.keccak.specs.Columns.{byXYB}
@@ -23,7 +22,6 @@ use Rattle.keccak_rnd.specs.Tuples.{out, roundReceived, roundSent}
 use Rattle.keccak_rnd.proofs.Active.{of-200}
 use Rattle.keccak_rnd.proofs.Step.{keccak-same}
 use Rattle.verdict.specs.Kind.{sameStamp}
-use Rattle.verdict.proofs.Rows.{lt-or-ge}
 use Rattle.judge_tuples.specs.Port.{tupleOf, widthOf, roundOf, laneAt, restAt, wordsDiffer, sameState}
 use Rattle.judge_tuples.specs.declared.Port.{Port}
 use Rattle.judge_tuples.specs.declared.Port.the-variants.{CoreSend, CoreReceive, RoundReceive, RoundSend}
@@ -152,15 +150,14 @@ module _ (s : Port) (x : List ℕ) (q : Port) (y : List ℕ) where
   unfolding sameState wordsDiffer
   columns-words e k l =
       let b = and-true (not (any (wordsDiffer x (laneAt s) y (laneAt q)) 8)) (not (any (wordsDiffer x (restAt s + 8) y (restAt q + 8)) 192)) e in
-      elim (lt-or-ge k 8) [
-        | inl g ↦ early s x k g ∙ eqb-true _ _ (not-false _ (any-clear (wordsDiffer x (laneAt s) y (laneAt q)) 8 k (not-true _ (b .0)) g)) ∙ sym (early q y k g)
-        | inr g ↦
-            let z : restAt s + k ≡ restAt s + 8 + (k - 8) = omega arith in
-            let w : restAt q + k ≡ restAt q + 8 + (k - 8) = omega arith in
-            late s x k g ∙ ap (word x) z
-            ∙ eqb-true _ _ (not-false _ (any-clear (wordsDiffer x (restAt s + 8) y (restAt q + 8)) 192 (k - 8) (not-true _ (b .1)) (omega arith)))
-            ∙ sym (ap (word y) w) ∙ sym (late q y k g)
-      ]
+      by-le 8 k
+      (λ g.
+      let z : restAt s + k ≡ restAt s + 8 + (k - 8) = omega arith in
+      let w : restAt q + k ≡ restAt q + 8 + (k - 8) = omega arith in
+      late s x k g ∙ ap (word x) z
+      ∙ eqb-true _ _ (not-false _ (any-clear (wordsDiffer x (restAt s + 8) y (restAt q + 8)) 192 (k - 8) (not-true _ (b .1)) (omega arith)))
+      ∙ sym (ap (word y) w) ∙ sym (late q y k g))
+      (λ g. early s x k g ∙ eqb-true _ _ (not-false _ (any-clear (wordsDiffer x (laneAt s) y (laneAt q)) 8 k (not-true _ (b .0)) g)) ∙ sym (early q y k g))
 
   words-columns : SameWords → sameState s x q y ≡ true
   unfolding sameState wordsDiffer

@@ -1,4 +1,4 @@
--- What the walk along the Keccak bus cites: the laws of verdict's Walk at the four ports. Assumes nothing.
+-- What the walk along the Keccak bus cites: the laws of judge_links' Walk at the four ports. Assumes nothing.
 use mathlib.Core.Path.{_≡_, refl, sym, ap, subst}
 use mathlib.Core.Bool.{true, false}
 use mathlib.Core.List.{List}
@@ -15,7 +15,7 @@ use Rattle.keccak_rnd.specs.Tuples.{roundTuple}
 use Rattle.verdict.specs.Kind.{rows, row, active}
 use Rattle.verdict.specs.CoreAndRound.{coreLayout, roundLayout}
 use Rattle.verdict.proofs.Tuples.{core-bus, round-bus}
-use Rattle.verdict.proofs.Walk.{OwingTo, even-start, even-skip, even-rest, owe-start, owe-skip, owe-step, owe-end}
+use Rattle.judge_links.proofs.Walk.{OwingTo, even-start, even-skip, even-rest, owe-start, owe-skip, owe-step, owe-end}
 use Rattle.judge_tuples.specs.Port.{tupleOf}
 use Rattle.judge_tuples.specs.declared.Port.the-variants.{CoreReceive, RoundReceive, RoundSend}
 use Rattle.judge_links.specs.Even.{Even, owedBy, Started}

@@ -14,18 +14,20 @@ use mathlib.Core.Option.{Option, none, some}
 use mathlib.Core.List.{List}
 use Prim.Native.Nat.{ℕ, zero, suc, _+_, _%_, _≤_, _<_}
 use native.Mathlib.Omega.{arith}
-use borrow.Author.Tests.{eqb-true, eqb-false}
 use lib.Dec.{eqb}
 use lib.ListN.{length}
 use Rattle.lists.specs.Tab.{pick, word}
 use Rattle.lists.specs.First.{any}
 use Rattle.lists.specs.Failure.{Separates}
-use Rattle.lists.proofs.Decides.{decides-eq, decides-map, decides-no}
+use Rattle.lists.proofs.Then.{by-le, T-true}
+use Rattle.lists.proofs.Decides.{decides-eq, decides-map}
 use Rattle.lists.proofs.Failure.{at-none-iff, at-some-iff, in-none-iff, in-some-iff, separates-map, separates-no, separates-yes, separates-le, separates-and, separates-any}
 use Rattle.field.specs.Field.{p}
 use Rattle.field.specs.Elements.{notElement, firstNotElement}
+use Rattle.field.proofs.NotElement.{all-elements, none-found}
 use Rattle.lookup.specs.Tuple.{Tuple}
 use Rattle.lookup.specs.declared.Bus.the-variants.{Keccak}
+use Rattle.lookup.specs.declared.Side.{Side}
 use Rattle.lookup.specs.declared.Side.the-variants.{Sender, Receiver}
 use Rattle.keccak.specs.Tuples.{coreTuple}
 use Rattle.keccak_rnd.specs.Tuples.{roundTuple}
@@ -35,17 +37,16 @@ use Rattle.matching.proofs.Matching.{matched-decides}
 use Rattle.answer.specs.declared.Refusal.the-variants.{PastEnd, NotWhole, TooShort, HighAddress, NotElement, BadRecord}
 use Rattle.keccak.specs.Columns.{TIMESTAMP-0, TIMESTAMP-1}
 use Rattle.verdict.specs.Kind.{Layout, Kind, rows, row, isActive, active, actives, Active, SameTimestamp, sameStamp, DistinctTimestamps, Passes, onKeccak, sent, received, OnBus, BalancedAt, Balanced}
-use Rattle.verdict.specs.Verdict.{ragged, badValue, firstValue, badLookup, firstLookup, twin, repeats, firstRepeat, uneven, unevenTuple, badTuple, firstUnbalanced, stage, fromRoundBalance, fromCoreBalance, fromRoundLookup, fromRoundValue, fromRepeat, fromCoreLookup, fromCoreValue, fromRoundWords, fromCoreWords, judged}
+use Rattle.verdict.specs.Verdict.{ragged, badValue, firstValue, badLookup, firstLookup, sameStampAt, repeats, firstRepeat, uneven, unevenTuple, badTuple, firstUnbalanced, stage, fromRoundBalance, fromCoreBalance, fromRoundLookup, fromRoundValue, fromRepeat, fromCoreLookup, fromCoreValue, fromRoundWords, fromCoreWords, judged}
 use Rattle.verdict.specs.CoreAndRound.{coreKind, roundKind, verdictAt}
 use Rattle.verdict.specs.Kind.{Whole, Elements, ZeroAt, MatchedAt, Values, Lookups}
 use Rattle.verdict.specs.Failures.{RepeatsAt, NewAt, FirstValue, FirstLookup, FirstRepeat, FirstNotElement, UnevenAt, EvenAt, FirstUnbalanced, EachEven, ToCoreValue, ToCoreLookup, ToRepeat, ToRoundValue, ToRoundLookup, ToCoreBalance, ToRoundBalance, Says}
 use Rattle.verdict.specs.declared.Table.the-variants.{Core, Round}
 use Rattle.verdict.specs.declared.Verdict.{Verdict}
 use Rattle.verdict.specs.declared.Verdict.the-variants.{Refused, Value, Lookup, Repeated, Unbalanced, Holds}
-use Rattle.verdict.proofs.Judge.{scans-balanced}
+use Rattle.verdict.proofs.Judge.{even-balanced}
 use Rattle.verdict.proofs.Stages.{passes, answers, core-refused, round-refused, both-whole}
-use Rattle.verdict.proofs.Tuples.{core-bus, round-bus}
-use Rattle.verdict.proofs.Rows.{lt-or-ge}
+use Rattle.verdict.proofs.Tuples.{place, at-place, core-bus, round-bus}
 
 -- ---- each test separates what fails from what holds
 equal-separates : (a b : ℕ) → Separates (eqb a b) (a ≡ b) (a ≡ b → ⊥)
@@ -69,13 +70,13 @@ module _ (A : Layout) (ws : List ℕ) where
       (equal-separates (word x TIMESTAMP-0) (word y TIMESTAMP-0)) (equal-separates (word x TIMESTAMP-1) (word y TIMESTAMP-1)))
 
   repeat-separates : (r : ℕ) → r < rows A ws → Separates (repeats A ws r) (RepeatsAt A ws r) (NewAt A ws r)
-  unfolding repeats twin
+  unfolding repeats sameStampAt
   repeat-separates r l =
       separates-map (
         (λ x. record { active = x .0; earlier = x .1 .0; before = x .1 .1; earlier-active = x .1 .2 .0; same = x .1 .2 .1 }),
         λ x. (x .active, (x .earlier, x .before, (x .earlier-active, x .same))),
       ) ((λ h. h), λ h. h)
-      (separates-and (active A ws r) (any (twin A ws r) r) (active-separates r l) (separates-any (twin A ws r) r (λ q g.
+      (separates-and (active A ws r) (any (sameStampAt A ws r) r) (active-separates r l) (separates-any (sameStampAt A ws r) r (λ q g.
       separates-and (active A ws q) (sameStamp (row A ws q) (row A ws r)) (active-separates q (omega arith)) (stamp-separates (row A ws q) (row A ws r)))))
 
 module _ (K : Kind) (ws : List ℕ) where
@@ -90,6 +91,35 @@ module _ (K : Kind) (ws : List ℕ) where
 element-separates : (ws : List ℕ) (k : ℕ) → k < length ws → Separates (notElement ws k) (p ≤ word ws k) (word ws k < p)
 unfolding notElement
 element-separates ws k l = separates-le p (word ws k)
+
+-- ---- what each scan finds
+module _ (K : Kind) (ws : List ℕ) where
+  no-value : (firstValue K ws ≡ none) ↔ Values K ws
+  no-value = in-none-iff (badValue K ws) (K .values) (rows (K .layout) ws) (value-separates K ws)
+
+  a-value : (r i : ℕ) → (firstValue K ws ≡ some (r, i)) ↔ FirstValue K ws r i
+  a-value = in-some-iff (badValue K ws) (K .values) (rows (K .layout) ws) (value-separates K ws)
+
+  no-lookup : (firstLookup K ws ≡ none) ↔ Lookups K ws
+  no-lookup = in-none-iff (badLookup K ws) (K .tuples) (rows (K .layout) ws) (lookup-separates K ws)
+
+  a-lookup : (r i : ℕ) → (firstLookup K ws ≡ some (r, i)) ↔ FirstLookup K ws r i
+  a-lookup = in-some-iff (badLookup K ws) (K .tuples) (rows (K .layout) ws) (lookup-separates K ws)
+
+module _ (A : Layout) (ws : List ℕ) where
+  pub no-repeat : (firstRepeat A ws ≡ none) ↔ DistinctTimestamps A ws
+  unfolding DistinctTimestamps
+  no-repeat =
+      let e = at-none-iff (repeats A ws) (rows A ws) (repeat-separates A ws) in (
+        (λ n q r l a b. e .0 n r (b .there) b q l a),
+        λ d. e .1 (λ r l b q g a. d q r g a b),
+      )
+
+  a-repeat : (r : ℕ) → (firstRepeat A ws ≡ some r) ↔ FirstRepeat A ws r
+  a-repeat = at-some-iff (repeats A ws) (rows A ws) (repeat-separates A ws)
+
+a-big : (ws : List ℕ) (k : ℕ) → (firstNotElement ws (length ws) ≡ some k) ↔ FirstNotElement ws k
+a-big ws = at-some-iff (notElement ws) (length ws) (element-separates ws)
 
 -- ---- the answer of a stage
 module _ (P : Verdict → Type 0) where
@@ -121,40 +151,18 @@ module _ (K L : Kind) (core round : List ℕ) where
 
   -- what each scan finds
   module _ (M : Kind) (ws : List ℕ) where
-    no-value : (firstValue M ws ≡ none) ↔ Values M ws
-    no-value = in-none-iff (badValue M ws) (M .values) (rows (M .layout) ws) (value-separates M ws)
-
-    a-value : (r i : ℕ) → (firstValue M ws ≡ some (r, i)) ↔ FirstValue M ws r i
-    a-value = in-some-iff (badValue M ws) (M .values) (rows (M .layout) ws) (value-separates M ws)
-
-    no-lookup : (firstLookup M ws ≡ none) ↔ Lookups M ws
-    no-lookup = in-none-iff (badLookup M ws) (M .tuples) (rows (M .layout) ws) (lookup-separates M ws)
-
-    a-lookup : (r i : ℕ) → (firstLookup M ws ≡ some (r, i)) ↔ FirstLookup M ws r i
-    a-lookup = in-some-iff (badLookup M ws) (M .tuples) (rows (M .layout) ws) (lookup-separates M ws)
-
-    no-repeat : (firstRepeat (M .layout) ws ≡ none) ↔ DistinctTimestamps (M .layout) ws
-    unfolding DistinctTimestamps
-    no-repeat =
-        let e = at-none-iff (repeats (M .layout) ws) (rows (M .layout) ws) (repeat-separates (M .layout) ws) in (
-          (λ n q r l a b. e .0 n r (b .there) b q l a),
-          λ d. e .1 (λ r l b q g a. d q r g a b),
-        )
-
-    a-repeat : (r : ℕ) → (firstRepeat (M .layout) ws ≡ some r) ↔ FirstRepeat (M .layout) ws r
-    a-repeat = at-some-iff (repeats (M .layout) ws) (rows (M .layout) ws) (repeat-separates (M .layout) ws)
-
-    no-big : (firstNotElement ws (length ws) ≡ none) ↔ Elements ws
-    no-big = at-none-iff (notElement ws) (length ws) (element-separates ws)
-
-    a-big : (k : ℕ) → (firstNotElement ws (length ws) ≡ some k) ↔ FirstNotElement ws k
-    a-big = at-some-iff (notElement ws) (length ws) (element-separates ws)
-
     no-uneven : (firstUnbalanced K L core round M ws ≡ none) ↔ EachEven K L core round M ws
     no-uneven = in-none-iff (badTuple K L core round M ws) (M .tuples) (rows (M .layout) ws) (tuple-separates M ws)
 
     an-uneven : (r i : ℕ) → (firstUnbalanced K L core round M ws ≡ some (r, i)) ↔ FirstUnbalanced K L core round M ws r i
     an-uneven = in-some-iff (badTuple K L core round M ws) (M .tuples) (rows (M .layout) ws) (tuple-separates M ws)
+
+    each-even : Balanced K L core round → EachEven K L core round M ws
+    unfolding Balanced
+    each-even b r i l g a k = b (M .tuple (row (M .layout) ws r) i .values)
+
+    pub balanced-scan : Balanced K L core round → firstUnbalanced K L core round M ws ≡ none
+    balanced-scan b = no-uneven .1 (each-even b)
 
   -- ---- the verdict says what it answers, from each stage on
   abbrev Say : Verdict → Type 0
@@ -175,7 +183,7 @@ module _ (K L : Kind) (core round : List ℕ) where
         core-passes (h .0),
         h .0 .0 .0 .1,
         round-passes (h .0),
-        scans-balanced K L core round (no-uneven K core .1 (h .1)) e,
+        even-balanced K L core round (h .1) (no-uneven L round .0 e),
         refl,
       ))
 
@@ -201,7 +209,7 @@ module _ (K L : Kind) (core round : List ℕ) where
   unfolding fromRepeat
   from-repeat h =
       stage-says Say (firstRepeat (K .layout) core) (λ r. Repeated r) (fromRoundValue K L core round)
-      (λ r e. (h, a-repeat K core r .0 e)) (λ e. from-round-value (h, no-repeat K core .0 e))
+      (λ r e. (h, a-repeat (K .layout) core r .0 e)) (λ e. from-round-value (h, no-repeat (K .layout) core .0 e))
 
   from-core-lookup : ToCoreLookup K L core round → Say (fromCoreLookup K L core round)
   unfolding fromCoreLookup
@@ -219,10 +227,10 @@ module _ (K L : Kind) (core round : List ℕ) where
   unfolding fromCoreWords fromRoundWords
   from-words w v =
       stage-says Say (firstNotElement core (length core)) (λ k. Refused (NotElement k)) (fromRoundWords K L core round)
-      (λ k e. (w, v, inl (a-big K core k .0 e)))
+      (λ k e. (w, v, inl (a-big core k .0 e)))
       (λ n. stage-says Say (firstNotElement round (length round)) (λ k. Refused (NotElement k)) (fromCoreValue K L core round)
-      (λ k e. (w, v, inr (no-big K core .0 n, a-big L round k .0 e)))
-      (λ m. from-core-value (w, v, no-big K core .0 n, no-big L round .0 m)))
+      (λ k e. (w, v, inr (all-elements core (length core) n, a-big round k .0 e)))
+      (λ m. from-core-value (w, v, all-elements core (length core) n, all-elements round (length round) m)))
 
   pub says : Say (judged K L core round)
   unfolding judged
@@ -236,11 +244,11 @@ module _ (K L : Kind) (core round : List ℕ) where
   -- ---- where what comes before is passed, the verdict is that from the next stage on
   at-round-words : Whole (K .layout) core → Whole (L .layout) round → Elements core → judged K L core round ≡ fromRoundWords K L core round
   unfolding fromCoreWords
-  at-round-words w v h = both-whole K L core round w v ∙ passes (firstNotElement core (length core)) _ _ (no-big K core .1 h)
+  at-round-words w v h = both-whole K L core round w v ∙ passes (firstNotElement core (length core)) _ _ (none-found core (length core) h)
 
   at-core-value : ToCoreValue K L core round → judged K L core round ≡ fromCoreValue K L core round
   unfolding fromRoundWords
-  at-core-value h = at-round-words (h .0) (h .1) (h .2) ∙ passes (firstNotElement round (length round)) _ _ (no-big L round .1 (h .3))
+  at-core-value h = at-round-words (h .0) (h .1) (h .2) ∙ passes (firstNotElement round (length round)) _ _ (none-found round (length round) (h .3))
 
   at-core-lookup : ToCoreLookup K L core round → judged K L core round ≡ fromCoreLookup K L core round
   unfolding fromCoreValue
@@ -252,7 +260,7 @@ module _ (K L : Kind) (core round : List ℕ) where
 
   at-round-value : ToRoundValue K L core round → judged K L core round ≡ fromRoundValue K L core round
   unfolding fromRepeat
-  at-round-value h = at-repeat (h .0) ∙ passes (firstRepeat (K .layout) core) _ _ (no-repeat K core .1 (h .1))
+  at-round-value h = at-repeat (h .0) ∙ passes (firstRepeat (K .layout) core) _ _ (no-repeat (K .layout) core .1 (h .1))
 
   at-round-lookup : ToRoundLookup K L core round → judged K L core round ≡ fromRoundLookup K L core round
   unfolding fromRoundValue
@@ -272,28 +280,24 @@ module _ (K L : Kind) (core round : List ℕ) where
       let (c, d, r, b, e) = h in
       ((((((c .whole, r .whole, c .below, r .below), c .values), c .lookups), d), r .values), r .lookups)
 
-  even : {n : ℕ} → Say (Holds n) → (M : Kind) (ws : List ℕ) → EachEven K L core round M ws
-  unfolding Balanced
-  even h M ws r i l g a k = h .3 (M .tuple (row (M .layout) ws r) i .values)
-
   said : (v : Verdict) → Say v → judged K L core round ≡ v
   unfolding fromCoreWords fromRoundWords fromCoreValue fromCoreLookup fromRepeat fromRoundValue fromRoundLookup fromCoreBalance fromRoundBalance
   said (Refused (NotWhole zero)) h = core-refused K L core round h
   said (Refused (NotWhole (suc zero))) h = round-refused K L core round (h .0) (h .1)
   said (Refused (NotElement k)) h = elim (h .2) [
-    | inl f ↦ both-whole K L core round (h .0) (h .1) ∙ answers (firstNotElement core (length core)) _ _ k (a-big K core k .1 f)
-    | inr f ↦ at-round-words (h .0) (h .1) (f .0) ∙ answers (firstNotElement round (length round)) _ _ k (a-big L round k .1 (f .1))
+    | inl f ↦ both-whole K L core round (h .0) (h .1) ∙ answers (firstNotElement core (length core)) _ _ k (a-big core k .1 f)
+    | inr f ↦ at-round-words (h .0) (h .1) (f .0) ∙ answers (firstNotElement round (length round)) _ _ k (a-big round k .1 (f .1))
   ]
   said (Value Core r i) h = at-core-value (h .0) ∙ answers (firstValue K core) _ _ (r, i) (a-value K core r i .1 (h .1))
   said (Lookup Core r i) h = at-core-lookup (h .0) ∙ answers (firstLookup K core) _ _ (r, i) (a-lookup K core r i .1 (h .1))
-  said (Repeated r) h = at-repeat (h .0) ∙ answers (firstRepeat (K .layout) core) _ _ r (a-repeat K core r .1 (h .1))
+  said (Repeated r) h = at-repeat (h .0) ∙ answers (firstRepeat (K .layout) core) _ _ r (a-repeat (K .layout) core r .1 (h .1))
   said (Value Round r i) h = at-round-value (h .0) ∙ answers (firstValue L round) _ _ (r, i) (a-value L round r i .1 (h .1))
   said (Lookup Round r i) h = at-round-lookup (h .0) ∙ answers (firstLookup L round) _ _ (r, i) (a-lookup L round r i .1 (h .1))
   said (Unbalanced Core r i) h = at-core-balance (h .0) ∙ answers (firstUnbalanced K L core round K core) _ _ (r, i) (an-uneven K core r i .1 (h .1))
   said (Unbalanced Round r i) h = at-round-balance (h .0) ∙ answers (firstUnbalanced K L core round L round) _ _ (r, i) (an-uneven L round r i .1 (h .1))
   said (Holds n) h =
-      at-round-balance (of-passes h, even h K core)
-      ∙ passes (firstUnbalanced K L core round L round) _ _ (no-uneven L round .1 (even h L round))
+      at-round-balance (of-passes h, each-even K core (h .3))
+      ∙ passes (firstUnbalanced K L core round L round) _ _ (balanced-scan L round (h .3))
       ∙ ap Holds (sym (h .4))
   said (Refused (NotWhole (suc (suc d)))) h = absurd h
   said (Refused (PastEnd d)) h = absurd h
@@ -318,10 +322,10 @@ module _ (K L : Kind) (core round : List ℕ) where
   timestamp-twice h q r l a b e = go (firstRepeat (K .layout) core) refl
     where
       go : (o : Option ℕ) → firstRepeat (K .layout) core ≡ o → (s : ℕ) × (s ≤ r) × RepeatsAt (K .layout) core s × (judged K L core round ≡ Repeated s)
-      go none n = absurd (no-repeat K core .0 n q r l a b e)
+      go none n = absurd (no-repeat (K .layout) core .0 n q r l a b e)
       go (some s) n =
-          let f = a-repeat K core s .0 n in
-          elim (lt-or-ge r s) [ inl k ↦ absurd (f .lower r k b q l a e) | inr k ↦ (s, k, f .fails, said (Repeated s) (h, f)) ]
+          let f = a-repeat (K .layout) core s .0 n in
+          by-le s r (λ k. (s, k, f .fails, said (Repeated s) (h, f))) (λ k. absurd (f .lower r k b q l a e))
 
   -- both tables pass and the timestamps differ, but the bus is not balanced: the verdict names an unbalanced tuple
   pub out-of-balance : ToCoreBalance K L core round → (Balanced K L core round → ⊥) →
@@ -333,7 +337,7 @@ module _ (K L : Kind) (core round : List ℕ) where
       go (some a) o′ e f = (a .0, a .1, inl (said (Unbalanced Core (a .0) (a .1)) (h, an-uneven K core (a .0) (a .1) .0 e)))
       go none (some a) e f =
           (a .0, a .1, inr (said (Unbalanced Round (a .0) (a .1)) ((h, no-uneven K core .0 e), an-uneven L round (a .0) (a .1) .0 f)))
-      go none none e f = absurd (n (scans-balanced K L core round e f))
+      go none none e f = absurd (n (even-balanced K L core round (no-uneven K core .0 e) (no-uneven L round .0 f)))
 
 -- ---- the core table and the round table
 pub verdict-says : (nr : ℕ) (core round : List ℕ) (v : Verdict) → (verdictAt nr core round ≡ v) ↔ Says (coreKind nr) roundKind core round v
@@ -342,12 +346,11 @@ verdict-says nr = verdict-iff (coreKind nr) roundKind
 -- "a core row's send before its receive, a round row's receive before its send": which index an unbalanced tuple has
 keccak-places : (M : Kind) (S R : ℕ) → OnBus M S R → (x : List ℕ) (i : ℕ) → M .tuple x i .bus ≡ Keccak →
     ((i ≡ S) × (M .tuple x i .side ≡ Sender)) ⊎ ((i ≡ R) × (M .tuple x i .side ≡ Receiver))
-keccak-places M S R bus x i k = go (eqb i S) (eqb i R) refl refl
+keccak-places M S R bus x i k = go (M .tuple x i .side) refl (at-place bus x i (T-true (onKeccak (M .tuple x i)) (bus-decides (M .tuple x i .bus) Keccak .from k)))
   where
-    go : (a b : Bool) → eqb i S ≡ a → eqb i R ≡ b → ((i ≡ S) × (M .tuple x i .side ≡ Sender)) ⊎ ((i ≡ R) × (M .tuple x i .side ≡ Receiver))
-    go true b e f = let q = eqb-true i S e in inl (q, ap (λ (j : ℕ). M .tuple x j .side) q ∙ ap (λ (y : Tuple). y .side) (bus .send x))
-    go false true e f = let q = eqb-true i R f in inr (q, ap (λ (j : ℕ). M .tuple x j .side) q ∙ ap (λ (y : Tuple). y .side) (bus .receive x))
-    go false false e f = absurd (decides-no (bus-decides (M .tuple x i .bus) Keccak) (bus .others x i (eqb-false i S e) (eqb-false i R f)) k)
+    go : (s : Side) → M .tuple x i .side ≡ s → i ≡ place bus (M .tuple x i .side) → ((i ≡ S) × (M .tuple x i .side ≡ Sender)) ⊎ ((i ≡ R) × (M .tuple x i .side ≡ Receiver))
+    go Sender e q = inl (q ∙ ap (place bus) e, e)
+    go Receiver e q = inr (q ∙ ap (place bus) e, e)
 
 pub core-places : (nr : ℕ) (x : List ℕ) (i : ℕ) → coreTuple nr 0 x i .bus ≡ Keccak →
     ((i ≡ 2) × (coreTuple nr 0 x i .side ≡ Sender)) ⊎ ((i ≡ 3) × (coreTuple nr 0 x i .side ≡ Receiver))

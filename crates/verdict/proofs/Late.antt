@@ -1,7 +1,7 @@
 -- A row past the last round: in tables that pass and whose timestamps differ, an active round row with ROUND 24 or more has the verdict name an unbalanced tuple.
 -- Such a row sends the round after its own; no core row receives that, so a later row does, and so on; no row that passes has ROUND 32. Assumes nothing.
 use mathlib.Core.Path.{_≡_, refl, sym, ap, subst, _∙_}
-use mathlib.Core.Logic.{_⊎_, inl, inr}
+use mathlib.Core.Logic.{_⊎_}
 use mathlib.Core.List.{List}
 use Prim.Native.Nat.{ℕ, zero, suc, _+_, _-_, _≤_, _<_}
 use native.Mathlib.Omega.{arith}
@@ -9,8 +9,9 @@ use Rattle.lists.specs.Tab.{word, then}
 use Rattle.lists.specs.Select.{wordsTest}
 use Rattle.lists.proofs.Count.{count-find, count-hit}
 use Rattle.lists.proofs.Tests.{T-of, and-true, true-and}
-use Rattle.lists.proofs.Then.{T-true}
+use Rattle.lists.proofs.Then.{by-le, T-true}
 use Rattle.lists.proofs.Select.{words-same, words-sound}
+use Rattle.lookup.specs.declared.Side.the-variants.{Sender, Receiver}
 use Rattle.field.specs.Field.{fadd}
 use Rattle.field.proofs.Field.{fadd-small}
 use Rattle.keccak.specs.Tuples.{keccakValues, coreTuple, coreReceived}
@@ -24,8 +25,7 @@ use Rattle.verdict.specs.declared.Table.the-variants.{Core, Round}
 use Rattle.verdict.specs.declared.Verdict.the-variants.{Unbalanced}
 use Rattle.verdict.proofs.Tables.{passes-row, all-below}
 use Rattle.verdict.proofs.Judge.{is-active, active-is}
-use Rattle.verdict.proofs.Tuples.{carriesAt, sent-count, received-count, core-bus, round-bus}
-use Rattle.verdict.proofs.Rows.{lt-or-ge}
+use Rattle.verdict.proofs.Tuples.{carriesAt, carried-count, core-bus, round-bus}
 use Rattle.verdict.proofs.Failures.{round-passes, out-of-balance}
 
 -- what an active row sends is sent, and what is received, an active row receives
@@ -34,13 +34,13 @@ module _ {K : Kind} {S R : ℕ} (bus : OnBus K S R) (ws : List ℕ) where
   unfolding carriesAt
   is-sent r a =
       let x : List ℕ = K .tuple (row (K .layout) ws r) S .values in
-      subst (λ (n : ℕ). 1 ≤ n) (sym (sent-count bus ws x)) (count-hit (carriesAt K S ws x) (rows (K .layout) ws) r (a .there)
+      subst (λ (n : ℕ). 1 ≤ n) (sym (carried-count bus Sender ws x)) (count-hit (carriesAt K S ws x) (rows (K .layout) ws) r (a .there)
       (true-and (active (K .layout) ws r) (wordsTest x x) (is-active (K .layout) ws a) (T-true (wordsTest x x) (words-same x))))
 
   who-receives : (x : List ℕ) → 1 ≤ received K ws x → (r : ℕ) × Active (K .layout) ws r × (x ≡ K .tuple (row (K .layout) ws r) R .values)
   unfolding carriesAt
   who-receives x h =
-      let f = count-find (carriesAt K R ws x) (rows (K .layout) ws) (subst (λ (n : ℕ). 1 ≤ n) (received-count bus ws x) h) in
+      let f = count-find (carriesAt K R ws x) (rows (K .layout) ws) (subst (λ (n : ℕ). 1 ≤ n) (carried-count bus Receiver ws x) h) in
       let v : List ℕ = K .tuple (row (K .layout) ws (f .0)) R .values in
       let g = and-true (active (K .layout) ws (f .0)) (wordsTest x v) (f .2) in
       (f .0, active-is (K .layout) ws (f .0) (f .1) (g .0), words-sound x v (T-of (wordsTest x v) (g .1)))
@@ -74,15 +74,14 @@ module _ (nr : ℕ) (core round : List ℕ) (passes : Passes roundKind round) (b
       let e : word x 2 ≡ roundAt q + 1 = round-sent-round (row roundLayout round q) ∙ fadd-small (roundAt q) 1 (omega (arith, early q a)) in
       let s = is-sent round-bus round q a in
       let b = balanced x in
-      elim (lt-or-ge 0 (received (coreKind nr) core x)) [
-        | inl g ↦
-            let c = who-receives (core-bus nr) core x g in
-            let z : word x 2 ≡ 24 = ap (λ (y : List ℕ). word y 2) (c .2) ∙ core-received-round nr (row coreLayout core (c .0)) in
-            absurd (omega arith)
-        | inr g ↦
-            let c = who-receives round-bus round x (omega arith) in
-            (c .0, c .1, sym (round-received-round (row roundLayout round (c .0))) ∙ sym (ap (λ (y : List ℕ). word y 2) (c .2)) ∙ e)
-      ]
+      by-le 1 (received (coreKind nr) core x)
+      (λ g.
+      let c = who-receives (core-bus nr) core x g in
+      let z : word x 2 ≡ 24 = ap (λ (y : List ℕ). word y 2) (c .2) ∙ core-received-round nr (row coreLayout core (c .0)) in
+      absurd (omega arith))
+      (λ g.
+      let c = who-receives round-bus round x (omega arith) in
+      (c .0, c .1, sym (round-received-round (row roundLayout round (c .0))) ∙ sym (ap (λ (y : List ℕ). word y 2) (c .2)) ∙ e))
 
   none-late : (n q : ℕ) → Active roundLayout round q → 24 ≤ roundAt q → roundAt q + n ≡ 32 → ⊥
   none-late zero q a l e = let h = early q a in omega arith

@@ -4,7 +4,7 @@
 --     row-again    the core row that is written for what is read from a row is that row
 --     none-refused, lendable, rows-again   the claims of demand 3 on the operations
 use mathlib.Core.Path.{_≡_, refl, sym, ap, subst, _∙_}
-use mathlib.Core.List.{List, [], _++_, List·Memᴰ}
+use mathlib.Core.List.{List, [], _++_}
 use Prim.Native.Nat.{ℕ, zero, suc, _+_, _-_, _*_, _/_, _%_, _^_, _≤_, _<_}
 use native.Mathlib.Omega.{arith}
 use lib.ListN.{length, getD, List·getD-append}
@@ -26,11 +26,11 @@ use Rattle.keccak.specs.declared.KeccakOperation.{KeccakOperation}
 use Rattle.keccak.proofs.State.{length-state, state-lanes, state-byte}
 use Rattle.keccak.proofs.Cells.{length-core}
 use Rattle.keccak.proofs.Refusals.{accepted-is}
+use Rattle.bus.proofs.Listed.{index-mem, by-tab, count-before, selected-length, selected-at}
 use Rattle.verdict.specs.Kind.{Layout, rows, row, isActive, active, actives, activeRows, Active}
 use Rattle.verdict.specs.CoreAndRound.{coreLayout}
 use Rattle.verdict.specs.Claims.{EachActive, ShortTimestamp, States, opWords, operations}
-use Rattle.verdict.proofs.Rows.{by-upto, active-length, index-mem, selected-at, count-before}
-use Rattle.verdict.proofs.TwoTables.{active-listed, listed-mem, is-on}
+use Rattle.verdict.proofs.TwoTables.{listed-mem, is-on}
 
 -- ---- one row
 -- a core row read as an operation
@@ -142,7 +142,7 @@ module _ (x : List ℕ) where
 
 -- ---- the table
 pub actives-length : (A : Layout) (ws : List ℕ) → length (activeRows A ws) ≡ actives A ws
-actives-length A ws = ap length (active-listed A ws) ∙ active-length (isActive A) _ ∙ by-upto (isActive A) (row A ws) (rows A ws)
+actives-length A ws = selected-length (isActive A) _ ∙ by-tab (isActive A) (rows A ws) (row A ws)
 
 module _ (core : List ℕ) where
   abbrev rowsOf : List (List ℕ)
@@ -161,7 +161,7 @@ module _ (core : List ℕ) where
 
   -- row i of the active rows is an active row of the table
   pub row-of : (i : ℕ) → i < length rowsOf → (r : ℕ) × Active coreLayout core r × (getD rowsOf i [] ≡ row coreLayout core r)
-  row-of i l = listed-mem coreLayout core (getD rowsOf i []) (subst (List·Memᴰ (getD rowsOf i [])) (active-listed coreLayout core) (index-mem [] rowsOf i l))
+  row-of i l = listed-mem coreLayout core (getD rowsOf i []) (index-mem [] rowsOf i l)
 
   pub of-active : (P : List ℕ → Type 0) → EachActive P core → (i : ℕ) → i < length rowsOf → P (getD rowsOf i [])
   of-active P h i l = let f = row-of i l in subst P (sym (f .2)) (h (f .0) (f .1))
@@ -226,8 +226,7 @@ module _ (core : List ℕ) where
     rows-again states r a =
         let i : ℕ = count (active coreLayout core) r in
         let here : getD rowsOf i [] ≡ row coreLayout core r =
-        ap (λ (l : List (List ℕ)). getD l i []) (active-listed coreLayout core)
-        ∙ selected-at (isActive coreLayout) (row coreLayout core) [] (rows coreLayout core) r (a .there) (is-on coreLayout (row coreLayout core r) (a .on)) in
+        selected-at (isActive coreLayout) (row coreLayout core) [] (rows coreLayout core) r (a .there) (is-on coreLayout (row coreLayout core r) (a .on)) in
         let below : i < length rowsOf =
         omega (arith, actives-length coreLayout core, count-before (active coreLayout core) (rows coreLayout core) r (a .there) (is-on coreLayout (row coreLayout core r) (a .on))) in
         ap coreRow (op-is i below ∙ ap readOp here)

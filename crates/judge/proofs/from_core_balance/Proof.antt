@@ -3,7 +3,7 @@ use mathlib.Core.Path.{sym, ap, _∙_}
 use borrow.Author.Needs.{needs}
 use Rattle.verdict.specs.Verdict.{fromCoreBalance, fromRoundBalance}
 use Rattle.verdict.specs.declared.Verdict.the-variants.{Holds}
-use Rattle.verdict.proofs.Judge.{balanced-scan}
+use Rattle.verdict.proofs.Failures.{balanced-scan}
 use Rattle.verdict.proofs.Stages.{passes, answers}
 use Rattle.judge_scan.proofs.Scan.{spot-at, spot-nowhere}
 use Rattle.chains.proofs.Balance.{chained-balanced}
@@ -20,7 +20,7 @@ returns : tie.Need-returns
 unfolding fromCoreBalance fromRoundBalance
 returns c =
     let b = chained-balanced _ _ (c .before .before .before .before .before .pre) (c .before .before .every-chain .ensures (c .before .if1 .taken)) in
-    ap Holds (c .active-core-rows .ensures) ∙ sym (passes _ _ _ (balanced-scan _ _ _ _ b _ _) ∙ passes _ _ _ (balanced-scan _ _ _ _ b _ _))
+    ap Holds (c .active-core-rows .ensures) ∙ sym (passes _ _ _ (balanced-scan _ _ _ _ _ _ b) ∙ passes _ _ _ (balanced-scan _ _ _ _ _ _ b))
 
 walk-requires : tie.Need-walk-requires
 walk-requires c κs = search needs

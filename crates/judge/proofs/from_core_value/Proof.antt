@@ -3,7 +3,7 @@ use mathlib.Core.Path.{sym, _∙_}
 use borrow.Author.Needs.{needs}
 use Rattle.lists.proofs.First.{place-at, place-nowhere}
 use Rattle.verdict.specs.Verdict.{fromCoreValue, fromCoreLookup, fromRepeat}
-use Rattle.verdict.proofs.Judge.{apart-rows}
+use Rattle.verdict.proofs.Failures.{no-repeat}
 use Rattle.verdict.proofs.Stages.{passes, answers}
 use Rattle.judge_scan.proofs.Scan.{spot-at, spot-nowhere}
 use Rattle.judge.proofs.from_core_value.Statement.{statement}
@@ -54,7 +54,7 @@ enum-told-3 c = search needs
 from-round-value-requires : tie.Need-from-round-value-requires
 from-round-value-requires c κs = (
   c .before .before .before .before .before .before .before .before .before .before .before .pre .1,
-  apart-rows _ _ (place-nowhere _ (sym (c .enum-told3 .given .1) ∙ c .before .before .first-repeat .ensures)),
+  no-repeat _ _ .0 (place-nowhere _ (sym (c .enum-told3 .given .1) ∙ c .before .before .first-repeat .ensures)),
 )
 
 returns-4 : tie.Need-returns-4

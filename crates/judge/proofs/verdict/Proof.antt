@@ -2,8 +2,8 @@
 use mathlib.Core.Path.{sym, _∙_}
 use borrow.Author.Needs.{needs}
 use Rattle.lists.proofs.First.{place-at, place-nowhere}
+use Rattle.field.proofs.NotElement.{all-elements}
 use Rattle.verdict.specs.Verdict.{fromCoreWords, fromRoundWords}
-use Rattle.verdict.proofs.Judge.{no-big}
 use Rattle.verdict.proofs.Stages.{passes, answers, core-refused, round-refused, both-whole}
 use Rattle.judge.proofs.verdict.Statement.{statement}
 use Rattle.judge.proofs.verdict.Tie as tie
@@ -46,7 +46,7 @@ enum-told-2 : tie.Need-enum-told-2
 enum-told-2 c = search needs
 
 from-core-value-requires : tie.Need-from-core-value-requires
-from-core-value-requires c κs = (no-big _ (place-nowhere _ (sym (c .before .before .before .enum-told .given .1) ∙ c .before .before .before .before .before .first-not-element .ensures)), no-big _ (place-nowhere _ (sym (c .enum-told2 .given .1) ∙ c .before .before .first-not-element2 .ensures)))
+from-core-value-requires c κs = (all-elements _ _ (place-nowhere _ (sym (c .before .before .before .enum-told .given .1) ∙ c .before .before .before .before .before .first-not-element .ensures)), all-elements _ _ (place-nowhere _ (sym (c .enum-told2 .given .1) ∙ c .before .before .first-not-element2 .ensures)))
 
 returns-5 : tie.Need-returns-5
 unfolding fromCoreWords fromRoundWords

@@ -1,8 +1,7 @@
 -- `judge_links::row_at` meets its contract: the part that it gives is the row. Assumes nothing.
 use native.Mathlib.Omega.{arith}
 use denote.Ref.{now}
-use Rattle.verdict.proofs.Parts.{row-ends}
-use Rattle.judge_scan.proofs.Scan.{part-is}
+use Rattle.judge_scan.proofs.Scan.{row-ends, part-is}
 use Rattle.judge_links.proofs.row_at.Statement.{statement}
 use Rattle.judge_links.proofs.row_at.Tie as tie
 

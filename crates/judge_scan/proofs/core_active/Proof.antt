@@ -1,7 +1,7 @@
 -- `judge_scan::core_active` meets its contract: MU of row r stands at r rows and MU words. Assumes nothing.
 use native.Mathlib.Omega.{arith}
 use Rattle.verdict.specs.CoreAndRound.{coreLayout}
-use Rattle.verdict.proofs.Parts.{active-word}
+use Rattle.judge_scan.proofs.Scan.{active-word}
 use Rattle.judge_scan.proofs.core_active.Statement.{statement}
 use Rattle.judge_scan.proofs.core_active.Tie as tie
 

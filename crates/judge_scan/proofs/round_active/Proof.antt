@@ -1,7 +1,7 @@
 -- `judge_scan::round_active` meets its contract: MU of row r stands at r rows and MU words. Assumes nothing.
 use native.Mathlib.Omega.{arith}
 use Rattle.verdict.specs.CoreAndRound.{roundLayout}
-use Rattle.verdict.proofs.Parts.{active-word}
+use Rattle.judge_scan.proofs.Scan.{active-word}
 use Rattle.judge_scan.proofs.round_active.Statement.{statement}
 use Rattle.judge_scan.proofs.round_active.Tie as tie
 

@@ -45,14 +45,14 @@ shared-slice-read-high c = omega arith
 above-requires : tie.Need-above-requires Inv-loop μ-loop
 above-requires c κs = tt
 
-has-twin-requires : tie.Need-has-twin-requires Inv-loop μ-loop
-has-twin-requires c κs = omega (arith, c .before .before .before .before .before .before .loop-test .taken)
+has-same-stamp-requires : tie.Need-has-same-stamp-requires Inv-loop μ-loop
+has-same-stamp-requires c κs = omega (arith, c .before .before .before .before .before .before .loop-test .taken)
 
 returns : tie.Need-returns Inv-loop μ-loop
 returns c =
     let l = c .before .before .before .before .before .before .before .before .before .loop in
     sym (ap placeOf (at-hit _ _ _ (c .before .before .before .before .before .before .before .before .loop-test .taken) (l .inv .1 .fresh)
-    (repeats-on _ _ _ (sym (c .before .before .before .before .before .before .before .core-active .ensures) ∙ c .before .before .before .before .before .before .if1 .taken) (sym (c .before .has-twin .ensures) ∙ c .if3 .taken))))
+    (repeats-on _ _ _ (sym (c .before .before .before .before .before .before .before .core-active .ensures) ∙ c .before .before .before .before .before .before .if1 .taken) (sym (c .before .has-same-stamp .ensures) ∙ c .if3 .taken))))
 
 add-row : tie.Need-add-row Inv-loop μ-loop
 add-row c = omega arith
@@ -92,7 +92,7 @@ first-repeat-spec =
     mul-high-2
     shared-slice-read-high
     above-requires
-    has-twin-requires
+    has-same-stamp-requires
     returns
     add-row
     loop-less

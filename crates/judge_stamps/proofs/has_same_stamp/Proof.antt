@@ -1,4 +1,4 @@
--- `judge_stamps::has_twin` meets its contract: no active row before q has the timestamp. Assumes nothing.
+-- `judge_stamps::has_same_stamp` meets its contract: no active row before q has the timestamp. Assumes nothing.
 use mathlib.Core.Path.{_≡_, sym, _∙_}
 use mathlib.Core.Logic.{⊎-elim}
 use mathlib.Core.Option.{none}
@@ -6,14 +6,14 @@ use Prim.Native.Nat.{_≤_, _-_}
 use native.Mathlib.Omega.{arith}
 use Rattle.lists.specs.First.{first, atIndex}
 use Rattle.lists.proofs.First.{first-start, at-more, any-hit, any-none}
-use Rattle.verdict.specs.Verdict.{twin}
+use Rattle.verdict.specs.Verdict.{sameStampAt}
 use Rattle.verdict.specs.CoreAndRound.{coreLayout}
-use Rattle.judge_stamps.proofs.Stamps.{twin-off, twin-on}
-use Rattle.judge_stamps.proofs.has_twin.Statement.{statement}
-use Rattle.judge_stamps.proofs.has_twin.Tie as tie
+use Rattle.judge_stamps.proofs.Stamps.{same-stamp-off, same-stamp-on}
+use Rattle.judge_stamps.proofs.has_same_stamp.Statement.{statement}
+use Rattle.judge_stamps.proofs.has_same_stamp.Tie as tie
 
 abbrev Inv-loop : tie.InvT-loop
-Inv-loop core r q₀ q = (q ≤ r) × (first (atIndex (twin coreLayout core r)) q ≡ none)
+Inv-loop core r q₀ q = (q ≤ r) × (first (atIndex (sameStampAt coreLayout core r)) q ≡ none)
 
 abbrev μ-loop : tie.MeasureT-loop
 μ-loop core r q₀ q = r - q
@@ -31,7 +31,7 @@ returns : tie.Need-returns Inv-loop μ-loop
 returns c =
     let l = c .before .before .before .before .before .loop in
     sym (any-hit _ _ _ (c .before .before .before .before .loop-test .taken) (l .inv .1)
-    (twin-on _ _ _ _ (sym (c .before .before .before .core-active .ensures) ∙ c .before .before .if1 .taken) (sym (c .before .same-stamp .ensures) ∙ c .if2 .taken)))
+    (same-stamp-on _ _ _ _ (sym (c .before .before .before .core-active .ensures) ∙ c .before .before .if1 .taken) (sym (c .before .same-stamp .ensures) ∙ c .if2 .taken)))
 
 add-q : tie.Need-add-q Inv-loop μ-loop
 add-q c = omega arith
@@ -43,13 +43,13 @@ loop-again : tie.Need-loop-again Inv-loop μ-loop
 loop-again c =
     let h = c .before .before .before .loop .inv .1 in
     let e = sym (c .before .core-active .ensures) in
-    (omega arith, at-more _ _ h (⊎-elim (λ w. twin-on _ _ _ _ (e ∙ w .0 .taken) (sym (w .1 .ensures) ∙ w .2 .left)) (λ w. twin-off _ _ _ (e ∙ w .left)) (c .if1 .came)))
+    (omega arith, at-more _ _ h (⊎-elim (λ w. same-stamp-on _ _ _ _ (e ∙ w .0 .taken) (sym (w .1 .ensures) ∙ w .2 .left)) (λ w. same-stamp-off _ _ _ (e ∙ w .left)) (c .if1 .came)))
 
 returns-2 : tie.Need-returns-2 Inv-loop μ-loop
 returns-2 c = sym (any-none _ _ _ (c .before .loop .inv .0) (c .loop-test .left) (c .before .loop .inv .1))
 
-pub has-twin-spec : {M : Type 1} → statement M
-has-twin-spec =
+pub has-same-stamp-spec : {M : Type 1} → statement M
+has-same-stamp-spec =
     tie.close
     (tie.spec
     Inv-loop
