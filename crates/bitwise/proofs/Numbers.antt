@@ -10,19 +10,24 @@ use Rattle.bitwise.specs.declared.BitwiseOperationType.the-variants as k
 use Rattle.bitwise.specs.Columns.{NUM-PRECOMPUTED-COLS, NUM-LOOKUP-TYPES}
 use Rattle.bitwise.specs.Tuples.{lookup-type-index, kindAt, mu-column, kindValues, kindSize}
 
+-- a statement of every kind, from one for each
+pub by-kind : (P : BitwiseOperationType → Type 0) → P kind.Msb8 → P kind.Msb16 → P kind.Zero → P kind.AreBytes → P kind.IsHalf → P kind.IsB20 → P kind.Hwsl → P kind.ByteAluAnd → P kind.ByteAluOr → P kind.ByteAluXor
+    → (k : BitwiseOperationType) → P k
+by-kind P a b c d e f g h i j kind.Msb8 = a
+by-kind P a b c d e f g h i j kind.Msb16 = b
+by-kind P a b c d e f g h i j kind.Zero = c
+by-kind P a b c d e f g h i j kind.AreBytes = d
+by-kind P a b c d e f g h i j kind.IsHalf = e
+by-kind P a b c d e f g h i j kind.IsB20 = f
+by-kind P a b c d e f g h i j kind.Hwsl = g
+by-kind P a b c d e f g h i j kind.ByteAluAnd = h
+by-kind P a b c d e f g h i j kind.ByteAluOr = i
+by-kind P a b c d e f g h i j kind.ByteAluXor = j
+
 -- every kind is at its number
 pub kind-of-index : (k : BitwiseOperationType) → kindAt (lookup-type-index k) ≡ k
 unfolding kindAt
-kind-of-index kind.Msb8 = refl
-kind-of-index kind.Msb16 = refl
-kind-of-index kind.Zero = refl
-kind-of-index kind.AreBytes = refl
-kind-of-index kind.IsHalf = refl
-kind-of-index kind.IsB20 = refl
-kind-of-index kind.Hwsl = refl
-kind-of-index kind.ByteAluAnd = refl
-kind-of-index kind.ByteAluOr = refl
-kind-of-index kind.ByteAluXor = refl
+kind-of-index = by-kind (λ k. kindAt (lookup-type-index k) ≡ k) refl refl refl refl refl refl refl refl refl refl
 
 -- past the ninth the kind is the last
 pub kind-last : (i : ℕ) → 9 ≤ i → kindAt i ≡ kind.ByteAluXor
@@ -50,41 +55,14 @@ index-of-kind (suc (suc (suc (suc (suc (suc (suc (suc (suc k))))))))) h =
 
 -- the columns that count stand behind the fixed ones, in the order of the kinds' numbers
 pub mu-column-of : (k : BitwiseOperationType) → mu-column k ≡ NUM-PRECOMPUTED-COLS + lookup-type-index k
-mu-column-of kind.Msb8 = refl
-mu-column-of kind.Msb16 = refl
-mu-column-of kind.Zero = refl
-mu-column-of kind.AreBytes = refl
-mu-column-of kind.IsHalf = refl
-mu-column-of kind.IsB20 = refl
-mu-column-of kind.Hwsl = refl
-mu-column-of kind.ByteAluAnd = refl
-mu-column-of kind.ByteAluOr = refl
-mu-column-of kind.ByteAluXor = refl
+mu-column-of = by-kind (λ k. mu-column k ≡ NUM-PRECOMPUTED-COLS + lookup-type-index k) refl refl refl refl refl refl refl refl refl refl
 
 pub mu-column-at : (i : ℕ) → i < NUM-LOOKUP-TYPES → mu-column (kindAt i) ≡ NUM-PRECOMPUTED-COLS + i
 mu-column-at i h = mu-column-of (kindAt i) ∙ ap (λ (j : ℕ). NUM-PRECOMPUTED-COLS + j) (index-of-kind i h)
 
 -- how many values a kind has, and at most four
 pub kind-size : (row : List ℕ) (k : BitwiseOperationType) → length (kindValues row k) ≡ kindSize k
-kind-size row kind.Msb8 = refl
-kind-size row kind.Msb16 = refl
-kind-size row kind.Zero = refl
-kind-size row kind.AreBytes = refl
-kind-size row kind.IsHalf = refl
-kind-size row kind.IsB20 = refl
-kind-size row kind.Hwsl = refl
-kind-size row kind.ByteAluAnd = refl
-kind-size row kind.ByteAluOr = refl
-kind-size row kind.ByteAluXor = refl
+kind-size row = by-kind (λ k. length (kindValues row k) ≡ kindSize k) refl refl refl refl refl refl refl refl refl refl
 
 pub size-le : (k : BitwiseOperationType) → kindSize k ≤ 4
-size-le kind.Msb8 = omega arith
-size-le kind.Msb16 = omega arith
-size-le kind.Zero = omega arith
-size-le kind.AreBytes = omega arith
-size-le kind.IsHalf = omega arith
-size-le kind.IsB20 = omega arith
-size-le kind.Hwsl = omega arith
-size-le kind.ByteAluAnd = omega arith
-size-le kind.ByteAluOr = omega arith
-size-le kind.ByteAluXor = omega arith
+size-le = by-kind (λ k. kindSize k ≤ 4) (omega arith) (omega arith) (omega arith) (omega arith) (omega arith) (omega arith) (omega arith) (omega arith) (omega arith) (omega arith)

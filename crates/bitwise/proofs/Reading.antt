@@ -13,18 +13,10 @@ use Rattle.bitwise.specs.declared.BitwiseOperationType.{BitwiseOperation
 use Rattle.bitwise.specs.declared.BitwiseOperationType.the-variants as kind
 use Rattle.bitwise.specs.Columns.{X, Y, Z, AND, OR, XOR, MSB8, MSB16, ZERO, SLL, SLLC, NUM-COLUMNS, NUM-LOOKUP-TYPES}
 use Rattle.bitwise.specs.Tuples.{kindAt, kindBus, kindValues, mu-column, half, twenty, bitwiseTuple}
+use Rattle.bitwise.proofs.Numbers.{by-kind}
 
 mu-lt : (k : BitwiseOperationType) → mu-column k < NUM-COLUMNS
-mu-lt kind.Msb8 = omega arith
-mu-lt kind.Msb16 = omega arith
-mu-lt kind.Zero = omega arith
-mu-lt kind.AreBytes = omega arith
-mu-lt kind.IsHalf = omega arith
-mu-lt kind.IsB20 = omega arith
-mu-lt kind.Hwsl = omega arith
-mu-lt kind.ByteAluAnd = omega arith
-mu-lt kind.ByteAluOr = omega arith
-mu-lt kind.ByteAluXor = omega arith
+mu-lt = by-kind (λ k. mu-column k < NUM-COLUMNS) (omega arith) (omega arith) (omega arith) (omega arith) (omega arith) (omega arith) (omega arith) (omega arith) (omega arith) (omega arith)
 
 module _ (row other : List ℕ) (same : Alike NUM-COLUMNS row other) where
   half-same : half row ≡ half other

@@ -1,17 +1,22 @@
--- What a call of the core table knows once its checks have passed. Assumes nothing.
+-- The checks of a call that takes a list of operations, and what it knows once they have passed. Assumes nothing.
 use Prim.Native.Nat.{ℕ, _+_, _%_, _^_, _≤_, _<_}
-use mathlib.Core.Path.{_≡_}
-use mathlib.Core.Option.{none}
+use mathlib.Core.Path.{_≡_, sym, ap, _∙_}
+use mathlib.Core.Option.{none, some}
 use mathlib.Core.List.{List}
 use native.Mathlib.Omega.{arith}
-use borrow.Author.Tests.{ltb-false, eqb-true, not-false}
+use borrow.Author.Tests.{lt-ltb, le-ltb, ltb-false, eqb-true, not-false}
 use lib.ListN.{length}
 use Rattle.lists.specs.First.{firstAt}
 use Rattle.lists.proofs.First.{at-clear}
-use Rattle.answer.specs.Refusal.{accepted, tooShort}
-use Rattle.answer.proofs.Laws.{passed-if, passed-at}
+use Rattle.answer.specs.Limits.{MAX-OPS}
+use Rattle.answer.specs.Refusal.{accepted, answerOf, tooShort}
+use Rattle.answer.specs.declared.Refusal.{Refusal}
+use Rattle.answer.specs.declared.Refusal.the-variants.{PastEnd}
+use Rattle.answer.specs.declared.Answer.{Answer}
+use Rattle.answer.specs.declared.Answer.the-variants.{Done, Refused}
+use Rattle.answer.proofs.Laws.{refuse-yes, refuse-no, is-refused, is-done, passed-if, passed-at}
 use Rattle.keccak.specs.Row.{OP-WORDS, LAST-ADDRESS}
-use Rattle.keccak.specs.Refusals.{opCount, addressAt, highAt, notWhole, tooHigh}
+use Rattle.keccak.specs.Refusals.{opCount, addressAt, highAt, notWhole, tooHigh, operationsRefusal}
 
 -- the pointers of an operation whose address is not too high
 pub address-fits : (ops : List ℕ) (n i : ℕ) → firstAt (highAt ops) n ≡ none → i < n → addressAt ops i + 192 < 2 ^ 64
@@ -34,3 +39,21 @@ passed room needed ops e =
       fits = ltb-false _ _ (b .0);
       low = passed-at _ _ _ (b .1) .0;
     }
+
+-- the checks of a call that takes a list and a slice: it refuses a long list itself, and a function makes the others
+module _ (room needed : ℕ) (ops : List ℕ) where
+  pub too-many : MAX-OPS < opCount ops → operationsRefusal room needed ops ≡ some (PastEnd (MAX-OPS + 1))
+  unfolding operationsRefusal
+  too-many h = refuse-yes _ _ (lt-ltb _ _ h)
+
+  module _ {n : ℕ} {a : Answer} (few : opCount ops ≤ MAX-OPS) (same : n ≡ needed) (told : a ≡ answerOf (notWhole ops (tooShort room n (tooHigh ops accepted)))) where
+    others : a ≡ answerOf (notWhole ops (tooShort room needed (tooHigh ops accepted)))
+    others = told ∙ ap (λ (k : ℕ). answerOf (notWhole ops (tooShort room k (tooHigh ops accepted)))) same
+
+    pub told-refused : {r : Refusal} → a ≡ Refused r → operationsRefusal room needed ops ≡ some r
+    unfolding operationsRefusal
+    told-refused e = refuse-no _ (le-ltb _ _ few) (is-refused _ (sym e ∙ others))
+
+    pub told-done : a ≡ Done → (operationsRefusal room needed ops ≡ none) × Passed room needed ops
+    unfolding operationsRefusal
+    told-done e = let clear = is-done _ (sym e ∙ others) in (refuse-no _ (le-ltb _ _ few) clear, passed room needed ops clear)

@@ -18,7 +18,7 @@ use Rattle.lookup.specs.Tuple.{sender, receiver}
 use Rattle.lookup.specs.declared.Bus.the-variants.{Memw, Ecall}
 use Rattle.templates.proofs.Operand.{two-sum}
 use Rattle.keccak.specs.Columns.{ADDR, MU, addr, input-state, output-state, state-ptr}
-use Rattle.keccak.specs.Row.{coreRow, coreAddress, is-wh-key, is-wh-keys}
+use Rattle.keccak.specs.Row.{coreRow, coreAddress, corePointer, is-wh-key, is-wh-keys}
 use Rattle.keccak.specs.Values.{wordOfBytes, wordOfHalves}
 use Rattle.keccak.specs.Tuples.{ecallTuple, addrMemw, laneMemw, pointerTuple}
 use Rattle.keccak.specs.Passes.{CoreCells}
@@ -31,16 +31,21 @@ words-of : (n lo hi : ℕ) → lo < 4294967296 → n ≡ lo + 4294967296 * hi �
 unfolding wordAt
 words-of n lo hi l e = (omega arith, omega arith)
 
-pub memw-address : (row : List ℕ) → CoreCells row → (i : ℕ) → i < 25 →
-    (wordOfHalves row (state-ptr i 0) ≡ wordAt (coreAddress row + 8 * i) 0) × (word row (state-ptr i 2) ≡ wordAt (coreAddress row + 8 * i) 1)
-memw-address row c i h =
+-- the two words of pointer i
+pointer-words : (row : List ℕ) (n i : ℕ) → word row (state-ptr i 0) < 65536 → word row (state-ptr i 1) < 65536 → corePointer row i ≡ n
+    → (wordOfHalves row (state-ptr i 0) ≡ wordAt n 0) × (word row (state-ptr i 2) ≡ wordAt n 1)
+pointer-words row n i l m e =
     let low = word row (state-ptr i 0) in
     let mid = word row (state-ptr i 1) in
     let next : state-ptr i 0 + 1 ≡ state-ptr i 1 = omega arith in
     let sum : wordOfHalves row (state-ptr i 0) ≡ low + mid * 65536 =
-    two-sum low (word row (state-ptr i 0 + 1)) (c .limb-0 i h) (rw next (c .limb-1 i h)) ∙ ap (λ (k : ℕ). low + word row k * 65536) next in
-    let w = words-of (coreAddress row + 8 * i) (low + mid * 65536) (word row (state-ptr i 2)) (omega (arith, c .limb-0 i h, c .limb-1 i h)) (omega (arith, c .pointers i h)) in
+    two-sum low (word row (state-ptr i 0 + 1)) l (rw next m) ∙ ap (λ (k : ℕ). low + word row k * 65536) next in
+    let w = words-of n (low + mid * 65536) (word row (state-ptr i 2)) (omega arith) (omega arith) in
     (sum ∙ w .0, w .1)
+
+pub memw-address : (row : List ℕ) → CoreCells row → (i : ℕ) → i < 25 →
+    (wordOfHalves row (state-ptr i 0) ≡ wordAt (coreAddress row + 8 * i) 0) × (word row (state-ptr i 2) ≡ wordAt (coreAddress row + 8 * i) 1)
+memw-address row c i h = pointer-words row (coreAddress row + 8 * i) i (c .limb-0 i h) (c .limb-1 i h) (c .pointers i h)
 
 module _ (o : KeccakOperation) where
   pub ecall-written : (syscall : ℕ) →
@@ -82,19 +87,6 @@ module _ (o : KeccakOperation) where
         (address-words .0) (address-words .1)
         ∙ rw (read-mu o, read-t0 o, read-t1 o)
 
-    -- the two words of pointer i
-    pointer-words : (i : ℕ) → i < 25 →
-        (wordOfHalves (coreRow o) (state-ptr i 0) ≡ wordAt (o .«state_addr» + 8 * i) 0) × (word (coreRow o) (state-ptr i 2) ≡ wordAt (o .«state_addr» + 8 * i) 1)
-    pointer-words i h =
-        let row = coreRow o in
-        let low = word row (state-ptr i 0) in
-        let mid = word row (state-ptr i 1) in
-        let next = limb-next row i .0 in
-        let sum : wordOfHalves row (state-ptr i 0) ≡ low + mid * 65536 =
-        two-sum low (word row (state-ptr i 0 + 1)) (ranged .limb-0 i h) (ranged .limb-1 i h) ∙ ap (λ (k : ℕ). low + k * 65536) next in
-        let w = words-of (o .«state_addr» + 8 * i) (low + mid * 65536) (word row (state-ptr i 2)) (omega (arith, ranged .limb-0 i h, ranged .limb-1 i h, next)) (omega (arith, pointer-is o fits i h)) in
-        (sum ∙ w .0, w .1)
-
     pub lane-written : (i : ℕ) → i < 25 → laneMemw (coreRow o) i
         ≡ sender Memw 1
         (tab 8 (byteAt (getD (o .input) i 0))
@@ -107,9 +99,9 @@ module _ (o : KeccakOperation) where
         tab-same 8 _ _ (λ b hb. read-input o (i % 5) (i / 5) b (omega arith) (omega arith) hb ∙ ap (λ (k : ℕ). byteAt (getD (o .input) k 0) b) place) in
         let new : tab 8 (λ b. word (coreRow o) (output-state (i % 5) (i / 5) b)) ≡ tab 8 (byteAt (getD (o .output) i 0)) =
         tab-same 8 _ _ (λ b hb. read-output o (i % 5) (i / 5) b (omega arith) (omega arith) hb ∙ ap (λ (k : ℕ). byteAt (getD (o .output) k 0) b) place) in
-        let low = pointer-words i h .0 in
-        let high = pointer-words i h .1 in
-        rw (old, new, low, high, read-mu o, read-t0 o, read-t1 o)
+        let next = limb-next (coreRow o) i .0 in
+        let w = pointer-words (coreRow o) (o .«state_addr» + 8 * i) i (ranged .limb-0 i h) (omega (arith, next, ranged .limb-1 i h)) (pointer-is o fits i h) in
+        rw (old, new, w .0, w .1, read-mu o, read-t0 o, read-t1 o)
 
 -- key 25 i + l is what row i sends for its lane l
 pub keys-sent : (op : ℕ → KeccakOperation) (i l : ℕ) → l < 25 →

@@ -4,8 +4,9 @@ use mathlib.Core.List.{List, [], _∷_, _++_}
 use Prim.Native.Nat.{ℕ, zero, suc, _+_, _*_, _/_, _%_, _^_, _<_}
 use native.Mathlib.Omega.{arith}
 use lib.IntN.{pos}
+use lib.ListN.{length}
 use Rattle.lists.specs.Tab.{tab, word}
-use Rattle.lists.proofs.Laws.{tab-same}
+use Rattle.lists.proofs.Laws.{tab-same, length-tab}
 use Rattle.lists.proofs.Reading.{Alike, ReadsFirst, then-same}
 use Rattle.field.specs.Field.{fadd, fsub, fmul, INV-SHIFT-32}
 use Rattle.templates.specs.Templates.{times, constant, from-dword-bl, from-dword-whh, add-term-expr, add-terms-expr, add-operand-lo, add-operand-hi, carry0, add-pair-carry-hi, emit-add-pair, isBit, isBitIf}
@@ -19,7 +20,7 @@ use Rattle.keccak.specs.Columns.{NUM-COLUMNS, TIMESTAMP-0, TIMESTAMP-1, 
 use Rattle.keccak.specs.Values.{NUM-VALUES, pointerValue, wordOfBytes, wordOfHalves, topValue, coreValue}
 use Rattle.keccak.specs.Tuples.{NUM-TUPLES, ecallTuple, addrMemw, keccakValues, coreSent, coreReceived, pointerTuple, alignTuple, addrBytesTuple, laneMemw, coreTuple}
 
--- ---- for any table: entries by x, y and b, and the values of a Keccak tuple
+-- ---- for any table: entries by x, y and b, and the 203 values of a Keccak tuple
 pub by-xyb-same : {A : Type 0} (f g : ℕ → ℕ → ℕ → A) → ((x y b : ℕ) → x < 5 → y < 5 → b < 8 → f x y b ≡ g x y b)
     → (i : ℕ) → i < 200 → byXYB f i ≡ byXYB g i
 by-xyb-same f g e i h = e (i / 40) (i / 8 % 5) (i % 8) (omega arith) (omega arith) (omega arith)
@@ -30,6 +31,10 @@ unfolding keccakValues
 keccak-same f g l h r e =
     let s : tab 200 (byXYB f) ≡ tab 200 (byXYB g) = tab-same 200 (byXYB f) (byXYB g) (by-xyb-same f g e) in
     λ t. l t ∷ h t ∷ r t ∷ s t
+
+pub keccak-length : (lo hi round : ℕ) (f : ℕ → ℕ → ℕ → ℕ) → length (keccakValues lo hi round f) ≡ 203
+unfolding keccakValues
+keccak-length lo hi round f = ap (λ (n : ℕ). suc (suc (suc n))) (length-tab 200 (byXYB f))
 
 module _ (row other : List ℕ) (same : Alike NUM-COLUMNS row other) where
   mu : word row MU ≡ word other MU

@@ -22,6 +22,7 @@ use Rattle.keccak.specs.Row.{coreAddress, corePointer}
 use Rattle.keccak.specs.Values.{pointerValue, topValue, coreValue}
 use Rattle.keccak.specs.Tuples.{pointerTuple, alignTuple, addrBytesTuple, coreTuple}
 use Rattle.keccak.specs.Passes.{CorePasses, CoreCells}
+use Rattle.keccak.proofs.Places.{tuple-at}
 use Rattle.keccak.proofs.Words.{Ranged, addrLo, addrHi, ptrLo, ptrHi, address-split, limb-next, pointer-split, lo-lt, hi-lt, ptr-lo-lt, carry0-is, carry1-is, top-is}
 
 module _ (nr syscall : ℕ) (row : List ℕ) (ok : CorePasses nr syscall row) (on : word row MU ≡ 1) where
@@ -32,22 +33,16 @@ module _ (nr syscall : ℕ) (row : List ℕ) (ok : CorePasses nr syscall row) (o
       mu-due z = omega arith
 
   f-pointer : (i j : ℕ) → i < 25 → j < 2 → (pointerTuple row i j) .multiplicity ≡ word row MU → Found (pointerTuple row i j)
-  unfolding coreTuple
   f-pointer i j hi hj m =
-      look (1 + (1 + (1 + (1 + (i * 2 + j))))) (pointerTuple row i j) (omega arith)
-      (then-ge 1 _ _ _ ∙ then-ge 1 _ _ _ ∙ then-ge 1 _ _ _ ∙ then-ge 1 _ _ _ ∙ then-lt 50 (i * 2 + j) _ _ (omega arith) ∙ at-two (pointerTuple row) (omega arith) (omega arith)) m
+      look (4 + (i * 2 + j)) (pointerTuple row i j) (omega arith) (tuple-at nr syscall row 4 (i * 2 + j) (omega arith) ∙ at-two (pointerTuple row) (omega arith) (omega arith)) m
 
   f-align : Found (alignTuple row)
-  unfolding coreTuple alignTuple
-  f-align =
-      look (1 + (1 + (1 + (1 + (50 + 0))))) (alignTuple row) (omega arith)
-      (then-ge 1 _ _ _ ∙ then-ge 1 _ _ _ ∙ then-ge 1 _ _ _ ∙ then-ge 1 _ _ _ ∙ then-ge 50 _ _ _ ∙ then-lt 1 0 _ _ (omega arith)) refl
+  unfolding alignTuple
+  f-align = look 54 (alignTuple row) (omega arith) (tuple-at nr syscall row 5 0 (omega arith)) refl
 
   f-bytes : (i : ℕ) → i < 4 → Found (addrBytesTuple row i)
-  unfolding coreTuple addrBytesTuple
-  f-bytes i hi =
-      look (1 + (1 + (1 + (1 + (50 + (1 + i)))))) (addrBytesTuple row i) (omega arith)
-      (then-ge 1 _ _ _ ∙ then-ge 1 _ _ _ ∙ then-ge 1 _ _ _ ∙ then-ge 1 _ _ _ ∙ then-ge 50 _ _ _ ∙ then-ge 1 _ _ _ ∙ then-lt 4 i _ _ hi) refl
+  unfolding addrBytesTuple
+  f-bytes i hi = look (55 + i) (addrBytesTuple row i) (omega arith) (tuple-at nr syscall row 6 i hi) refl
 
   is-wh : (i : ℕ) → i < 25 → (word row (state-ptr i 0 + 2) < 2 ^ 32) × (word row (state-ptr i 0 + 1) < 2 ^ 16)
   unfolding pointerTuple

@@ -10,12 +10,12 @@ use lib.Seq.{sets}
 use Rattle.lists.specs.Tab.{then}
 use Rattle.lists.specs.Sum.{sum}
 use Rattle.lists.proofs.Laws.{sets-append}
-use Rattle.lists.proofs.Then.{then-ge}
 use Rattle.lookup.specs.Tuple.{Tuple}
 use Rattle.lookup.specs.Words.{tupleWords, tuplesWords}
 use Rattle.lookup.proofs.Words.{tuples-length, words-same, words-then, words-add, stored-then}
+use Rattle.keccak.proofs.Reading.{keccak-length}
 use Rattle.keccak_rnd.specs.Tuples.{NUM-TUPLES, roundReceived, roundSent, roundTuple}
-use Rattle.keccak_rnd_tuples.proofs.States.{keccak-length}
+use Rattle.keccak_rnd.proofs.Places.{tuples-from}
 use Rattle.keccak_rnd_tuples.proofs.Tuples.{rc-length}
 use Rattle.round_groups.specs.Parts.{parityTuples, stageTuples, leftTuples, dTuples, thetaTuples, rotTuples, andsTuples, chiTuples, iotaTuples, chiPart, thetaPart, parityPart}
 use Rattle.round_groups.proofs.Groups.{parity-size, stage-size, left-size, d-size, theta-size, rot-size, ands-size, chi-size}
@@ -53,10 +53,8 @@ first-length row =
 
 -- the others
 from-parity : (row : List ℕ) (k : ℕ) → roundTuple row (3 + k) ≡ parityPart row k
-unfolding roundTuple parityTuples stageTuples leftTuples dTuples thetaTuples rotTuples andsTuples chiTuples iotaTuples chiPart thetaPart parityPart
-from-parity row k =
-    let e : 3 + k ≡ 1 + (1 + (1 + k)) = omega arith in
-    ap (roundTuple row) e ∙ then-ge 1 (1 + (1 + k)) _ _ ∙ then-ge 1 (1 + k) _ _ ∙ then-ge 1 k _ _
+unfolding parityTuples stageTuples leftTuples dTuples thetaTuples rotTuples andsTuples chiTuples iotaTuples chiPart thetaPart parityPart
+from-parity row k = tuples-from row 3 k
 
 -- ---- one part behind the other
 pub all-stored : {out out′ : List ℕ} (row l : List ℕ) → out ≡ sets l 0 (tuplesWords (roundTuple row) 3) → out′ ≡ sets out 427 (tuplesWords (parityPart row) 1028)

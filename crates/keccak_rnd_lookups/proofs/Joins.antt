@@ -17,7 +17,7 @@ use Rattle.lists.proofs.First.{first-start, at-hit, at-nothing}
 use Rattle.lists.proofs.Laws.{getD-tab}
 use Rattle.lists.proofs.Sum.{all-at}
 use Rattle.lists.proofs.Tests.{true-not-false, not-true, T-of}
-use Rattle.lists.proofs.Then.{T-true, then-lt, then-ge, then-all}
+use Rattle.lists.proofs.Then.{T-true, then-all}
 use Rattle.bits.specs.Bits.{byteAt}
 use Rattle.fips202.specs.Tables.{roundConstant}
 use Rattle.lookup.specs.Tuple.{Tuple, sender, receiver}
@@ -26,6 +26,7 @@ use Rattle.keccak_rc.specs.Found.{rcFound}
 use Rattle.matching.specs.Matching.{foundOn, matched}
 use Rattle.keccak_rnd.specs.Columns.{MU}
 use Rattle.keccak_rnd.specs.Tuples.{roundReceived, roundSent, constantTuple, roundTuple}
+use Rattle.keccak_rnd.proofs.Places.{tuple-at, tuples-from}
 use Rattle.scan.specs.Scan.{unmatched, afterPlace, from}
 use Rattle.scan.proofs.Scans.{first-then, none-off, sent-off, free-off}
 use Rattle.scan.proofs.Groups.{from-all, from-group}
@@ -115,52 +116,36 @@ chi-none row e =
 -- ---- the groups: tuple z of each is tuple a + z of the row
 module _ (row : List ℕ) where
   pub rc-is : (z : ℕ) → z < 1 → roundTuple row (2 + z) ≡ rcTuples row z
-  unfolding roundTuple rcTuples
-  rc-is z l =
-      let e : 2 + z ≡ 1 + (1 + z) = omega arith in
-      ap (roundTuple row) e ∙ then-ge 1 _ _ _ ∙ then-ge 1 _ _ _ ∙ then-lt 1 z _ _ l
+  unfolding rcTuples
+  rc-is = tuple-at row 2
 
   pub parity-is : (z : ℕ) → z < 40 → roundTuple row (3 + z) ≡ parityTuples row z
-  unfolding roundTuple parityTuples
-  parity-is z l =
-      let e : 3 + z ≡ 1 + (1 + (1 + z)) = omega arith in
-      ap (roundTuple row) e ∙ then-ge 1 _ _ _ ∙ then-ge 1 _ _ _ ∙ then-ge 1 _ _ _ ∙ then-lt 40 z _ _ l
+  unfolding parityTuples
+  parity-is = tuple-at row 3
 
   pub stage-is : (z : ℕ) → z < 120 → roundTuple row (43 + z) ≡ stageTuples row z
-  unfolding roundTuple stageTuples
-  stage-is z l =
-      let e : 43 + z ≡ 1 + (1 + (1 + (40 + z))) = omega arith in
-      ap (roundTuple row) e ∙ then-ge 1 _ _ _ ∙ then-ge 1 _ _ _ ∙ then-ge 1 _ _ _ ∙ then-ge 40 _ _ _ ∙ then-lt 120 z _ _ l
+  unfolding stageTuples
+  stage-is = tuple-at row 4
 
   pub left-is : (z : ℕ) → z < 20 → roundTuple row (163 + z) ≡ leftTuples row z
-  unfolding roundTuple leftTuples
-  left-is z l =
-      let e : 163 + z ≡ 1 + (1 + (1 + (40 + (120 + z)))) = omega arith in
-      ap (roundTuple row) e ∙ then-ge 1 _ _ _ ∙ then-ge 1 _ _ _ ∙ then-ge 1 _ _ _ ∙ then-ge 40 _ _ _ ∙ then-ge 120 _ _ _ ∙ then-lt 20 z _ _ l
+  unfolding leftTuples
+  left-is = tuple-at row 5
 
   pub d-is : (z : ℕ) → z < 40 → roundTuple row (183 + z) ≡ dTuples row z
-  unfolding roundTuple dTuples
-  d-is z l =
-      let e : 183 + z ≡ 1 + (1 + (1 + (40 + (120 + (20 + z))))) = omega arith in
-      ap (roundTuple row) e ∙ then-ge 1 _ _ _ ∙ then-ge 1 _ _ _ ∙ then-ge 1 _ _ _ ∙ then-ge 40 _ _ _ ∙ then-ge 120 _ _ _ ∙ then-ge 20 _ _ _ ∙ then-lt 40 z _ _ l
+  unfolding dTuples
+  d-is = tuple-at row 6
 
   pub theta-is : (z : ℕ) → z < 200 → roundTuple row (223 + z) ≡ thetaTuples row z
-  unfolding roundTuple thetaTuples
-  theta-is z l =
-      let e : 223 + z ≡ 1 + (1 + (1 + (40 + (120 + (20 + (40 + z)))))) = omega arith in
-      ap (roundTuple row) e ∙ then-ge 1 _ _ _ ∙ then-ge 1 _ _ _ ∙ then-ge 1 _ _ _ ∙ then-ge 40 _ _ _ ∙ then-ge 120 _ _ _ ∙ then-ge 20 _ _ _ ∙ then-ge 40 _ _ _ ∙ then-lt 200 z _ _ l
+  unfolding thetaTuples
+  theta-is = tuple-at row 7
 
   pub rot-is : (z : ℕ) → z < 200 → roundTuple row (423 + z) ≡ rotTuples row z
-  unfolding roundTuple rotTuples
-  rot-is z l =
-      let e : 423 + z ≡ 1 + (1 + (1 + (40 + (120 + (20 + (40 + (200 + z))))))) = omega arith in
-      ap (roundTuple row) e ∙ then-ge 1 _ _ _ ∙ then-ge 1 _ _ _ ∙ then-ge 1 _ _ _ ∙ then-ge 40 _ _ _ ∙ then-ge 120 _ _ _ ∙ then-ge 20 _ _ _ ∙ then-ge 40 _ _ _ ∙ then-ge 200 _ _ _ ∙ then-lt 200 z _ _ l
+  unfolding rotTuples
+  rot-is = tuple-at row 8
 
   pub chi-is : (z : ℕ) → z < 408 → roundTuple row (623 + z) ≡ chiPart row z
-  unfolding roundTuple chiPart andsTuples chiTuples iotaTuples
-  chi-is z l =
-      let e : 623 + z ≡ 1 + (1 + (1 + (40 + (120 + (20 + (40 + (200 + (200 + z)))))))) = omega arith in
-      ap (roundTuple row) e ∙ then-ge 1 _ _ _ ∙ then-ge 1 _ _ _ ∙ then-ge 1 _ _ _ ∙ then-ge 40 _ _ _ ∙ then-ge 120 _ _ _ ∙ then-ge 20 _ _ _ ∙ then-ge 40 _ _ _ ∙ then-ge 200 _ _ _ ∙ then-ge 200 _ _ _
+  unfolding chiPart andsTuples chiTuples iotaTuples
+  chi-is z l = tuples-from row 9 z
 
   -- the scan of such a group, counted from a
   module _ (a w : ℕ) (g : ℕ → Tuple) (is : (z : ℕ) → z < w → roundTuple row (a + z) ≡ g z) {x y : Place} (e : x ≡ placeOf (firstAt (unmatched g) w)) (d : y ≡ afterPlace Nowhere a x) where
@@ -170,9 +155,9 @@ module _ (row : List ℕ) where
 
   -- the first group: nothing is asked of the two before the constant's
   keccak-holds : (i : ℕ) → i < 2 → unmatched (roundTuple row) i ≡ false
-  unfolding unmatched roundTuple
-  keccak-holds zero l = ap (λ (t : Tuple). not (matched t)) (then-lt 1 0 _ _ (omega arith)) ∙ keccak-off (receiver Keccak (word row MU) (roundReceived row)) refl
-  keccak-holds (suc zero) l = ap (λ (t : Tuple). not (matched t)) (then-ge 1 0 _ _ ∙ then-lt 1 0 _ _ (omega arith)) ∙ keccak-off (sender Keccak (word row MU) (roundSent row)) refl
+  unfolding unmatched
+  keccak-holds zero l = ap (λ (t : Tuple). not (matched t)) (tuple-at row 0 0 (omega arith)) ∙ keccak-off (receiver Keccak (word row MU) (roundReceived row)) refl
+  keccak-holds (suc zero) l = ap (λ (t : Tuple). not (matched t)) (tuple-at row 1 0 (omega arith)) ∙ keccak-off (sender Keccak (word row MU) (roundSent row)) refl
   keccak-holds (suc (suc i)) l = absurd (omega arith)
 
   pub head-scan : {x y : Place} → x ≡ placeOf (firstAt (unmatched (rcTuples row)) 1) → y ≡ afterPlace Nowhere 2 x

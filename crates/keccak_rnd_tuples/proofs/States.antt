@@ -9,13 +9,13 @@ use lib.Dec.{eqb, eqb·suc-zero}
 use lib.ListN.{length, set}
 use lib.Seq.{sets}
 use Rattle.lists.specs.Tab.{pick, tab, word}
-use Rattle.lists.proofs.Laws.{length-tab}
 use Rattle.lists.proofs.Tests.{false-and}
 use Rattle.lists.proofs.Then.{at-three}
 use Rattle.answer.specs.Refusal.{overwrite}
 use Rattle.answer.proofs.Laws.{sets-overwrite}
 use Rattle.keccak.specs.Columns.{laneColumn, byXYB}
 use Rattle.keccak.specs.Tuples.{keccakValues}
+use Rattle.keccak.proofs.Reading.{keccak-length}
 use Rattle.keccak_rnd_tuples.specs.States.{laneWord, columnWord, stateWord}
 
 module _ (row : List ℕ) where
@@ -70,12 +70,8 @@ module _ (row : List ℕ) where
   state-whole base zero (suc y) b = rw (eqb·suc-zero y) refl
   state-whole base (suc x) y b = rw (eqb·suc-zero x) refl
 
-pub keccak-length : (lo hi r : ℕ) (f : ℕ → ℕ → ℕ → ℕ) → length (keccakValues lo hi r f) ≡ 203
-unfolding keccakValues
-keccak-length lo hi r f = ap (λ (n : ℕ). suc (suc (suc n))) (length-tab 200 (byXYB f))
-
 pub keccak-words : (old : List ℕ) (lo hi r : ℕ) (f : ℕ → ℕ → ℕ → ℕ) → 203 ≤ length old
     → sets (set (set (set old 0 lo) 1 hi) 2 r) 3 (tab 200 (byXYB f)) ≡ overwrite (keccakValues lo hi r f) old
 unfolding keccakValues
 keccak-words old lo hi r f h =
-    sets-overwrite old (lo ∷ hi ∷ r ∷ tab 200 (byXYB f)) (omega (arith, ap (λ (n : ℕ). suc (suc (suc n))) (length-tab 200 (byXYB f)), h))
+    sets-overwrite old (lo ∷ hi ∷ r ∷ tab 200 (byXYB f)) (omega (arith, keccak-length lo hi r f, h))

@@ -6,36 +6,38 @@ use native.Mathlib.Omega.{arith}
 use lib.ListN.{length}
 use Rattle.lists.specs.Tab.{word}
 use Rattle.lists.proofs.Laws.{length-tab}
-use Rattle.lists.proofs.Then.{by-le, then-lt, then-ge}
+use Rattle.lists.proofs.Then.{by-le}
 use Rattle.field.specs.Field.{fadd}
-use Rattle.lookup.specs.Tuple.{Tuple, sender, receiver}
+use Rattle.lookup.specs.Tuple.{sender, receiver}
 use Rattle.lookup.specs.declared.Bus.the-variants.{Keccak, KeccakRc}
 use Rattle.lookup.specs.declared.Side.the-variants.{Sender, Receiver}
 use Rattle.lookup.specs.Call.{interactionOf}
+use Rattle.lookup.proofs.Call.{length-of}
 use Rattle.keccak.specs.Tuples.{keccakValues}
+use Rattle.keccak.proofs.Reading.{keccak-length}
 use Rattle.keccak_rnd.specs.Columns.{start, rc}
 use Rattle.keccak_rnd.specs.Tuples.{roundReceived, roundSent, constantTuple, roundTuple}
+use Rattle.keccak_rnd.proofs.Places.{tuple-at}
 use Rattle.keccak_rnd.proofs.Step.{keccak-same}
 use Rattle.keccak_rnd_lookup_tuples.proofs.Tuples.{at-cxz-0, at-cxz, at-cxz-left, at-dxz, at-theta, at-rot, at-chi-ands, at-chi, at-iota}
 use Rattle.keccak_rnd_tuples.specs.States.{stateWord}
-use Rattle.keccak_rnd_tuples.proofs.States.{state-whole, keccak-length}
+use Rattle.keccak_rnd_tuples.proofs.States.{state-whole}
 
 module _ (row : List ℕ) where
   -- the first three tuples, as they are written
   pub at-received : roundTuple row 0 ≡ receiver Keccak (word row 1479) (keccakValues (word row 0) (word row 1) (word row 2) (stateWord row 3 3))
-  unfolding roundTuple roundReceived
+  unfolding roundReceived
   at-received =
-      then-lt 1 0 _ _ (omega arith)
+      tuple-at row 0 0 (omega arith)
       ∙ ap (receiver Keccak (word row 1479))
       (keccak-same (word row 0) (word row 1) (word row 2) (λ x y b. word row (start x y b)) (stateWord row 3 3) (λ x y b hx hy hb. sym (state-whole row 3 x y b)))
 
   pub at-sent : roundTuple row 1 ≡ sender Keccak (word row 1479) (keccakValues (word row 0) (word row 1) (fadd (word row 2) 1) (stateWord row 1471 1263))
-  unfolding roundTuple roundSent stateWord
-  at-sent = then-ge 1 0 _ _ ∙ then-lt 1 0 _ _ (omega arith)
+  unfolding roundSent stateWord
+  at-sent = tuple-at row 1 0 (omega arith)
 
   pub at-rc : (i : ℕ) → i ≡ 2 → roundTuple row i ≡ constantTuple row
-  unfolding roundTuple
-  at-rc i e = ap (roundTuple row) e ∙ then-ge 1 1 _ _ ∙ then-ge 1 0 _ _ ∙ then-lt 1 0 _ _ (omega arith)
+  at-rc i e = ap (roundTuple row) e ∙ tuple-at row 2 0 (omega arith)
 
   pub rc-length : length (constantTuple row .values) ≡ 9
   rc-length = ap suc (length-tab 8 (λ b. word row (rc b)))
@@ -52,14 +54,11 @@ module _ (row : List ℕ) where
 
   -- ---- how many values
   module _ (i : ℕ) where
-    of-size : {t : Tuple} (n : ℕ) → roundTuple row i ≡ t → length (t .values) ≡ n → n ≡ length (roundTuple row i .values)
-    of-size n e q = sym (ap (λ (t : Tuple). length (t .values)) e ∙ q)
-
     pub keccak-size : i < 2 → 203 ≡ length (roundTuple row i .values)
     keccak-size h =
         by-le 1 i
-        (λ l. of-size 203 (ap (roundTuple row) (one l) ∙ at-sent) (keccak-length (word row 0) (word row 1) (fadd (word row 2) 1) (stateWord row 1471 1263)))
-        (λ l. of-size 203 (ap (roundTuple row) (none l) ∙ at-received) (keccak-length (word row 0) (word row 1) (word row 2) (stateWord row 3 3)))
+        (λ l. length-of (ap (roundTuple row) (one l) ∙ at-sent) (sym (keccak-length (word row 0) (word row 1) (fadd (word row 2) 1) (stateWord row 1471 1263))))
+        (λ l. length-of (ap (roundTuple row) (none l) ∙ at-received) (sym (keccak-length (word row 0) (word row 1) (word row 2) (stateWord row 3 3))))
       where
         one : 1 ≤ i → i ≡ 1
         one l = omega arith
@@ -68,22 +67,22 @@ module _ (row : List ℕ) where
         none l = omega arith
 
     pub rc-size : i ≡ 2 → 9 ≡ length (roundTuple row i .values)
-    rc-size e = of-size 9 (at-rc i e) rc-length
+    rc-size e = length-of (at-rc i e) (sym rc-length)
 
     pub parity-size : 3 ≤ i → i < 163 → 4 ≡ length (roundTuple row i .values)
-    parity-size l h = by-le 43 i (λ q. of-size 4 (at-cxz row i q h) refl) (λ q. of-size 4 (at-cxz-0 row i l q) refl)
+    parity-size l h = by-le 43 i (λ q. length-of (at-cxz row i q h) refl) (λ q. length-of (at-cxz-0 row i l q) refl)
 
     pub left-size : 163 ≤ i → i < 183 → 2 ≡ length (roundTuple row i .values)
-    left-size l h = of-size 2 (at-cxz-left row i l h) refl
+    left-size l h = length-of (at-cxz-left row i l h) refl
 
     pub theta-size : 183 ≤ i → i < 423 → 4 ≡ length (roundTuple row i .values)
-    theta-size l h = by-le 223 i (λ q. of-size 4 (at-theta row i q h) refl) (λ q. of-size 4 (at-dxz row i l q) refl)
+    theta-size l h = by-le 223 i (λ q. length-of (at-theta row i q h) refl) (λ q. length-of (at-dxz row i l q) refl)
 
     pub rot-size : 423 ≤ i → i < 623 → 2 ≡ length (roundTuple row i .values)
-    rot-size l h = of-size 2 (at-rot row i l h) refl
+    rot-size l h = length-of (at-rot row i l h) refl
 
     pub chi-size : 623 ≤ i → 4 ≡ length (roundTuple row i .values)
     chi-size l =
         by-le 823 i
-        (λ q. by-le 1023 i (λ r. of-size 4 (at-iota row i r) refl) (λ r. of-size 4 (at-chi row i q r) refl))
-        (λ q. of-size 4 (at-chi-ands row i l q) refl)
+        (λ q. by-le 1023 i (λ r. length-of (at-iota row i r) refl) (λ r. length-of (at-chi row i q r) refl))
+        (λ q. length-of (at-chi-ands row i l q) refl)

@@ -47,3 +47,6 @@ fits n e h = subst (λ (t : Tuple). length (t .values) ≤ n) e h
 pub as-tuple : {s t : Tuple} {r : BusInteraction} {new : List ℕ} (old : List ℕ) → s ≡ t → r ≡ interactionOf t
     → new ≡ overwrite (t .values) old → (r ≡ interactionOf s) × (new ≡ overwrite (s .values) old)
 as-tuple old e a w = (a ∙ ap interactionOf (sym e), w ∙ ap (λ (t : Tuple). overwrite (t .values) old) (sym e))
+
+pub length-of : {s t : Tuple} {n : ℕ} → s ≡ t → n ≡ length (t .values) → n ≡ length (s .values)
+length-of e q = q ∙ ap (λ (t : Tuple). length (t .values)) (sym e)

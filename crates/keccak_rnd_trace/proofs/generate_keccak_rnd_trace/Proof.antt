@@ -1,17 +1,15 @@
 -- `keccak_rnd_trace::generate_keccak_rnd_trace` meets its contract: one check after the other, then the table. Assumes nothing.
-use mathlib.Core.Path.{_≡_, sym, ap, _∙_}
+use mathlib.Core.Path.{_≡_, ap, _∙_}
 use Prim.Native.Nat.{ℕ, _-_, _*_}
 use native.Mathlib.Omega.{arith}
 use lib.ListN.{length}
 use borrow.Author.Needs.{needs}
 use mathlib.Core.Option.{none}
 use mathlib.Core.List.{List}
-use borrow.Author.Tests.{lt-ltb, le-ltb}
 use lib.Seq.{sets}
-use Rattle.answer.specs.Refusal.{accepted, answerOf, tooShort}
-use Rattle.answer.proofs.Laws.{refuse-yes, refuse-no, refused, done, is-refused, is-done, sets-overwrite}
-use Rattle.keccak.specs.Refusals.{opCount, notWhole, tooHigh, operationsRefusal}
-use Rattle.keccak.proofs.Checks.{Passed, passed}
+use Rattle.answer.proofs.Laws.{refused, done, sets-overwrite}
+use Rattle.keccak.specs.Refusals.{opCount, operationsRefusal}
+use Rattle.keccak.proofs.Checks.{Passed, too-many, told-refused, told-done}
 use Rattle.lists.specs.Tab.{tableOf}
 use Rattle.keccak.specs.Height.{height}
 use Rattle.keccak.specs.Row.{opAt}
@@ -29,30 +27,22 @@ Ops k = k .before .before .before .before .args .ops .now
 abbrev Table : tie.After-table-height → List ℕ
 Table k = k .before .before .before .before .args .table .now
 
-abbrev Needed : tie.After-table-height → ℕ
-Needed k = height 4 (opCount (Ops k) * 24) * 1480
-
--- what the checks answered, with the height that was computed
-checked : (c : tie.After-check-operations)
-    → c .check-operations .result ≡ answerOf (notWhole (Ops (c .before)) (tooShort (length (Table (c .before))) (Needed (c .before)) (tooHigh (Ops (c .before)) accepted)))
-checked c =
-    c .check-operations .ensures
-    ∙ ap (λ (h : ℕ). answerOf (notWhole (Ops (c .before)) (tooShort (length (Table (c .before))) (h * 1480) (tooHigh (Ops (c .before)) accepted)))) (c .before .table-height .ensures)
+-- the words that the checks asked for, from the height that was computed
+asked : (k : tie.After-table-height) → k .table-height .result * 1480 ≡ height 4 (opCount (Ops k) * 24) * 1480
+asked k = ap (λ (h : ℕ). h * 1480) (k .table-height .ensures)
 
 -- what an accepted call knows
-clear : (c : tie.After-enum-told)
-    → notWhole (Ops (c .before .before .before)) (tooShort (length (Table (c .before .before .before))) (Needed (c .before .before .before)) (tooHigh (Ops (c .before .before .before)) accepted)) ≡ none
-clear c = is-done _ (sym (c .enum-told .given .1) ∙ checked (c .before .before))
-
-known : (c : tie.After-enum-told) → Passed (length (Table (c .before .before .before))) (Needed (c .before .before .before)) (Ops (c .before .before .before))
-known c = passed _ _ _ (clear c)
+known : (c : tie.After-enum-told) → let k = c .before .before .before in (operationsRefusal (length (Table k)) (height 4 (opCount (Ops k) * 24) * 1480) (Ops k) ≡ none) × Passed (length (Table k)) (height 4 (opCount (Ops k) * 24) * 1480) (Ops k)
+known c =
+    let k = c .before .before .before in
+    told-done _ _ _ (k .before .if1 .left) (asked k) (c .before .before .check-operations .ensures) (c .enum-told .given .1)
 
 add-t10 : tie.Need-add-t10
 add-t10 c = search needs
 
 returns : tie.Need-returns
-unfolding roundTraceRefusal operationsRefusal
-returns c = refused _ _ (refuse-yes _ _ (lt-ltb _ _ (c .if1 .taken)))
+unfolding roundTraceRefusal
+returns c = refused _ _ (too-many _ _ _ (c .if1 .taken))
 
 mul-table-height : tie.Need-mul-table-height
 mul-table-height c = search needs
@@ -70,12 +60,10 @@ enum-known-refusal : tie.Need-enum-known-refusal
 enum-known-refusal c = search needs
 
 returns-2 : tie.Need-returns-2
-unfolding roundTraceRefusal operationsRefusal
+unfolding roundTraceRefusal
 returns-2 c =
-    let k = c .before .before .before in
-    refused _ _
-    (refuse-no _ (le-ltb _ _ (k .before .before .if1 .left))
-    (is-refused _ (sym (c .before .refusal .given .1) ∙ checked k)))
+    let k = c .before .before .before .before in
+    refused _ _ (told-refused _ _ _ (k .before .if1 .left) (asked k) (c .before .before .before .check-operations .ensures) (c .before .refusal .given .1))
 
 enum-told : tie.Need-enum-told
 enum-told c = search needs
@@ -85,23 +73,23 @@ put-round-rows-requires c κs =
     let told = c .before in
     let k = told .before .before .before in
     let h = k .table-height .ensures in
-    (omega arith, omega (arith, h, height-ge 4 (opCount (Ops k) * 24)), omega (arith, h, known told .fits))
+    (omega arith, omega (arith, h, height-ge 4 (opCount (Ops k) * 24)), omega (arith, h, known told .1 .fits))
 
 same-length : tie.Need-same-length
 same-length c = search needs
 
 returns-3 : tie.Need-returns-3
-unfolding roundTraceRefusal operationsRefusal roundTable
+unfolding roundTraceRefusal roundTable
 returns-3 c =
     let put = c .before .before in
     let told = put .before .before in
     let k = told .before .before .before in
     let n = opCount (Ops k) in
     done _
-    (refuse-no _ (le-ltb _ _ (k .before .if1 .left)) (clear told))
+    (known told .0)
     (put .put-round-rows .ensures
     ∙ ap (λ (h : ℕ). sets (Table k) 0 (tableOf h 1480 (roundRowAt 24 n (opAt (Ops k))))) (k .table-height .ensures)
-    ∙ sets-overwrite (Table k) (roundTable 24 4 n (opAt (Ops k))) (omega (arith, known told .fits, length-round-table 24 n (opAt (Ops k)) 4)))
+    ∙ sets-overwrite (Table k) (roundTable 24 4 n (opAt (Ops k))) (omega (arith, known told .1 .fits, length-round-table 24 n (opAt (Ops k)) 4)))
 
 pub generate-keccak-rnd-trace-spec : {M : Type 1} → statement M
 generate-keccak-rnd-trace-spec =

@@ -1,5 +1,5 @@
 -- `keccak_state_tuples::put_keccak_values` meets its contract: three words, then the state. Assumes nothing.
-use mathlib.Core.Path.{_≡_, ap, _∙_}
+use mathlib.Core.Path.{_≡_, sym, ap, _∙_}
 use Prim.Native.Nat.{ℕ}
 use native.Mathlib.Omega.{arith}
 use borrow.Author.Needs.{needs}
@@ -11,7 +11,7 @@ use lib.Seq.{sets}
 use Rattle.lists.specs.Tab.{word}
 use Rattle.keccak.specs.Columns.{laneColumn}
 use Rattle.keccak.specs.Tuples.{keccakValues}
-use Rattle.keccak_state_tuples.proofs.Tuples.{keccak-length}
+use Rattle.keccak.proofs.Reading.{keccak-length}
 use Rattle.keccak_state_tuples.proofs.Parts.{keccak-stored}
 use Rattle.keccak_state_tuples.proofs.put_keccak_values.Statement.{statement}
 use Rattle.keccak_state_tuples.proofs.put_keccak_values.Tie as tie
@@ -53,7 +53,7 @@ same-length c = ap length (stored c) ∙ length-sets (c .before .before .before 
 returns : tie.Need-returns
 returns c =
     let s = c .before .before .before .before .before .before .before .before in
-    let e : 203 ≡ length (values c) = keccak-length _ _ _ _ in
+    let e : 203 ≡ length (values c) = sym (keccak-length _ _ _ _) in
     stored c ∙ sets-overwrite (s .args .out .now) (values c) (omega (arith, s .pre .0, e))
 
 pub put-keccak-values-spec : {M : Type 1} → statement M

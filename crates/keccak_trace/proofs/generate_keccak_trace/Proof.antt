@@ -1,17 +1,15 @@
 -- `keccak_trace::generate_keccak_trace` meets its contract: one check after the other, then the table. Assumes nothing.
-use mathlib.Core.Path.{_≡_, sym, ap, _∙_}
+use mathlib.Core.Path.{_≡_, ap, _∙_}
 use Prim.Native.Nat.{ℕ, _-_, _*_}
 use native.Mathlib.Omega.{arith}
 use lib.ListN.{length}
 use borrow.Author.Needs.{needs}
 use mathlib.Core.Option.{none}
 use mathlib.Core.List.{List}
-use borrow.Author.Tests.{lt-ltb, le-ltb}
 use lib.Seq.{sets}
-use Rattle.answer.specs.Refusal.{accepted, answerOf, tooShort}
-use Rattle.answer.proofs.Laws.{refuse-yes, refuse-no, refused, done, is-refused, is-done, sets-overwrite}
-use Rattle.keccak.specs.Refusals.{opCount, notWhole, tooHigh, operationsRefusal, coreTraceRefusal}
-use Rattle.keccak.proofs.Checks.{Passed, passed}
+use Rattle.answer.proofs.Laws.{refused, done, sets-overwrite}
+use Rattle.keccak.specs.Refusals.{opCount, operationsRefusal, coreTraceRefusal}
+use Rattle.keccak.proofs.Checks.{Passed, too-many, told-refused, told-done}
 use Rattle.lists.specs.Tab.{tableOf}
 use Rattle.keccak.specs.Height.{height}
 use Rattle.keccak.specs.Row.{coreRowAt, coreTable, opAt}
@@ -30,30 +28,22 @@ Ops k = k .before .before .before .before .args .ops .now
 abbrev Table : tie.After-table-height → List ℕ
 Table k = k .before .before .before .before .args .table .now
 
-abbrev Needed : tie.After-table-height → ℕ
-Needed k = height 4 (opCount (Ops k)) * 486
-
--- what the checks answered, with the height that was computed
-checked : (c : tie.After-check-operations)
-    → c .check-operations .result ≡ answerOf (notWhole (Ops (c .before)) (tooShort (length (Table (c .before))) (Needed (c .before)) (tooHigh (Ops (c .before)) accepted)))
-checked c =
-    c .check-operations .ensures
-    ∙ ap (λ (h : ℕ). answerOf (notWhole (Ops (c .before)) (tooShort (length (Table (c .before))) (h * 486) (tooHigh (Ops (c .before)) accepted)))) (c .before .table-height .ensures)
+-- the words that the checks asked for, from the height that was computed
+asked : (k : tie.After-table-height) → k .table-height .result * 486 ≡ height 4 (opCount (Ops k)) * 486
+asked k = ap (λ (h : ℕ). h * 486) (k .table-height .ensures)
 
 -- what an accepted call knows
-clear : (c : tie.After-enum-told)
-    → notWhole (Ops (c .before .before .before)) (tooShort (length (Table (c .before .before .before))) (Needed (c .before .before .before)) (tooHigh (Ops (c .before .before .before)) accepted)) ≡ none
-clear c = is-done _ (sym (c .enum-told .given .1) ∙ checked (c .before .before))
-
-known : (c : tie.After-enum-told) → Passed (length (Table (c .before .before .before))) (Needed (c .before .before .before)) (Ops (c .before .before .before))
-known c = passed _ _ _ (clear c)
+known : (c : tie.After-enum-told) → let k = c .before .before .before in (operationsRefusal (length (Table k)) (height 4 (opCount (Ops k)) * 486) (Ops k) ≡ none) × Passed (length (Table k)) (height 4 (opCount (Ops k)) * 486) (Ops k)
+known c =
+    let k = c .before .before .before in
+    told-done _ _ _ (k .before .if1 .left) (asked k) (c .before .before .check-operations .ensures) (c .enum-told .given .1)
 
 add-t10 : tie.Need-add-t10
 add-t10 c = search needs
 
 returns : tie.Need-returns
-unfolding coreTraceRefusal operationsRefusal
-returns c = refused _ _ (refuse-yes _ _ (lt-ltb _ _ (c .if1 .taken)))
+unfolding coreTraceRefusal
+returns c = refused _ _ (too-many _ _ _ (c .if1 .taken))
 
 table-height-requires : tie.Need-table-height-requires
 table-height-requires c κs = search needs
@@ -68,12 +58,10 @@ enum-known-refusal : tie.Need-enum-known-refusal
 enum-known-refusal c = search needs
 
 returns-2 : tie.Need-returns-2
-unfolding coreTraceRefusal operationsRefusal
+unfolding coreTraceRefusal
 returns-2 c =
-    let k = c .before .before .before in
-    refused _ _
-    (refuse-no _ (le-ltb _ _ (k .before .before .if1 .left))
-    (is-refused _ (sym (c .before .refusal .given .1) ∙ checked k)))
+    let k = c .before .before .before .before in
+    refused _ _ (told-refused _ _ _ (k .before .if1 .left) (asked k) (c .before .before .before .check-operations .ensures) (c .before .refusal .given .1))
 
 enum-told : tie.Need-enum-told
 enum-told c = search needs
@@ -83,23 +71,23 @@ put-core-rows-requires c κs =
     let told = c .before in
     let k = told .before .before .before in
     let h = k .table-height .ensures in
-    (omega arith, omega (arith, h, height-ge 4 (opCount (Ops k))), omega (arith, h, known told .fits), known told .low)
+    (omega arith, omega (arith, h, height-ge 4 (opCount (Ops k))), omega (arith, h, known told .1 .fits), known told .1 .low)
 
 same-length : tie.Need-same-length
 same-length c = search needs
 
 returns-3 : tie.Need-returns-3
-unfolding coreTraceRefusal operationsRefusal coreTable
+unfolding coreTraceRefusal coreTable
 returns-3 c =
     let put = c .before .before in
     let told = put .before .before in
     let k = told .before .before .before in
     let n = opCount (Ops k) in
     done _
-    (refuse-no _ (le-ltb _ _ (k .before .if1 .left)) (clear told))
+    (known told .0)
     (put .put-core-rows .ensures
     ∙ ap (λ (h : ℕ). sets (Table k) 0 (tableOf h 486 (coreRowAt n (opAt (Ops k))))) (k .table-height .ensures)
-    ∙ sets-overwrite (Table k) (coreTable 4 n (opAt (Ops k))) (omega (arith, known told .fits, length-core-table n (opAt (Ops k)) 4)))
+    ∙ sets-overwrite (Table k) (coreTable 4 n (opAt (Ops k))) (omega (arith, known told .1 .fits, length-core-table n (opAt (Ops k)) 4)))
 
 pub generate-keccak-trace-spec : {M : Type 1} → statement M
 generate-keccak-trace-spec =

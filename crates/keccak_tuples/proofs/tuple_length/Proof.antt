@@ -1,9 +1,10 @@
 -- `keccak_tuples::tuple_length` meets its contract: the length of each. Assumes nothing.
 use native.Mathlib.Omega.{arith}
 use borrow.Author.Needs.{needs}
+use Rattle.lookup.proofs.Call.{length-of}
 use Rattle.keccak_lookup_tuples.proofs.Tuples.{pointer-length, align-length, bytes-length}
 use Rattle.keccak_memw_tuples.proofs.Tuples.{lane-length}
-use Rattle.keccak_tuples.proofs.Tuples.{length-of, is-pointer, is-align, is-bytes, is-lane}
+use Rattle.keccak_tuples.proofs.Tuples.{is-pointer, is-align, is-bytes, is-lane}
 use Rattle.keccak_tuples.proofs.tuple_length.Statement.{statement}
 use Rattle.keccak_tuples.proofs.tuple_length.Tie as tie
 
