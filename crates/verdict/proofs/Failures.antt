@@ -12,7 +12,7 @@ use mathlib.Core.Bool.{Bool, true, false}
 use mathlib.Core.Logic.{_↔_, _⊎_, inl, inr}
 use mathlib.Core.Option.{Option, none, some}
 use mathlib.Core.List.{List}
-use Prim.Native.Nat.{ℕ, zero, suc, _+_, _%_, _≤_, _<_}
+use Prim.Native.Nat.{ℕ, zero, suc, _+_, _≤_, _<_}
 use native.Mathlib.Omega.{arith}
 use lib.Dec.{eqb}
 use lib.ListN.{length}
@@ -45,7 +45,7 @@ use Rattle.verdict.specs.declared.Table.the-variants.{Core, Round}
 use Rattle.verdict.specs.declared.Verdict.{Verdict}
 use Rattle.verdict.specs.declared.Verdict.the-variants.{Refused, Value, Lookup, Repeated, Unbalanced, Holds}
 use Rattle.verdict.proofs.Judge.{even-balanced}
-use Rattle.verdict.proofs.Stages.{passes, answers, core-refused, round-refused, both-whole}
+use Rattle.verdict.proofs.Stages.{passes, answers, whole-separates, core-refused, round-refused, both-whole}
 use Rattle.verdict.proofs.Tuples.{place, at-place, core-bus, round-bus}
 
 -- ---- each test separates what fails from what holds
@@ -53,10 +53,6 @@ equal-separates : (a b : ℕ) → Separates (eqb a b) (a ≡ b) (a ≡ b → ⊥
 equal-separates a b = separates-yes (eqb a b) (decides-eq a b)
 
 module _ (A : Layout) (ws : List ℕ) where
-  whole-separates : Separates (ragged A ws) (Whole A ws → ⊥) (Whole A ws)
-  unfolding ragged
-  whole-separates = separates-no (eqb (length ws % A .width) 0) (decides-eq (length ws % A .width) 0)
-
   active-separates : (r : ℕ) → r < rows A ws → Separates (active A ws r) (Active A ws r) (Active A ws r → ⊥)
   unfolding isActive
   active-separates r l =

@@ -9,7 +9,7 @@ use Prim.Native.Nat.{ℕ, zero, suc, _+_, _-_, _*_, _/_, _%_, _^_, _≤_, _<_}
 use native.Mathlib.Omega.{arith}
 use lib.ListN.{length, getD, List·getD-append}
 use lib.Seq.{ext-getD, getD-append-add}
-use Rattle.lists.specs.Tab.{word}
+use Rattle.lists.specs.Tab.{word, tab}
 use Rattle.lists.specs.First.{count}
 use Rattle.lists.proofs.Laws.{tab-same, list-tab, table-at, length-table, length-rowAt, holds-row}
 use Rattle.lists.proofs.Then.{by-le}
@@ -178,21 +178,22 @@ module _ (core : List ℕ) where
     unfolding opAt
     address-at = let e : 52 * i + 1 ≡ i * 52 + 1 = omega arith in ap (word (operations core)) e ∙ ops-at i 1 l (omega arith) ∙ op-address x
 
+    -- 25 lanes, of which the first is word `from` of the operation
+    lanes-at : (base from : ℕ) → from ≤ 27 → ((k : ℕ) → k < 25 → word (opWords x) (from + k) ≡ word (stateLanes base x) k) →
+        tab 25 (λ k. word (operations core) (52 * i + from + k)) ≡ stateLanes base x
+    lanes-at base from fits h =
+        tab-same 25 (λ k. word (operations core) (52 * i + from + k)) (λ k. word (stateLanes base x) k) (λ k g.
+        let e : 52 * i + from + k ≡ i * 52 + (from + k) = omega arith in
+        ap (word (operations core)) e ∙ ops-at i (from + k) l (omega arith) ∙ h k g)
+        ∙ sym (list-tab (stateLanes base x) 25 (length-state base x))
+
     input-at : opAt (operations core) i .input ≡ stateLanes INPUT-STATE x
     unfolding opAt
-    input-at =
-        tab-same 25 (λ k. getD (operations core) (52 * i + 2 + k) 0) (λ k. getD (stateLanes INPUT-STATE x) k 0) (λ k g.
-        let e : 52 * i + 2 + k ≡ i * 52 + (2 + k) = omega arith in
-        ap (word (operations core)) e ∙ ops-at i (2 + k) l (omega arith) ∙ op-input x k g)
-        ∙ sym (list-tab (stateLanes INPUT-STATE x) 25 (length-state INPUT-STATE x))
+    input-at = lanes-at INPUT-STATE 2 (omega arith) (op-input x)
 
     output-at : opAt (operations core) i .output ≡ stateLanes OUTPUT-STATE x
     unfolding opAt
-    output-at =
-        tab-same 25 (λ k. getD (operations core) (52 * i + 27 + k) 0) (λ k. getD (stateLanes OUTPUT-STATE x) k 0) (λ k g.
-        let e : 52 * i + 27 + k ≡ i * 52 + (27 + k) = omega arith in
-        ap (word (operations core)) e ∙ ops-at i (27 + k) l (omega arith) ∙ op-output x k g)
-        ∙ sym (list-tab (stateLanes OUTPUT-STATE x) 25 (length-state OUTPUT-STATE x))
+    output-at = lanes-at OUTPUT-STATE 27 (omega arith) (op-output x)
 
     pub op-is : opAt (operations core) i ≡ readOp x
     op-is = λ p. record { timestamp = stamp-at p; «state_addr» = address-at p; input = input-at p; output = output-at p }
