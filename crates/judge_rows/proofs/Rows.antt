@@ -1,71 +1,64 @@
--- What a row's evaluator says of the scan of its table. Assumes nothing.
-use mathlib.Core.Path.{_≡_, sym, ap, subst, _∙_}
+-- What the words of a row say of the scan of its table: word i is 0 exactly where value or lookup i is good. Assumes nothing.
+--     Told      so is a list of n words: `values-told` where they are the values, `lookups-told` where they mark the lookups
+--     good, bad what a test of such a word says; `next-row`, what their OR says where it is 0
+use mathlib.Core.Path.{_≡_, sym, ap, _∙_}
 use mathlib.Core.Bool.{Bool, true, false, not}
-use mathlib.Core.Option.{none, some}
 use mathlib.Core.List.{List}
-use Prim.Native.Nat.{ℕ, _+_, _-_, _*_, _/_, _≤_, _<_}
+use mathlib.Core.Option.{none}
+use Prim.Native.Nat.{ℕ, _+_, _-_, _*_, _<_}
 use native.Mathlib.Omega.{arith}
 use borrow.Author.Tests.{eq-eqb, ne-eqb}
+use lib.Dec.{eqb}
 use lib.ListN.{length, take, drop}
 use lib.Seq.{sets, length-sets}
-use Rattle.lists.specs.Tab.{word, tab, rowAt}
+use Rattle.lists.specs.Tab.{word, tab}
+use Rattle.lists.specs.First.{first, inRow}
+use Rattle.lists.proofs.First.{first-more, row-nothing}
 use Rattle.lists.proofs.Laws.{stored-at}
-use Rattle.lists.specs.First.{firstAt, placeOf}
-use Rattle.lists.specs.declared.Place.{Place}
-use Rattle.lists.specs.declared.Place.the-variants.{At, Nowhere}
-use Rattle.lists.proofs.First.{at-clear, at-nothing, place-at, place-nowhere}
-use Rattle.scan.specs.Scan.{unmatched, groupEnd, firstOfGroup}
-use Rattle.scan.proofs.Groups.{EndWithin, group-clear, group-hit}
-use Rattle.keccak_lookups.specs.Groups.{coreEnds}
-use Rattle.keccak_rnd_lookups.specs.Groups.{roundEnds}
+use Rattle.matching.specs.Matching.{matched}
+use Rattle.residue.specs.Residue.{orAll, Marked}
+use Rattle.residue.proofs.Or.{or-each}
 use Rattle.verdict.specs.Kind.{Kind, rows, row}
 use Rattle.verdict.specs.Verdict.{badValue, badLookup}
 use Rattle.judge_scan.proofs.Scan.{part-is}
 
--- the values of row r, evaluated into a slice of their number: it is as long as before, and word i of it is value i
-pub held : (w n : ℕ) (value : List ℕ → ℕ → ℕ) (ws old now : List ℕ) (r : ℕ) → r < length ws / w → length old ≡ n →
-    now ≡ sets old 0 (tab n (value (take (r * w + w - r * w) (drop (r * w) ws)))) →
-    (length now ≡ n) × ((i : ℕ) → i < n → word now i ≡ value (rowAt w ws r) i)
-held w n value ws old now r l h e =
-    let vs : List ℕ = tab n (value (rowAt w ws r)) in
-    let is : now ≡ sets old 0 vs = e ∙ ap (λ (x : List ℕ). sets old 0 (tab n (value x))) (part-is w ws r l) in (
-      ap length is ∙ length-sets old 0 vs ∙ h,
-      λ i g. stored-at old now (value (rowAt w ws r)) n i (omega arith) is g,
-    )
+pub record Told (n : ℕ) (fails : ℕ → Bool) (words : List ℕ) : Type 0 where
+  pub long : length words ≡ n
+  pub is : (i : ℕ) → i < n → fails i ≡ not (eqb (word words i) 0)
 
--- what a test of such a word says of the scan of its table
-module _ (K : Kind) (ws : List ℕ) (r i x : ℕ) (e : x ≡ K .value (row (K .layout) ws r) i) where
-  pub value-good : x ≡ 0 → badValue K ws r i ≡ false
+module _ (K : Kind) (ws old words : List ℕ) (r : ℕ) (l : r < rows (K .layout) ws) where
+  pub values-told : length old ≡ K .values
+      → words ≡ sets old 0 (tab (K .values) (K .value (take (r * K .layout .width + K .layout .width - r * K .layout .width) (drop (r * K .layout .width) ws))))
+      → Told (K .values) (badValue K ws r) words
   unfolding badValue
-  value-good z = ap not (eq-eqb _ _ (sym e ∙ z))
+  values-told h e =
+      let vs : List ℕ = tab (K .values) (K .value (row (K .layout) ws r)) in
+      let is : words ≡ sets old 0 vs = e ∙ ap (λ (x : List ℕ). sets old 0 (tab (K .values) (K .value x))) (part-is (K .layout .width) ws r l) in
+      record {
+        long = ap length is ∙ length-sets old 0 vs ∙ h;
+        is = λ i g. ap (λ (x : ℕ). not (eqb x 0)) (sym (stored-at old words (K .value (row (K .layout) ws r)) (K .values) i (omega arith) is g));
+      }
 
-  pub value-bad : (x ≡ 0 → ⊥) → badValue K ws r i ≡ true
-  unfolding badValue
-  value-bad z = ap not (ne-eqb _ _ (λ q. z (e ∙ q)))
+  pub lookups-told : length old ≡ K .tuples
+      → Marked (K .tuples) (K .tuple (take (r * K .layout .width + K .layout .width - r * K .layout .width) (drop (r * K .layout .width) ws))) old words
+      → Told (K .tuples) (badLookup K ws r) words
+  unfolding badLookup
+  lookups-told h m =
+      record {
+        long = m .long ∙ h;
+        is = λ i g. sym (ap not (m .zero i g) ∙ ap (λ (x : List ℕ). not (matched (K .tuple x i))) (part-is (K .layout .width) ws r l));
+      }
 
--- what the scan of the group of tuple i says, where no tuple of the row before i fails
-module _ (K : Kind) (ends : List ℕ) (ws : List ℕ) (r i : ℕ) (l : r < rows (K .layout) ws) (x : Place)
-    (e : x ≡ placeOf (firstOfGroup 0 ends (K .tuples) (unmatched (K .tuple (take (r * K .layout .width + K .layout .width - r * K .layout .width) (drop (r * K .layout .width) ws)))) i))
-    (before : firstAt (badLookup K ws r) i ≡ none) where
-  lookup-is : x ≡ placeOf (firstOfGroup 0 ends (K .tuples) (badLookup K ws r) i)
-  unfolding badLookup unmatched
-  lookup-is = e ∙ ap (λ (y : List ℕ). placeOf (firstOfGroup 0 ends (K .tuples) (unmatched (K .tuple y)) i)) (part-is (K .layout .width) ws r l)
+module _ {n : ℕ} {fails : ℕ → Bool} {words : List ℕ} (t : Told n fails words) (i : ℕ) (l : i < n) where
+  pub good : word words i ≡ 0 → fails i ≡ false
+  good z = t .is i l ∙ ap not (eq-eqb _ 0 z)
 
-  pub lookup-none : x ≡ Nowhere → {n : ℕ} → n ≡ groupEnd ends (K .tuples) i → firstAt (badLookup K ws r) n ≡ none
-  lookup-none z d =
-      subst (λ (n : ℕ). firstAt (badLookup K ws r) n ≡ none) (sym d)
-      (group-clear (badLookup K ws r) (K .tuples) i before 0 ends (omega arith) (place-nowhere _ (sym z ∙ lookup-is)))
+  pub bad : (word words i ≡ 0 → ⊥) → fails i ≡ true
+  bad z = t .is i l ∙ ap not (ne-eqb _ 0 z)
 
-  pub lookup-some : EndWithin ends (K .tuples) → (k : ℕ) → x ≡ At k → firstAt (badLookup K ws r) (K .tuples) ≡ some k
-  lookup-some w k z = group-hit (badLookup K ws r) (K .tuples) i before 0 ends k (omega arith) w (place-at _ (sym z ∙ lookup-is))
-
--- no group of either table ends past its last tuple
-pub core-ends : EndWithin coreEnds 84
-core-ends = (omega arith, (omega arith, tt))
-
-pub round-ends : EndWithin roundEnds 1031
-round-ends = (omega arith, (omega arith, (omega arith, (omega arith, (omega arith, (omega arith, (omega arith, tt)))))))
-
--- a loop over the indexes of a row that has gone past the last
-pub row-done : (t : ℕ → Bool) (i n : ℕ) → n ≤ i → firstAt t i ≡ none → firstAt t n ≡ none
-row-done t i n l h = at-nothing t n (λ k g. at-clear t i k h (omega arith))
+pub next-row : (t : ℕ → ℕ → Bool) (n r : ℕ) {words : List ℕ} {x : ℕ} → Told n (t r) words → x ≡ orAll (length words) (word words) → x ≡ 0
+    → first (inRow t n) r ≡ none → first (inRow t n) (r + 1) ≡ none
+unfolding inRow
+next-row t n r {words} h e z f =
+    first-more (inRow t n) r f
+    (row-nothing t n r n (λ i l. good h i l (or-each (length words) (word words) (sym e ∙ z) i (omega (arith, h .long)))))

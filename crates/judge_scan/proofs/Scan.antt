@@ -1,10 +1,8 @@
--- What a scan over rows cites, where a row is handed on as a part of the slice and answers with its first index.
--- Assumes nothing.
---     at-none-row, at-some-row   what a row's search says of the scan of rows
+-- What a scan over rows cites, where a row is handed on as a part of the slice. Assumes nothing.
+--     spot-at, spot-nowhere   what the answer of a scan says
 --     active-word   whether row r is active, by its word MU in the table
 --     part-is, part-long, part-row   the part of a table that is row r: its words, how many, and that they are elements
 use mathlib.Core.Path.{_≡_, refl, sym, ap, subst, _∙_}
-use mathlib.Core.Bool.{Bool}
 use mathlib.Core.Option.{Option, none, some}
 use mathlib.Core.List.{List}
 use Prim.Native.Nat.{ℕ, _+_, _-_, _*_, _/_, _≤_, _<_}
@@ -14,9 +12,6 @@ use lib.Dec.{eqb}
 use lib.ListN.{length, take, drop, length-drop}
 use lib.Seq.{ext-getD, getD-take, getD-drop, length-take-le}
 use Rattle.lists.specs.Tab.{word, rowAt}
-use Rattle.lists.specs.First.{first, firstAt, atPlace, inRow, firstIn}
-use Rattle.lists.specs.declared.Place.the-variants.{At, Nowhere}
-use Rattle.lists.proofs.First.{first-more, first-hit, at-clear, at-found, row-nothing}
 use Rattle.lists.proofs.Laws.{length-rowAt, word-rowAt}
 use Rattle.field.specs.Field.{p}
 use Rattle.field.specs.Elements.{ElementRow}
@@ -32,19 +27,6 @@ spot-at (some x) {r} {i} e = let a : x .0 ≡ r = cc in let b : x .1 ≡ i = cc 
 pub spot-nowhere : (o : Option (ℕ × ℕ)) → spot.Nowhere ≡ spotOf o → o ≡ none
 spot-nowhere none e = refl
 spot-nowhere (some x) e = cc
-
--- ---- rows that answer with their first index
-module _ (t : ℕ → ℕ → Bool) (m r : ℕ) (f : first (inRow t m) r ≡ none) where
-  pub at-none-row : firstAt (t r) m ≡ none → first (inRow t m) (r + 1) ≡ none
-  unfolding inRow
-  at-none-row e = first-more (inRow t m) r f (row-nothing t m r m (λ j l. at-clear (t r) m j e l))
-
-  pub at-some-row : (i n : ℕ) → r < n → firstAt (t r) m ≡ some i → firstIn t m n ≡ some (r, i)
-  unfolding inRow atPlace
-  at-some-row i n l e =
-      let x = at-found (t r) m i e in
-      first-hit (inRow t m) r n (r, i) l f
-      (first-hit (atPlace t r) i m (r, i) (x .0) (row-nothing t m r i (λ j g. at-clear (t r) i j (x .2) g)) (rw (x .1)))
 
 -- ---- a row as a part of the slice
 -- row r of a table of rows of w words ends in the table

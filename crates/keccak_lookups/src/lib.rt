@@ -1,101 +1,67 @@
-// The tuples of a core row that need a match and have none, group by group: the columns are tested, and no tuple is
-// made.
+// tables/keccak.rs, bus_interactions: a word for each tuple of a core row that is 0 exactly where the tuple needs no match
+// or has one.
+use bits::put_zeros;
 use keccak::ADDR;
 use keccak::MU;
 use keccak::STATE_PTR;
-use lists::Place;
+use residue::and_residue;
+use residue::bytes_residue;
+use residue::half_residue;
+use residue::is_wh_residue;
 ghost use mathlib.Core.Path.{_≡_};
-ghost use Prim.Native.Nat.{_≤_};
+ghost use Prim.Native.Nat.{_/_, _%_, _≤_};
 ghost use lib.ListN.{length};
-ghost use Rattle.lists.specs.Tab.{word};
-ghost use Rattle.lists.specs.First.{firstAt, placeOf};
-ghost use Rattle.keccak.specs.Columns.{NUM-COLUMNS, MU};
-ghost use Rattle.keccak.specs.Tuples.{NUM-TUPLES, coreTuple};
-ghost use Rattle.scan.specs.Scan.{unmatched, from, groupEnd, firstOfGroup};
-ghost use Rattle.keccak_lookups.specs.Groups.{coreEnds};
+ghost use lib.Seq.{sets};
+ghost use Rattle.lists.specs.Tab.{tab};
+ghost use Rattle.keccak.specs.Columns.{NUM-COLUMNS};
+ghost use Rattle.keccak.specs.Tuples.{NUM-TUPLES, pointerTuple, alignTuple, addrBytesTuple, coreTuple};
+ghost use Rattle.residue.specs.Residue.{residues, Marked};
 
-// Of the first 54 tuples: those of the pointers. A pointer sends its word and its middle half, then its low half.
-fn first_pointer_failure(row: &[u64]) -> Place
-    requires { ⌜ (NUM-COLUMNS ≤ length (now row)) × (word (now row) MU ≡ 0 → ⊥) ⌝ }
-    ensures { λ r. ⌜ r ≡ placeOf (firstAt (unmatched (coreTuple 24 0 (now (row .entry)))) 54) ⌝ }
+// A pointer sends its word and its middle half, then its low half.
+fn put_pointers(row: &[u64], out: &mut [u64])
+    requires { ⌜ (NUM-COLUMNS ≤ length (now row)) × (54 ≤ length (now out)) ⌝ }
+    ensures { λ _. ⌜ now (out .exit) ≡ sets (now (out .entry)) 4 (tab 50 (residues (λ i. pointerTuple (now (row .entry)) (i / 2) (i % 2)))) ⌝ }
 {
     let mut i: usize = 0;
     while i < 25 {
         let at = STATE_PTR + 3 * i;
-        if row[at + 2] >= 4294967296 {
-            return Place::At(4 + 2 * i);
-        }
-        if row[at + 1] >= 65536 {
-            return Place::At(4 + 2 * i);
-        }
-        if row[at] >= 65536 {
-            return Place::At(5 + 2 * i);
-        }
+        let pair = is_wh_residue(row[MU], row[at + 2], row[at + 1]);
+        let low = half_residue(row[MU], row[at]);
+        out[4 + 2 * i] = pair;
+        out[4 + (2 * i + 1)] = low;
         i += 1;
     }
-    Place::Nowhere
 }
 
-// From tuple 55 on: the four pairs of the address's bytes; Memw needs no match here.
-fn first_byte_failure(row: &[u64]) -> Place
-    requires { ⌜ (NUM-COLUMNS ≤ length (now row)) × (word (now row) MU ≡ 0 → ⊥) ⌝ }
-    ensures { λ r. ⌜ r ≡ placeOf (firstAt (from 55 (unmatched (coreTuple 24 0 (now (row .entry))))) NUM-TUPLES) ⌝ }
+// The lowest byte of the address AND 7 is 0.
+fn put_align(row: &[u64], out: &mut [u64])
+    requires { ⌜ (NUM-COLUMNS ≤ length (now row)) × (55 ≤ length (now out)) ⌝ }
+    ensures { λ _. ⌜ now (out .exit) ≡ sets (now (out .entry)) 54 (tab 1 (residues (λ i. alignTuple (now (row .entry))))) ⌝ }
+{
+    out[54] = and_residue(row[MU], row[ADDR], 7, 0);
+}
+
+// The four pairs of the address's bytes.
+fn put_address(row: &[u64], out: &mut [u64])
+    requires { ⌜ (NUM-COLUMNS ≤ length (now row)) × (59 ≤ length (now out)) ⌝ }
+    ensures { λ _. ⌜ now (out .exit) ≡ sets (now (out .entry)) 55 (tab 4 (residues (addrBytesTuple (now (row .entry))))) ⌝ }
 {
     let mut i: usize = 0;
     while i < 4 {
-        let at = ADDR + 2 * i;
-        if row[at] >= 256 {
-            return Place::At(55 + i);
-        }
-        if row[at + 1] >= 256 {
-            return Place::At(55 + i);
-        }
+        out[55 + i] = bytes_residue(row[MU], row[ADDR + 2 * i], row[ADDR + (2 * i + 1)]);
         i += 1;
     }
-    Place::Nowhere
 }
 
-// Tuple 54: the lowest byte of the address AND 7 is 0.
-fn align_failure(row: &[u64]) -> Place
-    requires { ⌜ (NUM-COLUMNS ≤ length (now row)) × (word (now row) MU ≡ 0 → ⊥) ⌝ }
-    ensures { λ r. ⌜ r ≡ placeOf (firstAt (from 54 (unmatched (coreTuple 24 0 (now (row .entry))))) 55) ⌝ }
+// The words of a row's tuples, into the first 84 of `out`. Four before the pointers', and the lanes in memory behind the
+// address's, need no match here.
+pub fn put_core_lookups(row: &[u64], out: &mut [u64])
+    requires { ⌜ (NUM-COLUMNS ≤ length (now row)) × (NUM-TUPLES ≤ length (now out)) ⌝ }
+    ensures { λ _. ⌜ Marked NUM-TUPLES (coreTuple 24 0 (now (row .entry))) (now (out .entry)) (now (out .exit)) ⌝ }
 {
-    let byte = row[ADDR];
-    if byte >= 256 {
-        return Place::At(54);
-    }
-    if byte & 7 != 0 {
-        return Place::At(54);
-    }
-    Place::Nowhere
-}
-
-// The first tuple that needs a match and has none in the group of tuple `index`; a row whose MU is 0 sends nothing.
-pub fn core_group_failure(row: &[u64], index: usize) -> Place
-    requires { ⌜ NUM-COLUMNS ≤ length (now row) ⌝ }
-    ensures { λ r. ⌜ r ≡ placeOf (firstOfGroup 0 coreEnds NUM-TUPLES (unmatched (coreTuple 24 0 (now (row .entry)))) index) ⌝ }
-{
-    if row[MU] == 0 {
-        return Place::Nowhere;
-    }
-    if index < 54 {
-        return first_pointer_failure(row);
-    }
-    if index < 55 {
-        return align_failure(row);
-    }
-    first_byte_failure(row)
-}
-
-// Where that group ends.
-pub fn core_group_end(index: usize) -> usize
-    ensures { λ r. ⌜ r ≡ groupEnd coreEnds NUM-TUPLES index ⌝ }
-{
-    if index < 54 {
-        return 54;
-    }
-    if index < 55 {
-        return 55;
-    }
-    84
+    put_zeros(out, 0, 4);
+    put_pointers(row, out);
+    put_align(row, out);
+    put_address(row, out);
+    put_zeros(out, 59, 25);
 }

@@ -1,124 +1,88 @@
-// tables/keccak_rnd.rs, bus_interactions: the lookups of a round row that find nothing, group by group.
+// tables/keccak_rnd.rs, bus_interactions: a word for each tuple of a round row that is 0 exactly where the tuple needs no
+// match or has one.
+use bits::put_zeros;
 use keccak_rnd::MU;
-use lists::Place;
-use rc::rc_failure;
-use round_chi_scan::ands_failure;
-use round_chi_scan::chi_failure;
-use round_chi_scan::iota_failure;
-use round_chi_scan::rot_failure;
+use rc::rc_residue;
+use round_groups::put_not_pi;
 use round_groups::put_pi;
-use round_scan::theta::d_failure;
-use round_scan::theta::left_failure;
-use round_scan::theta::parity_failure;
-use round_scan::theta::stage_failure;
-use round_scan::theta::theta_failure;
-use scan::behind;
-use scan::or_after;
+use round_residues::lanes::put_ands;
+use round_residues::lanes::put_chi;
+use round_residues::lanes::put_iota;
+use round_residues::lanes::put_rot;
+use round_residues::lanes::put_theta;
+use round_residues::parity::put_d;
+use round_residues::parity::put_left;
+use round_residues::parity::put_parity;
+use round_residues::parity::put_stages;
 ghost use mathlib.Core.Path.{_≡_};
-ghost use Rattle.lists.specs.First.{firstAt, placeOf};
+ghost use Prim.Native.Nat.{_≤_};
+ghost use lib.ListN.{length};
+ghost use lib.Seq.{sets};
+ghost use Rattle.lists.specs.Tab.{tab};
 ghost use Rattle.field.specs.Elements.{ElementRow};
 ghost use Rattle.keccak_rnd.specs.Columns.{NUM-COLUMNS};
 ghost use Rattle.keccak_rnd.specs.Tuples.{NUM-TUPLES, roundTuple};
-ghost use Rattle.scan.specs.Scan.{unmatched, groupEnd, firstOfGroup};
-ghost use Rattle.round_groups.specs.Parts.{chiPart};
-ghost use Rattle.keccak_rnd_lookups.specs.Groups.{rotEnds, leftEnds, roundEnds};
+ghost use Rattle.residue.specs.Residue.{residues, Marked};
+ghost use Rattle.round_groups.specs.Parts.{chiPart, thetaPart};
 
 pub mod rc;
 
-// χ and ι, which active rows alone look up.
-fn chi_part(row: &[u64]) -> Place
-    requires { ⌜ ElementRow NUM-COLUMNS (now row) ⌝ }
-    ensures { λ r. ⌜ r ≡ placeOf (firstAt (unmatched (chiPart (now (row .entry)))) 408) ⌝ }
+// The first three: the two of the bus between the tables, which need no match here, and the constant's.
+fn put_first(row: &[u64], out: &mut [u64])
+    requires { ⌜ ElementRow NUM-COLUMNS (now row) × (3 ≤ length (now out)) ⌝ }
+    ensures { λ _. ⌜ now (out .exit) ≡ sets (now (out .entry)) 0 (tab 3 (residues (roundTuple (now (row .entry))))) ⌝ }
+{
+    let constant = rc_residue(row);
+    out[0] = 0;
+    out[1] = 0;
+    out[2] = constant;
+}
+
+// χ and ι.
+fn put_chi_groups(row: &[u64], out: &mut [u64])
+    requires { ⌜ ElementRow NUM-COLUMNS (now row) × (NUM-TUPLES ≤ length (now out)) ⌝ }
+    ensures { λ _. ⌜ now (out .exit) ≡ sets (now (out .entry)) 623 (tab 408 (residues (chiPart (now (row .entry))))) ⌝ }
+{
+    let mut pi = [0u64; 200];
+    let mut flipped = [0u64; 200];
+    put_pi(row, &mut pi);
+    put_not_pi(&pi, &mut flipped);
+    put_ands(row, &pi, &flipped, out);
+    put_chi(row, &pi, out);
+    put_iota(row, out);
+}
+
+// The same; of a padding row the bytes of π are not computed.
+fn put_chi_part(row: &[u64], out: &mut [u64])
+    requires { ⌜ ElementRow NUM-COLUMNS (now row) × (NUM-TUPLES ≤ length (now out)) ⌝ }
+    ensures { λ _. ⌜ now (out .exit) ≡ sets (now (out .entry)) 623 (tab 408 (residues (chiPart (now (row .entry))))) ⌝ }
 {
     if row[MU] == 0 {
-        return Place::Nowhere;
+        put_zeros(out, 623, 408);
+        return;
     }
-    let mut pi = [0u64; 200];
-    put_pi(row, &mut pi);
-    let ands = ands_failure(row, &pi);
-    let chi = chi_failure(row, &pi);
-    let iota = iota_failure(row);
-    let later = or_after(chi, 200, iota, 8);
-    or_after(ands, 200, later, 208)
+    put_chi_groups(row, out);
 }
 
-// Of the groups from ρ on, the one of tuple `index`.
-fn rot_group_failure(row: &[u64], index: usize) -> Place
-    requires { ⌜ ElementRow NUM-COLUMNS (now row) ⌝ }
-    ensures { λ r. ⌜ r ≡ placeOf (firstOfGroup 423 rotEnds NUM-TUPLES (unmatched (roundTuple (now (row .entry)))) index) ⌝ }
+// From D on.
+fn put_theta_part(row: &[u64], out: &mut [u64])
+    requires { ⌜ ElementRow NUM-COLUMNS (now row) × (NUM-TUPLES ≤ length (now out)) ⌝ }
+    ensures { λ _. ⌜ now (out .exit) ≡ sets (now (out .entry)) 183 (tab 848 (residues (thetaPart (now (row .entry))))) ⌝ }
 {
-    if index < 623 {
-        return behind(423, rot_failure(row), 200);
-    }
-    behind(623, chi_part(row), 408)
+    put_d(row, out);
+    put_theta(row, out);
+    put_rot(row, out);
+    put_chi_part(row, out);
 }
 
-// Of the groups from C's shifted halfwords on.
-fn left_group_failure(row: &[u64], index: usize) -> Place
-    requires { ⌜ ElementRow NUM-COLUMNS (now row) ⌝ }
-    ensures { λ r. ⌜ r ≡ placeOf (firstOfGroup 163 leftEnds NUM-TUPLES (unmatched (roundTuple (now (row .entry)))) index) ⌝ }
+// The words of a row's tuples, into the first 1,031 of `out`.
+pub fn put_round_lookups(row: &[u64], out: &mut [u64])
+    requires { ⌜ ElementRow NUM-COLUMNS (now row) × (NUM-TUPLES ≤ length (now out)) ⌝ }
+    ensures { λ _. ⌜ Marked NUM-TUPLES (roundTuple (now (row .entry))) (now (out .entry)) (now (out .exit)) ⌝ }
 {
-    if index < 183 {
-        return behind(163, left_failure(row), 20);
-    }
-    if index < 223 {
-        return behind(183, d_failure(row), 40);
-    }
-    if index < 423 {
-        return behind(223, theta_failure(row), 200);
-    }
-    rot_group_failure(row, index)
-}
-
-// The first tuple that needs a match and has none in the group of tuple `index`. The two of the bus between the tables
-// need none.
-pub fn round_group_failure(row: &[u64], index: usize) -> Place
-    requires { ⌜ ElementRow NUM-COLUMNS (now row) ⌝ }
-    ensures { λ r. ⌜ r ≡ placeOf (firstOfGroup 0 roundEnds NUM-TUPLES (unmatched (roundTuple (now (row .entry)))) index) ⌝ }
-{
-    if index < 3 {
-        return behind(2, rc_failure(row), 1);
-    }
-    if index < 43 {
-        return behind(3, parity_failure(row), 40);
-    }
-    if index < 163 {
-        return behind(43, stage_failure(row), 120);
-    }
-    left_group_failure(row, index)
-}
-
-// Of the groups from C's shifted halfwords on, where the one of tuple `index` ends.
-fn left_group_end(index: usize) -> usize
-    ensures { λ r. ⌜ r ≡ groupEnd leftEnds NUM-TUPLES index ⌝ }
-{
-    if index < 183 {
-        return 183;
-    }
-    if index < 223 {
-        return 223;
-    }
-    if index < 423 {
-        return 423;
-    }
-    if index < 623 {
-        return 623;
-    }
-    1031
-}
-
-// Where the group of tuple `index` ends.
-pub fn round_group_end(index: usize) -> usize
-    ensures { λ r. ⌜ r ≡ groupEnd roundEnds NUM-TUPLES index ⌝ }
-{
-    if index < 3 {
-        return 3;
-    }
-    if index < 43 {
-        return 43;
-    }
-    if index < 163 {
-        return 163;
-    }
-    left_group_end(index)
+    put_first(row, out);
+    put_parity(row, out);
+    put_stages(row, out);
+    put_left(row, out);
+    put_theta_part(row, out);
 }

@@ -10,7 +10,7 @@ use Rattle.lists.proofs.Laws.{stored-at, stored-long}
 use Rattle.lists.proofs.Then.{at-two, at-three}
 use Rattle.keccak.specs.Columns.{byXYB}
 use Rattle.keccak_rnd.specs.Tuples.{rotatedCAt, alu, areBytes, cxzTuple0, cxzTuple, dxzTuple, thetaTuple, rotTuple}
-use Rattle.round_groups.specs.Parts.{parityTuples, stageTuples, leftTuples, dTuples, thetaTuples, rotTuples, andsTuples, chiTuples, iotaTuples, RotatedOf}
+use Rattle.round_groups.specs.Parts.{parityTuples, stageTuples, leftTuples, dTuples, thetaTuples, rotTuples, andsTuples, chiTuples, RotatedOf}
 
 -- ---- the parts of an index
 part-8 : (x z : ℕ) → z < 8 → (8 * x + z) / 8 ≡ x
@@ -76,10 +76,6 @@ module _ (row : List ℕ) where
       → rotTuples row (8 * l + z) ≡ areBytes (word row (663 + (l / 5 + 5 * (l % 5)) * 8 + z)) (word row (863 + (l / 5 + 5 * (l % 5)) * 8 + z))
   unfolding rotTuples
   rot-lane l z b = xyb (rotTuple row) l z b
-
-  pub iota-byte : (z : ℕ) → iotaTuples row z ≡ alu row 2 (word row (1263 + z)) (word row (1463 + z)) (word row (1471 + z))
-  unfolding iotaTuples
-  iota-byte z = refl
 
   -- ---- C rotated by one, and D
   pub rotated-of : (l vs : List ℕ) → 40 ≤ length l → vs ≡ sets l 0 (tab 40 (λ k. rotatedCAt row (k / 8) (k % 8))) → RotatedOf row vs

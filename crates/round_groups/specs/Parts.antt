@@ -8,13 +8,10 @@ use Rattle.lists.specs.Tab.{then, word}
 use Rattle.field.specs.Field.{fsub}
 use Rattle.lookup.specs.Tuple.{Tuple}
 use Rattle.keccak.specs.Columns.{byXYB}
-use Rattle.keccak_rnd.specs.Tuples.{rotatedCAt, piAt, constantTuple, cxzTuple0, cxzTuple, cxzLeftTuple, dxzTuple}
+use Rattle.keccak_rnd.specs.Tuples.{rotatedCAt, piAt, cxzTuple0, cxzTuple, cxzLeftTuple, dxzTuple}
 use Rattle.keccak_rnd.specs.Tuples.{thetaTuple, rotTuple, chiAndsTuple, chiTuple, iotaTuple}
 
 -- ---- the groups, by index
-unfoldable pub rcTuples : List ℕ → ℕ → Tuple
-rcTuples row i = constantTuple row
-
 unfoldable pub parityTuples : List ℕ → ℕ → Tuple
 parityTuples row i = cxzTuple0 row (i / 8) (i % 8)
 

@@ -80,7 +80,7 @@ pub fn put_pi(row: &[u64], out: &mut [u64])
 }
 
 // 255 less a byte of π.
-pub fn not_byte(a: u64) -> u64
+fn not_byte(a: u64) -> u64
     requires { ⌜ a < p ⌝ }
     ensures { λ r. ⌜ r ≡ fsub 255 a ⌝ }
 {

@@ -1,22 +1,20 @@
 -- `judge_rows::first_round_value` meets its contract: no row before this one has a value that is not 0, and in this one none before
 -- the index has. Assumes nothing.
 use mathlib.Core.Path.{_≡_, refl, ap, sym, _∙_}
+use mathlib.Core.Logic.{⊎-elim}
 use mathlib.Core.Option.{none}
-use Prim.Native.Nat.{ℕ, _≤_, _<_, _-_}
+use Prim.Native.Nat.{_≤_, _-_}
 use native.Mathlib.Omega.{arith}
 use borrow.Author.Needs.{needs}
 use lib.ListN.{length}
-use Rattle.lists.specs.Tab.{word}
 use Rattle.lists.specs.First.{first, atPlace, inRow}
 use Rattle.lists.proofs.First.{first-start, in-more, row-more, in-hit, in-none}
-use Rattle.verdict.specs.Kind.{row}
 use Rattle.verdict.specs.Verdict.{badValue}
 use Rattle.verdict.specs.CoreAndRound.{roundKind}
-use Rattle.keccak_rnd.specs.Values.{roundValue}
 use Rattle.judge_scan.specs.Spot.{spotOf}
 use Rattle.judge_scan.specs.declared.Spot.the-variants.{Nowhere}
 use Rattle.judge_scan.proofs.Scan.{part-row}
-use Rattle.judge_rows.proofs.Rows.{held, value-good, value-bad}
+use Rattle.judge_rows.proofs.Rows.{Told, values-told, good, bad, next-row}
 use Rattle.judge_rows.proofs.first_round_value.Statement.{statement}
 use Rattle.judge_rows.proofs.first_round_value.Tie as tie
 
@@ -34,11 +32,10 @@ Inv-rows round rows values₀ found₀ row₀ values found r =
 abbrev μ-rows : tie.MeasureT-rows
 μ-rows round rows values₀ found₀ row₀ values found r = rows - r
 
--- in a turn of the rows' loop: the array holds the row's values
-told : (c : tie.After-put-round-values Inv-loop μ-loop Inv-rows μ-rows) →
-    (length (c .put-round-values .last .1 .0) ≡ 141)
-    × ((i : ℕ) → i < 141 → word (c .put-round-values .last .1 .0) i ≡ roundValue (row (roundKind .layout) (c .before .before .before .before .before .before .args .round .now) (c .before .before .before .before .rows .row)) i)
-told c = held 1480 141 roundValue _ _ _ _ (c .before .before .before .rows-test .taken) (c .before .before .before .before .rows .inv .3) (c .put-round-values .ensures)
+-- in a turn of the rows' loop: what the array's words say
+told : (c : tie.After-put-round-values Inv-loop μ-loop Inv-rows μ-rows)
+    → Told 141 (badValue roundKind (c .before .before .before .before .before .before .args .round .now) (c .before .before .before .before .rows .row)) (c .put-round-values .last .1 .0)
+told c = values-told roundKind _ _ _ _ (c .before .before .before .rows-test .taken) (c .before .before .before .before .rows .inv .3) (c .put-round-values .ensures)
 
 rows-holds : tie.Need-rows-holds Inv-loop μ-loop Inv-rows μ-rows
 rows-holds c = (omega arith, refl, first-start _, search needs)
@@ -70,14 +67,20 @@ put-round-values-requires c κs =
     let h = c .before .before .before .before .before .pre in
     (part-row 1480 _ _ l h, omega (arith, c .before .before .before .rows .inv .3))
 
+slice-aggregate-or-of : tie.Need-slice-aggregate-or-of Inv-loop μ-loop Inv-rows μ-rows
+slice-aggregate-or-of c = search needs
+
+or-of-requires : tie.Need-or-of-requires Inv-loop μ-loop Inv-rows μ-rows
+or-of-requires c κs = search needs
+
 loop-holds : tie.Need-loop-holds Inv-loop μ-loop Inv-rows μ-rows
-loop-holds c = (omega arith, c .before .before .before .before .before .rows .inv .1, first-start _)
+loop-holds c = (omega arith, c .before .before .before .before .before .before .before .before .rows .inv .1, first-start _)
 
-mul-if1 : tie.Need-mul-if1 Inv-loop μ-loop Inv-rows μ-rows
-mul-if1 c = omega arith
+mul-if2 : tie.Need-mul-if2 Inv-loop μ-loop Inv-rows μ-rows
+mul-if2 c = omega arith
 
-array-read-if1 : tie.Need-array-read-if1 Inv-loop μ-loop Inv-rows μ-rows
-array-read-if1 c = omega arith
+array-read-if2 : tie.Need-array-read-if2 Inv-loop μ-loop Inv-rows μ-rows
+array-read-if2 c = omega arith
 
 add-index : tie.Need-add-index Inv-loop μ-loop Inv-rows μ-rows
 add-index c = omega arith
@@ -88,7 +91,7 @@ loop-less c = omega arith
 loop-again : tie.Need-loop-again Inv-loop μ-loop Inv-rows μ-rows
 loop-again c =
     let v = c .before .before .loop .inv in
-    (omega arith, v .1, in-more _ 0 _ _ (v .2) (value-good roundKind _ _ _ _ (told (c .before .before .before .before) .1 _ (omega arith)) (c .if1 .left)))
+    (omega arith, v .1, in-more _ 0 _ _ (v .2) (good (told (c .before .before .before .before .before .before .before)) _ (omega arith) (c .if2 .left)))
 
 add-row : tie.Need-add-row Inv-loop μ-loop Inv-rows μ-rows
 add-row c = omega arith
@@ -98,16 +101,19 @@ rows-less c = omega arith
 
 rows-again : tie.Need-rows-again Inv-loop μ-loop Inv-rows μ-rows
 rows-again c =
-    let v = c .before .loop .inv in
-    let f = c .before .before .before .before .before .before .before .rows .inv .2 in
-    (omega arith, v .1, row-more _ _ _ _ f (v .0) (omega arith) (v .2), told (c .before .before .before) .0)
+    let put = c .before .before .before .before in
+    let at = put .before .before .before .before in
+    ⊎-elim
+    (λ w. let v = w .1 .inv in (omega arith, w .3 ∙ v .1, row-more _ _ _ _ (at .rows .inv .2) (v .0) (w .2 .left) (v .2), told put .long))
+    (λ w. (omega arith, w .1 ∙ at .rows .inv .1, next-row _ _ _ (told put) (c .before .or-of .ensures) (w .0 .left) (at .rows .inv .2), told put .long))
+    (c .if1 .came)
 
 returns : tie.Need-returns Inv-loop μ-loop Inv-rows μ-rows
 returns c = c .before .rows .inv .1 ∙ sym (ap spotOf (in-none _ _ _ _ (c .before .rows .inv .0) (c .rows-test .left) (c .before .rows .inv .2)))
 
 returns-2 : tie.Need-returns-2 Inv-loop μ-loop Inv-rows μ-rows
 returns-2 c =
-    let t = c .before .before .before .before in
+    let t = c .before .before .before .before .before .before .before in
     let l = c .before .loop-test .taken in
     sym
     (ap spotOf
@@ -116,7 +122,7 @@ returns-2 c =
     l
     (t .before .before .before .before .rows .inv .2)
     (c .before .before .loop .inv .2)
-    (value-bad roundKind _ _ _ _ (told t .1 _ l) (c .if1 .taken))))
+    (bad (told t) _ l (c .if2 .taken))))
 
 pub first-round-value-spec : {M : Type 1} → statement M
 first-round-value-spec =
@@ -135,9 +141,11 @@ first-round-value-spec =
     part-put-round-values-end
     slice-aggregate-put-round-values
     put-round-values-requires
+    slice-aggregate-or-of
+    or-of-requires
     loop-holds
-    mul-if1
-    array-read-if1
+    mul-if2
+    array-read-if2
     add-index
     loop-less
     loop-again

@@ -1,0 +1,65 @@
+-- `keccak_rnd_lookups::put_chi_groups` meets its contract: the bytes of π first, then one group behind the other. Assumes nothing.
+use native.Mathlib.Omega.{arith}
+use borrow.Author.Needs.{needs}
+use Rattle.round_groups.proofs.Pi.{pi-of, pi-below, not-of}
+use Rattle.keccak_rnd_lookups.proofs.Joins.{chi-stored}
+use Rattle.keccak_rnd_lookups.proofs.put_chi_groups.Statement.{statement}
+use Rattle.keccak_rnd_lookups.proofs.put_chi_groups.Tie as tie
+
+slice-aggregate-put-pi : tie.Need-slice-aggregate-put-pi
+slice-aggregate-put-pi c = search needs
+
+put-pi-requires : tie.Need-put-pi-requires
+put-pi-requires c κs = search needs
+
+slice-aggregate-put-not-pi : tie.Need-slice-aggregate-put-not-pi
+slice-aggregate-put-not-pi c = search needs
+
+slice-aggregate-put-not-pi-2 : tie.Need-slice-aggregate-put-not-pi-2
+slice-aggregate-put-not-pi-2 c = search needs
+
+put-not-pi-requires : tie.Need-put-not-pi-requires
+put-not-pi-requires c κs = (omega arith, pi-below _ _ (pi-of (c .before .before .before .before .before .before .before .args .row .now) _ _ (omega arith) (c .before .before .before .put-pi .ensures)), omega arith)
+
+slice-aggregate-put-ands : tie.Need-slice-aggregate-put-ands
+slice-aggregate-put-ands c = search needs
+
+slice-aggregate-put-ands-2 : tie.Need-slice-aggregate-put-ands-2
+slice-aggregate-put-ands-2 c = search needs
+
+put-ands-requires : tie.Need-put-ands-requires
+put-ands-requires c κs =
+    (c .before .before .before .before .before .before .before .before .before .before .before .before .pre .0, pi-of _ _ _ (omega arith) (c .before .before .before .before .before .before .before .before .put-pi .ensures), not-of _ _ _ (omega arith) (c .before .before .before .before .put-not-pi .ensures), omega arith)
+
+slice-aggregate-put-chi : tie.Need-slice-aggregate-put-chi
+slice-aggregate-put-chi c = search needs
+
+put-chi-requires : tie.Need-put-chi-requires
+put-chi-requires c κs = (c .before .before .before .before .before .before .before .before .before .before .before .before .before .before .before .before .before .pre .0 .long, pi-of _ _ _ (omega arith) (c .before .before .before .before .before .before .before .before .before .before .before .before .before .put-pi .ensures), omega arith)
+
+put-iota-requires : tie.Need-put-iota-requires
+put-iota-requires c κs = search needs
+
+same-length : tie.Need-same-length
+same-length c = search needs
+
+returns : tie.Need-returns
+returns c = chi-stored _ _ (c .before .before .before .before .before .before .before .before .before .before .before .put-ands .ensures) (c .before .before .before .before .before .before .put-chi .ensures) (c .before .before .put-iota .ensures)
+
+pub put-chi-groups-spec : {M : Type 1} → statement M
+put-chi-groups-spec =
+    tie.close
+    (tie.spec
+    slice-aggregate-put-pi
+    put-pi-requires
+    slice-aggregate-put-not-pi
+    slice-aggregate-put-not-pi-2
+    put-not-pi-requires
+    slice-aggregate-put-ands
+    slice-aggregate-put-ands-2
+    put-ands-requires
+    slice-aggregate-put-chi
+    put-chi-requires
+    put-iota-requires
+    same-length
+    returns)

@@ -1,0 +1,99 @@
+-- `round_residues::parity::put_parity` meets its contract: after x turns the first x lanes are stored. Assumes nothing.
+use Prim.Native.Nat.{_-_, _*_}
+use native.Mathlib.Omega.{arith}
+use Rattle.lists.proofs.Laws.{Filled, filled-none, filled-all}
+use Rattle.residue.specs.Residue.{residues}
+use Rattle.residue.proofs.Stored.{filled-lane}
+use Rattle.round_groups.specs.Parts.{parityTuples}
+use Rattle.round_groups.proofs.Groups.{parity-lane}
+use Rattle.round_residues.proofs.parity.put_parity.Statement.{statement}
+use Rattle.round_residues.proofs.parity.put_parity.Tie as tie
+
+abbrev Inv-loop : tie.InvT-loop
+Inv-loop row out₀ x₀ out x = Filled out₀ 3 40 (residues (parityTuples row)) out (8 * x)
+
+abbrev μ-loop : tie.MeasureT-loop
+μ-loop row out₀ x₀ out x = 5 - x
+
+loop-holds : tie.Need-loop-holds Inv-loop μ-loop
+loop-holds c = filled-none _ _ _ _
+
+shared-slice-read-put-xor-lane : tie.Need-shared-slice-read-put-xor-lane Inv-loop μ-loop
+shared-slice-read-put-xor-lane c = omega arith
+
+mul-put-xor-lane : tie.Need-mul-put-xor-lane Inv-loop μ-loop
+mul-put-xor-lane c = omega arith
+
+add-put-xor-lane : tie.Need-add-put-xor-lane Inv-loop μ-loop
+add-put-xor-lane c = omega arith
+
+add-put-xor-lane-2 : tie.Need-add-put-xor-lane-2 Inv-loop μ-loop
+add-put-xor-lane-2 c = omega arith
+
+mul-put-xor-lane-2 : tie.Need-mul-put-xor-lane-2 Inv-loop μ-loop
+mul-put-xor-lane-2 c = omega arith
+
+add-put-xor-lane-3 : tie.Need-add-put-xor-lane-3 Inv-loop μ-loop
+add-put-xor-lane-3 c = omega arith
+
+mul-put-xor-lane-3 : tie.Need-mul-put-xor-lane-3 Inv-loop μ-loop
+mul-put-xor-lane-3 c = omega arith
+
+mul-put-xor-lane-4 : tie.Need-mul-put-xor-lane-4 Inv-loop μ-loop
+mul-put-xor-lane-4 c = omega arith
+
+add-put-xor-lane-4 : tie.Need-add-put-xor-lane-4 Inv-loop μ-loop
+add-put-xor-lane-4 c = omega arith
+
+mul-put-xor-lane-5 : tie.Need-mul-put-xor-lane-5 Inv-loop μ-loop
+mul-put-xor-lane-5 c = omega arith
+
+add-put-xor-lane-5 : tie.Need-add-put-xor-lane-5 Inv-loop μ-loop
+add-put-xor-lane-5 c = omega arith
+
+put-xor-lane-requires : tie.Need-put-xor-lane-requires Inv-loop μ-loop
+put-xor-lane-requires c κs = omega arith
+
+add-x : tie.Need-add-x Inv-loop μ-loop
+add-x c = omega arith
+
+loop-less : tie.Need-loop-less Inv-loop μ-loop
+loop-less c = omega arith
+
+loop-again : tie.Need-loop-again Inv-loop μ-loop
+loop-again c =
+    let put = c .before .before in
+    let in-loop = put .before .before .before in
+    let at-loop = in-loop .before in
+    filled-lane _ _ _ (at-loop .loop .inv) (omega arith) (put .put-xor-lane .ensures) (parity-lane _ _)
+
+same-length : tie.Need-same-length Inv-loop μ-loop
+same-length c = omega arith
+
+returns : tie.Need-returns Inv-loop μ-loop
+returns c = filled-all (c .before .loop .inv) (omega arith)
+
+pub put-parity-spec : {M : Type 1} → statement M
+put-parity-spec =
+    tie.close
+    (tie.spec
+    Inv-loop
+    μ-loop
+    loop-holds
+    shared-slice-read-put-xor-lane
+    mul-put-xor-lane
+    add-put-xor-lane
+    add-put-xor-lane-2
+    mul-put-xor-lane-2
+    add-put-xor-lane-3
+    mul-put-xor-lane-3
+    mul-put-xor-lane-4
+    add-put-xor-lane-4
+    mul-put-xor-lane-5
+    add-put-xor-lane-5
+    put-xor-lane-requires
+    add-x
+    loop-less
+    loop-again
+    same-length
+    returns)
