@@ -1,4 +1,4 @@
--- The two values of ADD. Assumes nothing.
+-- The two values of ADD.
 use mathlib.Core.Path.{_≡_, refl, sym, ap, _∙_}
 use mathlib.Core.List.{List}
 use Prim.Native.Nat.{ℕ, zero, suc}

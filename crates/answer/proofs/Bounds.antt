@@ -1,4 +1,4 @@
--- Why the limit on operations is what it is: it is the largest number whose 24 rounds each fit 2^31 rows. Assumes nothing.
+-- Why the limit on operations is what it is: it is the largest number whose 24 rounds each fit 2^31 rows.
 use Prim.Native.Nat.{_+_, _*_, _^_, _≤_, _<_}
 use native.Mathlib.Omega.{arith}
 use Rattle.answer.specs.Limits.{MAX-OPS}

@@ -8,7 +8,6 @@
 --     is-refused, is-done       what an answer that another function gave says of the checks
 --     passed-if, passed-at      what an accepted call knows of a check, and of those after it
 --     sets-overwrite            words stored one by one from the front
--- Assumes nothing.
 use Prim.Native.Nat.{ℕ, _≤_}
 use mathlib.Core.Path.{_≡_, refl, ap}
 use mathlib.Core.Bool.{Bool, true, false}

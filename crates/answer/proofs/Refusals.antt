@@ -1,5 +1,5 @@
 -- The checks that most calls share: each passes exactly where its condition does not hold, and else refuses with its
--- detail, whatever the later checks say. Assumes nothing.
+-- detail, whatever the later checks say.
 use Prim.Native.Nat.{ℕ, _≤_, _<_}
 use mathlib.Core.Path.{_≡_, refl}
 use mathlib.Core.Logic.{_↔_}

@@ -1,4 +1,4 @@
--- The limits that the interface sets on what a call is handed. Assumes nothing.
+-- The limits that the interface sets on what a call is handed.
 use Prim.Native.Nat.{ℕ}
 
 -- The most operations in one list: the largest n with 24 · n ≤ 2^31, so that their round table has at most 2^31 rows.

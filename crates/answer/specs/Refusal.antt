@@ -8,7 +8,7 @@
 --     overwrite      the new words, then the old words past them
 --     afterwards     what a lent slice holds after the call: the new words, or the old ones where it was refused
 -- A call's checks are one definition of its arguments, an `Option Refusal`; its answer and the slices that it leaves
--- are both stated from that definition. Assumes nothing.
+-- are both stated from that definition.
 use Prim.Native.Nat.{ℕ, _+_}
 use mathlib.Core.Bool.{Bool}
 use mathlib.Core.Option.{Option, none, some}

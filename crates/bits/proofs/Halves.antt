@@ -1,4 +1,4 @@
--- A lane by its halfwords, each shifted by the same power: their low parts and their carries as lanes. Assumes nothing.
+-- A lane by its halfwords, each shifted by the same power: their low parts and their carries as lanes.
 use mathlib.Core.Path.{_≡_, ap, _∙_}
 use Prim.Native.Nat.{ℕ, _+_, _*_, _/_, _%_, _^_, _≤_, _<_}
 use native.Mathlib.Nat.{le-trans, le-of-suc-le-suc, mul-le-mul-left, mul-le-mul-right}

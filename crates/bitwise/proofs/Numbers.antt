@@ -1,5 +1,5 @@
 -- The kinds of lookup by their numbers: `ALL` and `lookup_type_index` are inverse, and the columns that count them follow
--- each other in that order. Assumes nothing.
+-- each other in that order.
 use Prim.Native.Nat.{ℕ, suc, zero, _+_, _-_, _≤_, _<_}
 use mathlib.Core.Path.{_≡_, refl, ap, _∙_}
 use mathlib.Core.List.{List, [], _∷_}

@@ -1,4 +1,4 @@
--- A row's tuples read only its 21 columns. Assumes nothing.
+-- A row's tuples read only its 21 columns.
 use mathlib.Core.Path.{_≡_}
 use mathlib.Core.List.{List, [], _∷_}
 use Prim.Native.Nat.{ℕ, _<_}

@@ -1,5 +1,5 @@
 -- The bitwise table's calls are accepted exactly where none of their conditions holds; and the refusals with their details, in
--- their order. Assumes nothing.
+-- their order.
 use mathlib.Core.Path.{_≡_, refl}
 use mathlib.Core.Logic.{_↔_}
 use mathlib.Core.List.{List}

@@ -1,5 +1,5 @@
 -- What the ten tuples carry on the table's rows: the row of X, Y and Z, with ten multiplicities behind its fixed columns.
--- H is X + 256 Y. Assumes nothing.
+-- H is X + 256 Y.
 use mathlib.Core.Path.{_≡_, ap, ap₂, _∙_}
 use mathlib.Core.List.{List, [], _∷_, _++_}
 use Prim.Native.Nat.{ℕ, _+_, _*_, _/_, _%_, _^_, _<_}

@@ -1,4 +1,4 @@
--- tables/bitwise.rs, `cols`: the 21 columns of a row, and how many rows, kinds and counters there are. Assumes nothing.
+-- tables/bitwise.rs, `cols`: the 21 columns of a row, and how many rows, kinds and counters there are.
 use Prim.Native.Nat.{ℕ}
 
 -- 256 · 256 · 16 rows: one for each X, Y and Z.

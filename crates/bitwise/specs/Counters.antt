@@ -1,4 +1,4 @@
--- The counters of the lookups, ten to a row, and `bump`, which adds one to one of them. Assumes nothing.
+-- The counters of the lookups, ten to a row, and `bump`, which adds one to one of them.
 use Prim.Native.Nat.{ℕ, _+_, _*_}
 use mathlib.Core.List.{List}
 use mathlib.Core.Option.{Option}

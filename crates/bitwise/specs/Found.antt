@@ -1,4 +1,4 @@
--- When values on a bus occur among the tuples of the 2^20 bitwise rows, and the direct tests of it. Assumes nothing.
+-- When values on a bus occur among the tuples of the 2^20 bitwise rows, and the direct tests of it.
 use Prim.Native.Nat.{ℕ, zero, suc, _<_}
 use mathlib.Core.Bool.{Bool, _&&_}
 use mathlib.Core.List.{List}

@@ -1,4 +1,4 @@
--- tables/bitwise.rs, `generate_bitwise_row` and `row_index`: a row by its index. Assumes nothing.
+-- tables/bitwise.rs, `generate_bitwise_row` and `row_index`: a row by its index.
 use Prim.Native.Nat.{ℕ, _+_, _*_, _/_, _%_}
 use mathlib.Core.Bool.{_&&_}
 use mathlib.Core.List.{List, [], _∷_}

@@ -1,4 +1,4 @@
--- tables/bitwise.rs, `bus_interactions`: the ten tuples that a row receives, one for each kind. Assumes nothing.
+-- tables/bitwise.rs, `bus_interactions`: the ten tuples that a row receives, one for each kind.
 use Prim.Native.Nat.{ℕ}
 use mathlib.Core.List.{List, [], _∷_}
 use lib.ListN.{getD}

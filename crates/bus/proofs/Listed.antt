@@ -1,4 +1,4 @@
--- A table's rows as a list `tab n f`: its elements, and what counts over indices are as counts along it. Assumes nothing.
+-- A table's rows as a list `tab n f`: its elements, and what counts over indices are as counts along it.
 --     mem-tab, tab-mem       its elements are f 0, .., f (n - 1)
 --     by-tab                 a count over indices is a count along it
 --     selected-length, selected-at   how many elements pass a test, and where one of them stands among those
@@ -13,7 +13,7 @@ use lib.Dec.{T}
 use lib.ListN.{length, getD}
 use lib.Seq.{getD-append-add}
 use Rattle.lists.specs.Tab.{tab, tabFrom, pick}
-use Rattle.lists.specs.First.{count}
+use Rattle.lists.specs.First.{countBelow}
 use Rattle.lists.specs.Select.{consIf, selected}
 use Rattle.lists.proofs.Laws.{length-tab, getD-tab, tab-add}
 use Rattle.lists.proofs.Count.{count-add, count-hit}
@@ -70,20 +70,20 @@ pick-bit : (b : Bool) (n : ℕ) → n + (indicator b + 0) ≡ pick b (n + 1) n
 pick-bit true n = refl
 pick-bit false n = omega arith
 
-pub by-tab : {A : Type 0} (p : A → Bool) (n : ℕ) (f : ℕ → A) → countBy p (tab n f) ≡ count (λ r. p (f r)) n
-unfolding tab tabFrom countBy count
+pub by-tab : {A : Type 0} (p : A → Bool) (n : ℕ) (f : ℕ → A) → countBy p (tab n f) ≡ countBelow (λ r. p (f r)) n
+unfolding tab tabFrom countBy countBelow
 by-tab p zero f = refl
 by-tab p (suc n) f =
     ap (countBy p) (tab-last n f) ∙ by-append p (tab n f) (f n ∷ [])
-    ∙ ap (λ (k : ℕ). k + (indicator (p (f n)) + 0)) (by-tab p n f) ∙ pick-bit (p (f n)) (count (λ r. p (f r)) n)
+    ∙ ap (λ (k : ℕ). k + (indicator (p (f n)) + 0)) (by-tab p n f) ∙ pick-bit (p (f n)) (countBelow (λ r. p (f r)) n)
 
 -- where a test passes at r, below n, fewer passed before r than do below n
-pub count-before : (t : ℕ → Bool) (n r : ℕ) → r < n → t r ≡ true → count t r < count t n
+pub count-before : (t : ℕ → Bool) (n r : ℕ) → r < n → t r ≡ true → countBelow t r < countBelow t n
 count-before t n r l e =
     let m : ℕ = n - r in
     let here : r + 0 ≡ r = omega arith in
     let size : r + m ≡ n = omega arith in
-    subst (λ (k : ℕ). count t r < count t k) size (omega (arith, count-add t r m, count-hit (λ k. t (r + k)) m 0 (omega arith) (ap t here ∙ e)))
+    subst (λ (k : ℕ). countBelow t r < countBelow t k) size (omega (arith, count-add t r m, count-hit (λ k. t (r + k)) m 0 (omega arith) (ap t here ∙ e)))
 
 -- ---- the elements that pass a test
 pub selected-length : {A : Type 0} (act : A → Bool) (xs : List A) → length (selected act xs) ≡ countBy act xs
@@ -97,11 +97,11 @@ selected-length act (x ∷ xs) = go (act x) (selected-length act xs)
 
 -- the r-th element, where it passes, stands in the selection behind as many as pass before it
 pub selected-at : {A : Type 0} (act : A → Bool) (f : ℕ → A) (d : A) (n r : ℕ) → r < n → act (f r) ≡ true →
-    getD (selected act (tab n f)) (count (λ k. act (f k)) r) d ≡ f r
+    getD (selected act (tab n f)) (countBelow (λ k. act (f k)) r) d ≡ f r
 unfolding selected
 selected-at {A} act f d n r l e =
     let m : ℕ = n - suc r in
-    let c : ℕ = count (λ k. act (f k)) r in
+    let c : ℕ = countBelow (λ k. act (f k)) r in
     let X : List A = selected act (tab r f) in
     let Z : List A = selected act (tab m (λ k. f (r + suc k))) in
     let size : n ≡ r + suc m = omega arith in

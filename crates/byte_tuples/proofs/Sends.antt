@@ -1,4 +1,4 @@
--- The words of a tuple of bytes from what was read for them. Assumes nothing.
+-- The words of a tuple of bytes from what was read for them.
 use mathlib.Core.Path.{_≡_, ap, ap₂, _∙_}
 use mathlib.Core.List.{List, [], _∷_}
 use Prim.Native.Nat.{ℕ}

@@ -1,4 +1,4 @@
--- The tuples of a lane of eight, byte by byte. Assumes nothing.
+-- The tuples of a lane of eight, byte by byte.
 use Prim.Native.Nat.{ℕ, _+_}
 use mathlib.Core.List.{List, [], _∷_}
 use Rattle.lists.specs.Tab.{word}

@@ -1,4 +1,4 @@
--- What a search found is what was looked for. Assumes nothing.
+-- What a search found is what was looked for.
 use mathlib.Core.Path.{_≡_, subst}
 use Prim.Native.Nat.{ℕ}
 use Rattle.lists.specs.declared.Place.{Place}

@@ -1,4 +1,4 @@
--- Chains of round rows on the Keccak bus, wherever in the table the rows stand. Assumes nothing.
+-- Chains of round rows on the Keccak bus, wherever in the table the rows stand.
 --     Linked     so many round rows, the first of which receives what a core row sends, each next one what the one
 --                before it sends
 --     Chain      24 of them, and the core row receives what the last one sends

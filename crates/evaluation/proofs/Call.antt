@@ -1,4 +1,4 @@
--- What a call for a row's values knows once its checks have passed. Assumes nothing.
+-- What a call for a row's values knows once its checks have passed.
 use Prim.Native.Nat.{ℕ, _≤_}
 use mathlib.Core.Path.{_≡_}
 use mathlib.Core.Option.{none}

@@ -1,5 +1,5 @@
 -- A call for a row's values reads of the lent row its columns only: what it answers, and what it leaves in the lent slice,
--- is the same for any two rows that are long enough and alike in their columns. Assumes nothing.
+-- is the same for any two rows that are long enough and alike in their columns.
 use mathlib.Core.Path.{_≡_, ap}
 use mathlib.Core.List.{List}
 use Prim.Native.Nat.{ℕ, _≤_}

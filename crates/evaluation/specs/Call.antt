@@ -1,5 +1,5 @@
 -- A call that gives the values of a row: what it answers, and what it writes into the lent slice. `width` is the number
--- of columns, `count` the number of values, and `value` their definition. Assumes nothing.
+-- of columns, `count` the number of values, and `value` their definition.
 use Prim.Native.Nat.{ℕ, _≤_, _<_}
 use mathlib.Core.Path.{_≡_}
 use mathlib.Core.List.{List}

@@ -1,4 +1,4 @@
--- The search for a word that is no field element: where it finds none, and where it finds one. Assumes nothing.
+-- The search for a word that is no field element: where it finds none, and where it finds one.
 use mathlib.Core.Path.{_≡_}
 use mathlib.Core.List.{List}
 use mathlib.Core.Option.{none, some}

@@ -1,4 +1,4 @@
--- What multiplication by halves of 32 bits comes to: the columns with their carries and bounds, and two words mod p. Assumes nothing.
+-- What multiplication by halves of 32 bits comes to: the columns with their carries and bounds, and two words mod p.
 use mathlib.Core.Path.{_≡_, refl, sym, ap, ap₂, _∙_}
 use Prim.Native.Nat.{ℕ, _+_, _-_, _*_, _/_, _%_, _^_, _<_, _≤_}
 use native.Mathlib.Nat.{add-assoc, add-comm, add-left-comm, mul-assoc, mul-comm, mul-left-comm, mul-add, add-mul, div-add-mod', le-trans, mul-le-mul-left, mul-le-mul-right, mod-add-mod, add-mod-right}

@@ -1,4 +1,4 @@
--- The search for a word that is no field element reads only the words that it is asked of. Assumes nothing.
+-- The search for a word that is no field element reads only the words that it is asked of.
 use mathlib.Core.Path.{_≡_, ap}
 use mathlib.Core.List.{List}
 use Prim.Native.Nat.{ℕ}

@@ -1,4 +1,4 @@
--- Which words of a slice are no field elements: those that are p or more; and a row of elements. Assumes nothing.
+-- Which words of a slice are no field elements: those that are p or more; and a row of elements.
 use Prim.Native.Nat.{ℕ, _≤_, _<_}
 use mathlib.Core.Bool.{Bool}
 use mathlib.Core.Option.{Option}

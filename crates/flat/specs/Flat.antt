@@ -1,6 +1,6 @@
 -- The answers as a host sees them: an enum can't pass by C linkage, so each is a flat struct of words. `number` and
 -- `detail` are those of the refusal, and both 0 where the call did its work; the other words are 0 where it was
--- refused. Assumes nothing.
+-- refused.
 use Rattle.answer.specs.Refusal.{refusalNumber, refusalDetail}
 use Rattle.answer.specs.declared.Answer.{Answer}
 use Rattle.answer.specs.declared.Answer.the-variants.{Done, Refused}

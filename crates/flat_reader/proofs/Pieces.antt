@@ -1,4 +1,4 @@
--- Feeding a file's pieces through the calls gives what `tally` says of the whole file. Assumes nothing.
+-- Feeding a file's pieces through the calls gives what `tally` says of the whole file.
 use Prim.Native.Nat.{ℕ}
 use mathlib.Core.Path.{_≡_, refl, sym, ap, _∙_}
 use mathlib.Core.List.{List, [], _∷_, _++_}

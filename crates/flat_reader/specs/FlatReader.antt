@@ -1,6 +1,5 @@
 -- A reader of an operation file, and what it says at the end, as flat structs of words. Every struct is a reader:
 -- number 0 is one that has met no fault; any other is one that has, and a number that no refusal has counts as 6.
--- Assumes nothing.
 use Prim.Native.Nat.{ℕ}
 use lib.Dec.{eqb}
 use Rattle.lists.specs.Tab.{pick}

@@ -1,4 +1,4 @@
--- A row's tuples read only its four columns. Assumes nothing.
+-- A row's tuples read only its four columns.
 use mathlib.Core.List.{[], _∷_}
 use Prim.Native.Nat.{_^_}
 use native.Mathlib.Omega.{arith}

@@ -1,5 +1,5 @@
 -- What each tuple of an IS_WH row and of IS_WHH is: bus, side, multiplicity and values, by column numbers. And that they meet: what IS_WHH sends for a
--- 64-bit value is what the row of its key receives. Assumes nothing.
+-- 64-bit value is what the row of its key receives.
 use mathlib.Core.Path.{_≡_, refl, sym, ap, _∙_}
 use mathlib.Core.List.{List, [], _∷_}
 use Prim.Native.Nat.{ℕ, zero, suc, _+_, _-_, _≤_, _<_}

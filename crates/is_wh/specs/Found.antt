@@ -1,4 +1,4 @@
--- Which pairs the IsWh bus takes. Assumes nothing.
+-- Which pairs the IsWh bus takes.
 use Prim.Native.Nat.{ℕ, _^_, _<_}
 use mathlib.Core.Bool.{Bool, _&&_}
 use mathlib.Core.List.{List}

@@ -1,4 +1,4 @@
--- tables/is_wh.rs, IsWhKey: the pair that a 64-bit value sends on the IsWh bus. Assumes nothing.
+-- tables/is_wh.rs, IsWhKey: the pair that a 64-bit value sends on the IsWh bus.
 use Prim.Native.Nat.{ℕ, _/_, _%_, _^_}
 use Rattle.is_wh.specs.declared.IsWhKey.{IsWhKey}
 

@@ -1,7 +1,7 @@
--- tables/is_wh.rs: the five tuples of a row of the IS_WH table, and the two of the template IS_WHH. Assumes nothing.
+-- tables/is_wh.rs: the five tuples of a row of the IS_WH table, and the two of the template IS_WHH.
 use Prim.Native.Nat.{ℕ, zero, suc, _+_, _^_}
 use mathlib.Core.List.{List, [], _∷_}
-use Rattle.lists.specs.Tab.{word, then}
+use Rattle.lists.specs.Tab.{word, followedBy}
 use Rattle.field.specs.Field.{fadd, fmul}
 use Rattle.lookup.specs.Tuple.{Tuple, sender, receiver}
 use Rattle.lookup.specs.declared.Bus.the-variants.{IsWh, IsHalfword, IsB20}
@@ -19,8 +19,8 @@ pairWord row = fadd (word row (value 1)) (fmul (2 ^ 16) (word row (value 2)))
 -- pair of a word and a half, received.
 unfoldable pub isWhTuple : List ℕ → ℕ → Tuple
 isWhTuple row =
-    then 1 (λ i. sender IsB20 1 (word row MU ∷ []))
-    (then 3 (λ i. sender IsHalfword (word row MU) (word row (value i) ∷ []))
+    followedBy 1 (λ i. sender IsB20 1 (word row MU ∷ []))
+    (followedBy 3 (λ i. sender IsHalfword (word row MU) (word row (value i) ∷ []))
     (λ i. receiver IsWh (word row MU) (pairWord row ∷ word row (value 0) ∷ [])))
 
 -- `is_whh`, by index, on a pointer's three limbs from column k on, with multiplicity cond. 0: the word and the middle

@@ -1,4 +1,4 @@
--- What the search for an unbalanced tuple cites: the laws of verdict's Tuples and of UnevenRow by port. Assumes nothing.
+-- What the search for an unbalanced tuple cites: the laws of verdict's Tuples and of UnevenRow by port.
 --     uneven-left                       what the walk passed is even, so the counts of the other rows decide
 --     Two                               what the tables say of the two tuples of a row
 --     spot-off, spot-on, spot-early, spot-late   what a row says of the search: not active; no tuple; the first one; the second
@@ -12,7 +12,7 @@ use native.Mathlib.Omega.{arith}
 use borrow.Author.Tests.{eqb-true, eq-eqb, ne-eqb}
 use lib.Dec.{eqb}
 use lib.ListN.{length}
-use Rattle.lists.specs.Tab.{then, word, rowAt}
+use Rattle.lists.specs.Tab.{followedBy, word, rowAt}
 use Rattle.lists.specs.First.{first, inRow}
 use Rattle.lists.proofs.First.{first-more, first-hit, in-none}
 use Rattle.keccak.specs.Tuples.{coreTuple}
@@ -21,7 +21,7 @@ use Rattle.lookup.specs.declared.Side.the-variants.{Sender, Receiver}
 use Rattle.verdict.specs.Kind.{rows, row, active, isActive, sent, received}
 use Rattle.verdict.specs.Verdict.{uneven, badTuple, firstUnbalanced}
 use Rattle.verdict.specs.CoreAndRound.{coreLayout, roundLayout, coreKind, roundKind}
-use Rattle.verdict.proofs.Tuples.{carried-count, core-bus, round-bus}
+use Rattle.verdict.proofs.Tuples.{active-tuples-count, core-bus, round-bus}
 use Rattle.judge_bus.proofs.UnevenRow.{two-early, two-late, two-none, bad-side, bad-other}
 use Rattle.judge_scan.specs.Spot.{spotOf}
 use Rattle.judge_scan.specs.declared.Spot.the-variants.{At}
@@ -49,10 +49,10 @@ module _ (core round v : List ℕ) where
       not (eqb (t .sent + u .sent) (t .received + u .received)) ≡ uneven (coreKind 24) roundKind core round v
   unfolding Even uneven layoutOf
   uneven-left a b t u h c d =
-      let es = carried-count (core-bus 24) Sender core v ∙ sym (counts (core-sends core v) (rows coreLayout core)) in
-      let fs = carried-count round-bus Sender round v ∙ sym (counts (round-sends round v) (rows roundLayout round)) in
-      let er = carried-count (core-bus 24) Receiver core v ∙ sym (counts (core-receives core v) (rows coreLayout core)) in
-      let fr = carried-count round-bus Receiver round v ∙ sym (counts (round-receives round v) (rows roundLayout round)) in
+      let es = active-tuples-count (core-bus 24) Sender core v ∙ sym (counts (core-sends core v) (rows coreLayout core)) in
+      let fs = active-tuples-count round-bus Sender round v ∙ sym (counts (round-sends round v) (rows roundLayout round)) in
+      let er = active-tuples-count (core-bus 24) Receiver core v ∙ sym (counts (core-receives core v) (rows coreLayout core)) in
+      let fr = active-tuples-count round-bus Receiver round v ∙ sym (counts (round-receives round v) (rows roundLayout round)) in
       ap not (eqb-same (t .sent + u .sent) (t .received + u .received) (sent (coreKind 24) core v + sent roundKind round v) (received (coreKind 24) core v + received roundKind round v)
       (λ z. omega (arith, h v, es, fs, er, fr, c .sends, c .receives, d .sends, d .receives))
       (λ z. omega (arith, h v, es, fs, er, fr, c .sends, c .receives, d .sends, d .receives)))
@@ -81,7 +81,7 @@ pub record Two (s q : Port) : Type 0 where
 
 -- a core row: its send comes first
 two-core : Two CoreSend CoreReceive
-unfolding kindOf indexOf layoutOf widthOf tupleOf coreTuple then
+unfolding kindOf indexOf layoutOf widthOf tupleOf coreTuple followedBy
 two-core =
     record {
       layout = refl;
@@ -95,7 +95,7 @@ two-core =
 
 -- a round row: its receive comes first
 two-round : Two RoundReceive RoundSend
-unfolding kindOf indexOf layoutOf widthOf tupleOf roundTuple then
+unfolding kindOf indexOf layoutOf widthOf tupleOf roundTuple followedBy
 two-round =
     record {
       layout = refl;

@@ -1,4 +1,4 @@
--- The two tuples of a row on the Keccak bus, by port. Assumes nothing.
+-- The two tuples of a row on the Keccak bus, by port.
 --     kindOf     the kind of the tables whose rows have such a tuple
 --     indexOf    the index of the tuple among those of its row
 --     Pair       the two tuples of one row, in the order of their indexes

@@ -1,4 +1,4 @@
--- What the counts of tuples cite. Assumes nothing.
+-- What the counts of tuples cite.
 use mathlib.Core.Path.{_≡_, refl, sym, ap, subst, _∙_}
 use mathlib.Core.Bool.{Bool, true, false, _&&_}
 use mathlib.Core.List.{List}
@@ -8,7 +8,7 @@ use native.Mathlib.Omega.{arith}
 use lib.Dec.{eqb}
 use lib.ListN.{length}
 use Rattle.lists.specs.Tab.{pick, word, rowAt}
-use Rattle.lists.specs.First.{count}
+use Rattle.lists.specs.First.{countBelow}
 use Rattle.lists.specs.Select.{wordsTest}
 use Rattle.lists.proofs.First.{count-more, count-skip, count-le, count-end}
 use Rattle.lists.proofs.Laws.{length-rowAt}
@@ -25,16 +25,16 @@ use Rattle.judge_counts.specs.declared.Counts.{Counts}
 -- ---- the counts
 -- a count from an index on
 module _ (t : ℕ → Bool) (from : ℕ) where
-  pub from-more : (n m i : ℕ) → m ≡ n + 1 → n + count t from ≡ count t i → t i ≡ true → m + count t from ≡ count t (i + 1)
+  pub from-more : (n m i : ℕ) → m ≡ n + 1 → n + countBelow t from ≡ countBelow t i → t i ≡ true → m + countBelow t from ≡ countBelow t (i + 1)
   from-more n m i e h b = omega (arith, count-more t i b)
 
-  pub from-skip : (n m i : ℕ) → m ≡ n → n + count t from ≡ count t i → t i ≡ false → m + count t from ≡ count t (i + 1)
+  pub from-skip : (n m i : ℕ) → m ≡ n → n + countBelow t from ≡ countBelow t i → t i ≡ false → m + countBelow t from ≡ countBelow t (i + 1)
   from-skip n m i e h b = omega (arith, count-skip t i b)
 
-  pub from-le : (n i : ℕ) → n + count t from ≡ count t i → n ≤ i
+  pub from-le : (n i : ℕ) → n + countBelow t from ≡ countBelow t i → n ≤ i
   from-le n i h = omega (arith, count-le t i)
 
-  pub from-end : (n i k : ℕ) → i ≤ k → k ≤ i → n + count t from ≡ count t i → n + count t from ≡ count t k
+  pub from-end : (n i k : ℕ) → i ≤ k → k ≤ i → n + countBelow t from ≡ countBelow t i → n + countBelow t from ≡ countBelow t k
   from-end n i k l g h = h ∙ count-end t i k l g
 
 -- the counts of the rows that send and of those that receive
@@ -42,10 +42,10 @@ module _ (f g : ℕ → Bool) (from : ℕ) where
   pub counts-start : Counted f g from from (record { sent = 0; received = 0 })
   counts-start = record { sends = omega arith; receives = omega arith }
 
-  from-row : (t : ℕ → Bool) (n i : ℕ) → n + count t from ≡ count t i → pick (t i) (n + 1) n + count t from ≡ count t (i + 1)
+  from-row : (t : ℕ → Bool) (n i : ℕ) → n + countBelow t from ≡ countBelow t i → pick (t i) (n + 1) n + countBelow t from ≡ countBelow t (i + 1)
   from-row t n i h = go (t i) refl
     where
-      go : (b : Bool) → t i ≡ b → pick b (n + 1) n + count t from ≡ count t (i + 1)
+      go : (b : Bool) → t i ≡ b → pick b (n + 1) n + countBelow t from ≡ countBelow t (i + 1)
       go true e = from-more t from n (n + 1) i refl h e
       go false e = from-skip t from n n i refl h e
 

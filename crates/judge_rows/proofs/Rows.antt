@@ -1,4 +1,4 @@
--- What the words of a row say of the scan of its table: word i is 0 exactly where value or lookup i is good. Assumes nothing.
+-- What the words of a row say of the scan of its table: word i is 0 exactly where value or lookup i is good.
 --     Told      so is a list of n words: `values-told` where they are the values, `lookups-told` where they mark the lookups
 --     good, bad what a test of such a word says; `next-row`, what their OR says where it is 0
 use mathlib.Core.Path.{_≡_, sym, ap, _∙_}

@@ -1,4 +1,4 @@
--- What a scan over rows cites, where a row is handed on as a part of the slice. Assumes nothing.
+-- What a scan over rows cites, where a row is handed on as a part of the slice.
 --     spot-at, spot-nowhere   what the answer of a scan says
 --     active-word   whether row r is active, by its word MU in the table
 --     part-is, part-long, part-row   the part of a table that is row r: its words, how many, and that they are elements

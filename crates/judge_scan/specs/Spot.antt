@@ -1,4 +1,4 @@
--- The answer of a scan over rows and the indices of a row, as code gives it. Assumes nothing.
+-- The answer of a scan over rows and the indices of a row, as code gives it.
 use mathlib.Core.Option.{Option, none, some}
 use Prim.Native.Nat.{ℕ}
 use Rattle.judge_scan.specs.declared.Spot.{Spot}

@@ -4,7 +4,7 @@ use keccak::NUM_COLUMNS;
 use lists::Place;
 ghost use mathlib.Core.Path.{_≡_};
 ghost use Prim.Native.Nat.{_+_, _*_, _<_};
-ghost use Rattle.lists.specs.First.{any, placeOf};
+ghost use Rattle.lists.specs.First.{anyBelow, placeOf};
 ghost use Rattle.verdict.specs.Kind.{rows, row, sameStamp};
 ghost use Rattle.verdict.specs.Verdict.{sameStampAt, firstRepeat};
 ghost use Rattle.verdict.specs.CoreAndRound.{coreLayout};
@@ -24,7 +24,7 @@ fn same_stamp(core: &[u64], q: usize, r: usize) -> bool
 // Whether an earlier active row has the timestamp of row r.
 fn has_same_stamp(core: &[u64], r: usize) -> bool
     requires { ⌜ r < rows coreLayout (now core) ⌝ }
-    ensures { λ b. ⌜ b ≡ any (sameStampAt coreLayout (now (core .entry)) r) r ⌝ }
+    ensures { λ b. ⌜ b ≡ anyBelow (sameStampAt coreLayout (now (core .entry)) r) r ⌝ }
 {
     let mut q = 0;
     while q < r {

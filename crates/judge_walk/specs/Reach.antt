@@ -1,4 +1,4 @@
--- What the walk along the Keccak bus keeps. Assumes nothing.
+-- What the walk along the Keccak bus keeps.
 --     Reaches    where a core row's chain of round rows ends, it and its chain are even
 use mathlib.Core.List.{List}
 use Prim.Native.Nat.{ℕ, _+_, _≤_}

@@ -1,4 +1,4 @@
--- The checks of a call that takes a list of operations, and what it knows once they have passed. Assumes nothing.
+-- The checks of a call that takes a list of operations, and what it knows once they have passed.
 use Prim.Native.Nat.{ℕ, _+_, _%_, _^_, _≤_, _<_}
 use mathlib.Core.Path.{_≡_, sym, ap, _∙_}
 use mathlib.Core.Option.{none, some}

@@ -1,4 +1,4 @@
--- A core row with such cells passes, and so does every row with MU 0. Assumes nothing.
+-- A core row with such cells passes, and so does every row with MU 0.
 use mathlib.Core.Path.{_≡_, sym, ap, _∙_, subst}
 use mathlib.Core.List.{List}
 use Prim.Native.Nat.{ℕ, zero, suc, _+_, _-_, _*_, _/_, _%_, _^_, _<_}

@@ -4,7 +4,6 @@
 --     addr-written    the Memw tuple that reads the address from register x10
 --     lane-written    the Memw tuple of lane i: it reads the INPUT lane and writes the OUTPUT lane, at address + 8i
 --     keys-sent       key 25 i + l is what row i sends on the IsWh bus for its lane l
--- Assumes nothing.
 use mathlib.Core.Path.{_≡_, sym, ap, ap₂, _∙_}
 use mathlib.Core.List.{List, [], _∷_, _++_}
 use Prim.Native.Nat.{ℕ, _+_, _*_, _/_, _%_, _^_, _<_}

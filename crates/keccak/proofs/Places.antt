@@ -1,4 +1,4 @@
--- Which tuple of a core row stands at an index: part j of them begins at index 0, 1, 2, 3, 4, 54, 55, 59. Assumes nothing.
+-- Which tuple of a core row stands at an index: part j of them begins at index 0, 1, 2, 3, 4, 54, 55, 59.
 use mathlib.Core.Path.{_≡_}
 use mathlib.Core.List.{List, [], _∷_}
 use Prim.Native.Nat.{ℕ, _+_, _/_, _%_, _<_}

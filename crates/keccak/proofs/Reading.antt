@@ -1,4 +1,4 @@
--- A core row's values and tuples read only its 486 columns. Assumes nothing.
+-- A core row's values and tuples read only its 486 columns.
 use mathlib.Core.Path.{_≡_, refl, ap}
 use mathlib.Core.List.{List, [], _∷_, _++_}
 use Prim.Native.Nat.{ℕ, zero, suc, _+_, _*_, _/_, _%_, _^_, _<_}

@@ -1,4 +1,4 @@
--- What the refusal of a list of operations says, what an operation's words say, and the highest address. Assumes nothing.
+-- What the refusal of a list of operations says, what an operation's words say, and the highest address.
 --     many-refused, ragged-refused, short-refused, high-refused   each refusal with its detail, where no earlier one comes
 --     accepted-is                       the call is accepted exactly where none of the four conditions holds
 --     row-accepted, index-past          the same of `keccak_row`, which takes an index too

@@ -1,5 +1,4 @@
 -- What a call of the core table needs is as long as what it writes, so a slice of exactly that length is accepted.
--- Assumes nothing.
 use mathlib.Core.Path.{_≡_, sym, subst}
 use mathlib.Core.Logic.{_↔_}
 use mathlib.Core.List.{List}

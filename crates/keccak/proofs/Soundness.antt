@@ -1,5 +1,5 @@
 -- An active core row that passes, whoever filled it, has an address of 8 bytes that is a multiple of 8, and lane i at address
--- + 8i, below 2^64. Assumes nothing.
+-- + 8i, below 2^64.
 use mathlib.Core.Path.{_≡_, refl, sym, ap, _∙_, subst}
 use mathlib.Core.List.{List}
 use Prim.Native.Nat.{ℕ, _+_, _*_, _%_, _^_, _<_}

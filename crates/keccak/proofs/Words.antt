@@ -1,5 +1,5 @@
 -- The words that a core row's values are made of, where its bytes and limbs are in range: the address and the pointers as
--- two words each, and the carries of the sums of them. Assumes nothing.
+-- two words each, and the carries of the sums of them.
 use mathlib.Core.Path.{_≡_, ap, ap₂, _∙_}
 use mathlib.Core.List.{List}
 use Prim.Native.Nat.{ℕ, _+_, _*_, _%_, _<_}

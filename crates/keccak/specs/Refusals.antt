@@ -1,4 +1,4 @@
--- The refusals of a call that takes a list of operations: one definition for every such call. Assumes nothing.
+-- The refusals of a call that takes a list of operations: one definition for every such call.
 --     tooMany, notWhole, tooHigh             one check each, followed by the checks after it
 --     operationsRefusal                      the checks of a call that takes a list and a slice to write to
 --     coreTraceRefusal, keysRefusal, coreRowRefusal   the checks of each call of the core table

@@ -1,4 +1,4 @@
--- The carries of a lane, step by step. Assumes nothing.
+-- The carries of a lane, step by step.
 use mathlib.Core.Path.{_≡_, ap, ap₂, _∙_}
 use mathlib.Core.List.{List}
 use Prim.Native.Nat.{ℕ, _+_, _*_}

@@ -1,5 +1,5 @@
 -- The carries of lane i by the address's words, for the functions that share them; keccak_values/proofs/Values.antt:
--- the values of keccak/specs/Values.antt are made of these. Assumes nothing.
+-- the values of keccak/specs/Values.antt are made of these.
 use mathlib.Core.List.{List}
 use Prim.Native.Nat.{ℕ, _*_}
 use Rattle.lists.specs.Tab.{word}

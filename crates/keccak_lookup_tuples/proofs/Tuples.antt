@@ -1,4 +1,4 @@
--- The tuples of a core row that are looked up: the two of a pointer, and how many values each has. Assumes nothing.
+-- The tuples of a core row that are looked up: the two of a pointer, and how many values each has.
 use mathlib.Core.Path.{_≡_, refl, ap, _∙_}
 use mathlib.Core.List.{List, [], _∷_}
 use Prim.Native.Nat.{ℕ, zero, suc, _+_, _-_, _*_, _≤_, _<_}

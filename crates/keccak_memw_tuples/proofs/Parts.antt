@@ -1,4 +1,4 @@
--- The parts of which the values of a Memw tuple are made. Assumes nothing.
+-- The parts of which the values of a Memw tuple are made.
 use mathlib.Core.Path.{_≡_, sym, ap, ap₂, _∙_}
 use mathlib.Core.List.{List, [], _∷_, _++_}
 use Prim.Native.Nat.{ℕ, _+_, _*_, _/_, _%_, _≤_}

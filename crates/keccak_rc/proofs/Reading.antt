@@ -1,4 +1,4 @@
--- A row's tuple reads only its ten columns. Assumes nothing.
+-- A row's tuple reads only its ten columns.
 use mathlib.Core.Path.{_≡_}
 use native.Mathlib.Omega.{arith}
 use Rattle.lists.specs.Tab.{tab, word}

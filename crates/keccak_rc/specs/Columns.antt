@@ -1,4 +1,4 @@
--- tables/keccak_rc.rs, `cols`: the ten columns of a row of round constants, and the number of rows. Assumes nothing.
+-- tables/keccak_rc.rs, `cols`: the ten columns of a row of round constants, and the number of rows.
 use Prim.Native.Nat.{ℕ}
 
 -- The round's number.

@@ -1,11 +1,11 @@
--- When values occur among the tuples of the 32 rows of round constants. Assumes nothing.
+-- When values occur among the tuples of the 32 rows of round constants.
 use Prim.Native.Nat.{ℕ, suc, _<_}
 use mathlib.Core.Bool.{Bool, _&&_}
 use mathlib.Core.List.{List, [], _∷_, _++_}
 use mathlib.Core.Path.{_≡_}
 use lib.Dec.{eqb, ltb}
 use lib.ListN.{length, getD}
-use Rattle.lists.specs.Sum.{all}
+use Rattle.lists.specs.Sum.{allBelow}
 use Rattle.bits.specs.Bits.{byteAt}
 use Rattle.fips202.specs.Tables.{roundConstant}
 use Rattle.keccak_rc.specs.Columns.{NUM-ROWS, NUM-PRECOMPUTED-COLS}
@@ -22,4 +22,4 @@ pub record RcFound (vs : List ℕ) : Type 0 where
 unfoldable pub rcFound : List ℕ → Bool
 rcFound vs =
     eqb (length vs) NUM-PRECOMPUTED-COLS
-    && (ltb (getD vs 0 0) NUM-ROWS && all 8 (λ b. eqb (getD vs (suc b) 0) (byteAt (roundConstant (getD vs 0 0)) b)))
+    && (ltb (getD vs 0 0) NUM-ROWS && allBelow 8 (λ b. eqb (getD vs (suc b) 0) (byteAt (roundConstant (getD vs 0 0)) b)))

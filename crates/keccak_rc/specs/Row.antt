@@ -1,4 +1,4 @@
--- tables/keccak_rc.rs, `generate_row`: the fixed columns of a row. Assumes nothing.
+-- tables/keccak_rc.rs, `generate_row`: the fixed columns of a row.
 use Prim.Native.Nat.{ℕ}
 use mathlib.Core.List.{List, _∷_}
 use mathlib.Core.Option.{Option}

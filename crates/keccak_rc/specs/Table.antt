@@ -1,4 +1,4 @@
--- tables/keccak_rc.rs, `generate_keccak_rc_trace` and `update_multiplicities`: the table and its MU. Assumes nothing.
+-- tables/keccak_rc.rs, `generate_keccak_rc_trace` and `update_multiplicities`: the table and its MU.
 use Prim.Native.Nat.{ℕ, zero, suc, _+_, _-_, _*_}
 use mathlib.Core.List.{List, [], _∷_, _++_}
 use mathlib.Core.Option.{Option}

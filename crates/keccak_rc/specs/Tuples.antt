@@ -1,4 +1,4 @@
--- tables/keccak_rc.rs, `bus_interactions`: the one tuple that a row receives. Assumes nothing.
+-- tables/keccak_rc.rs, `bus_interactions`: the one tuple that a row receives.
 use Prim.Native.Nat.{ℕ}
 use mathlib.Core.List.{List}
 use Rattle.lists.specs.Tab.{tab, word}

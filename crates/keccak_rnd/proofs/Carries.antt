@@ -1,4 +1,4 @@
--- Which halfword's carry goes into which byte of C rotated by one, in every row whose cells are right. Assumes nothing.
+-- Which halfword's carry goes into which byte of C rotated by one, in every row whose cells are right.
 use mathlib.Core.Path.{_≡_, sym, ap₂, _∙_}
 use mathlib.Core.List.{List}
 use Prim.Native.Nat.{ℕ, _+_, _<_}

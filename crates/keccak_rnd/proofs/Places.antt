@@ -1,5 +1,4 @@
 -- Which tuple of a round row stands at an index: part j of them begins at index 0, 1, 2, 3, 43, 163, 183, 223, 423, 623, 823, 1023.
--- Assumes nothing.
 use mathlib.Core.Path.{_≡_}
 use mathlib.Core.List.{List, [], _∷_}
 use Prim.Native.Nat.{ℕ, _+_, _/_, _%_, _<_}

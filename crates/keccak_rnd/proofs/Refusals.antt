@@ -1,5 +1,5 @@
 -- `keccak_rnd_row` is accepted exactly where none of its conditions holds; and its refusals with their details, in their
--- order. What `generate_keccak_rnd_trace` needs. Assumes nothing.
+-- order. What `generate_keccak_rnd_trace` needs.
 use mathlib.Core.Path.{_≡_, refl, sym, subst}
 use mathlib.Core.Logic.{_↔_}
 use mathlib.Core.List.{List}

@@ -1,4 +1,4 @@
--- The rows of an operation and of a list of operations, as the code stores them. Assumes nothing.
+-- The rows of an operation and of a list of operations, as the code stores them.
 use mathlib.Core.Path.{_≡_, sym, ap, _∙_}
 use mathlib.Core.List.{List}
 use Prim.Native.Nat.{ℕ, _+_, _-_, _*_, _/_, _%_, _≤_}

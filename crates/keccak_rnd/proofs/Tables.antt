@@ -1,4 +1,4 @@
--- The tables of bytes that a row is written from: an array by its places, and what each table's cells are. Assumes nothing.
+-- The tables of bytes that a row is written from: an array by its places, and what each table's cells are.
 use mathlib.Core.Path.{_≡_, sym, ap, ap₂, _∙_, subst}
 use mathlib.Core.List.{List, [], _∷_, _++_}
 use Prim.Native.Nat.{ℕ, suc, _+_, _-_, _*_, _/_, _%_, _^_, _<_}

@@ -1,7 +1,7 @@
 -- Which halfword feeds which byte. C[x] is rotated left by one bit, halfword by halfword: CXZ_LEFT holds the low 16
 -- bits of each shifted halfword, CXZ_RIGHT its carry. A carry goes into the lowest byte of the next halfword, and that
 -- of the highest halfword comes round to byte 0. proofs/Carries.antt: `carries` proves it of every active row that
--- passes. Assumes nothing.
+-- passes.
 use mathlib.Core.Path.{_≡_}
 use mathlib.Core.List.{List}
 use Prim.Native.Nat.{ℕ, _+_}

@@ -1,5 +1,4 @@
 -- The tables of bytes that a round row is written from, and the row in three parts, as the code writes it.
--- Assumes nothing.
 use Prim.Native.Nat.{ℕ, _+_, _*_, _/_, _%_, _<_}
 use mathlib.Core.List.{List, [], _∷_}
 use lib.Bits.{bitXor}

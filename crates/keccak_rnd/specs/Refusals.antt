@@ -1,4 +1,4 @@
--- The refusals of the calls that write round rows. Assumes nothing.
+-- The refusals of the calls that write round rows.
 use Prim.Native.Nat.{ℕ, _*_}
 use mathlib.Core.List.{List}
 use mathlib.Core.Option.{Option}

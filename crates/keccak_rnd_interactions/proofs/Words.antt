@@ -1,5 +1,5 @@
 -- The words of a round row's tuples are 8,211: 4 × 1,031 and 4,087 values; 427 of them are those of the first three. The parts in which
--- they are stored. Assumes nothing.
+-- they are stored.
 use mathlib.Core.Path.{_≡_, refl, sym, ap, _∙_}
 use mathlib.Core.List.{List}
 use Prim.Native.Nat.{ℕ, _+_}
@@ -7,8 +7,8 @@ use native.Mathlib.Nat.{zero-add}
 use native.Mathlib.Omega.{arith}
 use lib.ListN.{length}
 use lib.Seq.{sets}
-use Rattle.lists.specs.Tab.{then}
-use Rattle.lists.specs.Sum.{sum}
+use Rattle.lists.specs.Tab.{followedBy}
+use Rattle.lists.specs.Sum.{sumBelow}
 use Rattle.lists.proofs.Laws.{sets-append}
 use Rattle.lookup.specs.Tuple.{Tuple}
 use Rattle.lookup.specs.Words.{tupleWords, tuplesWords}
@@ -39,8 +39,8 @@ words-length row =
     (words-same 8 4 _ (λ i. refl))))))))))))
 
 -- the first three
-no-words : (f : ℕ → Tuple) → sum 0 (λ i. length (tupleWords (f i))) ≡ 0
-unfolding sum
+no-words : (f : ℕ → Tuple) → sumBelow 0 (λ i. length (tupleWords (f i))) ≡ 0
+unfolding sumBelow
 no-words f = refl
 
 pub first-length : (row : List ℕ) → length (tuplesWords (roundTuple row) 3) ≡ 427
@@ -71,7 +71,7 @@ module _ (row l : List ℕ) (at : ℕ) where
       → c ≡ sets b (at + 3200) (tuplesWords (iotaTuples row) 8) → c ≡ sets l at (tuplesWords (chiPart row) 408)
   unfolding chiPart
   chi-stored {a} e f g =
-      stored-then l at 200 208 4 (andsTuples row) (then 200 (chiTuples row) (iotaTuples row)) (ands-size row) e
+      stored-then l at 200 208 4 (andsTuples row) (followedBy 200 (chiTuples row) (iotaTuples row)) (ands-size row) e
       (stored-then a (at + 1600) 200 8 4 (chiTuples row) (iotaTuples row) (chi-size row) f g (omega arith))
       (omega arith)
 
@@ -80,8 +80,8 @@ module _ (row l : List ℕ) (at : ℕ) where
       → d ≡ sets l at (tuplesWords (thetaPart row) 848)
   unfolding thetaPart
   theta-stored {a} {b} e f g h =
-      stored-then l at 40 808 4 (dTuples row) (then 200 (thetaTuples row) (then 200 (rotTuples row) (chiPart row))) (d-size row) e
-      (stored-then a (at + 320) 200 608 4 (thetaTuples row) (then 200 (rotTuples row) (chiPart row)) (theta-size row) f
+      stored-then l at 40 808 4 (dTuples row) (followedBy 200 (thetaTuples row) (followedBy 200 (rotTuples row) (chiPart row))) (d-size row) e
+      (stored-then a (at + 320) 200 608 4 (thetaTuples row) (followedBy 200 (rotTuples row) (chiPart row)) (theta-size row) f
       (stored-then b (at + 1920) 200 408 2 (rotTuples row) (chiPart row) (rot-size row) g h (omega arith))
       (omega arith))
       (omega arith)
@@ -91,8 +91,8 @@ module _ (row l : List ℕ) (at : ℕ) where
       → d ≡ sets l at (tuplesWords (parityPart row) 1028)
   unfolding parityPart
   parity-stored {a} {b} e f g h =
-      stored-then l at 40 988 4 (parityTuples row) (then 120 (stageTuples row) (then 20 (leftTuples row) (thetaPart row))) (parity-size row) e
-      (stored-then a (at + 320) 120 868 4 (stageTuples row) (then 20 (leftTuples row) (thetaPart row)) (stage-size row) f
+      stored-then l at 40 988 4 (parityTuples row) (followedBy 120 (stageTuples row) (followedBy 20 (leftTuples row) (thetaPart row))) (parity-size row) e
+      (stored-then a (at + 320) 120 868 4 (stageTuples row) (followedBy 20 (leftTuples row) (thetaPart row)) (stage-size row) f
       (stored-then b (at + 1280) 20 848 2 (leftTuples row) (thetaPart row) (left-size row) g h (omega arith))
       (omega arith))
       (omega arith)

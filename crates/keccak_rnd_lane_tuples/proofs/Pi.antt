@@ -1,4 +1,4 @@
--- The two words whose sum is a byte of π: which they are, and that they are elements. Assumes nothing.
+-- The two words whose sum is a byte of π: which they are, and that they are elements.
 use mathlib.Core.Path.{_≡_, sym, ap, subst, _∙_}
 use mathlib.Core.List.{List}
 use Prim.Native.Nat.{ℕ, _+_, _-_, _*_, _/_, _%_, _<_}

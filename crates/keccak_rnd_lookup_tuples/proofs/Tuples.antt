@@ -1,4 +1,4 @@
--- Which lookup stands at an index. Assumes nothing.
+-- Which lookup stands at an index.
 use mathlib.Core.Path.{_≡_, ap, _∙_}
 use mathlib.Core.List.{List}
 use Prim.Native.Nat.{ℕ, _+_, _-_, _/_, _%_, _≤_, _<_}

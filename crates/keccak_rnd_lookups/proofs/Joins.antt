@@ -1,4 +1,4 @@
--- The residues of a round row: the constant's, and the groups one behind the other. Assumes nothing.
+-- The residues of a round row: the constant's, and the groups one behind the other.
 use mathlib.Core.Path.{_≡_, refl, sym, ap, _∙_}
 use mathlib.Core.Bool.{Bool}
 use mathlib.Core.List.{List, _∷_}
@@ -9,7 +9,7 @@ use lib.Bits.{bitXor}
 use lib.Dec.{ltb}
 use lib.ListN.{length, getD, set}
 use lib.Seq.{sets}
-use Rattle.lists.specs.Tab.{pick, tabFrom, tab, then, word}
+use Rattle.lists.specs.Tab.{pick, tabFrom, tab, followedBy, word}
 use Rattle.lists.proofs.Laws.{getD-tab, tab-same}
 use Rattle.lists.proofs.Then.{then-all}
 use Rattle.bits.specs.Bits.{byteAt}
@@ -78,14 +78,14 @@ module _ (row : List ℕ) where
       → c ≡ sets b 1023 (tab 8 (residues (iotaTuples row))) → c ≡ sets l 623 (tab 408 (residues (chiPart row)))
   unfolding chiPart
   chi-stored l {a} e f g =
-      stored-then l 623 200 208 (andsTuples row) (then 200 (chiTuples row) (iotaTuples row)) e
+      stored-then l 623 200 208 (andsTuples row) (followedBy 200 (chiTuples row) (iotaTuples row)) e
       (stored-then a 823 200 8 (chiTuples row) (iotaTuples row) f g)
 
   -- of a padding row
   idle-chi : word row MU ≡ 0 → (k : ℕ) → k < 408 → 0 ≡ residues (chiPart row) k
   unfolding residues chiPart andsTuples chiTuples iotaTuples
   idle-chi e k h =
-      then-all (λ (t : Tuple). 0 ≡ residue t) 200 (andsTuples row) (then 200 (chiTuples row) (iotaTuples row)) k
+      then-all (λ (t : Tuple). 0 ≡ residue t) 200 (andsTuples row) (followedBy 200 (chiTuples row) (iotaTuples row)) k
       (λ b. idle _ e)
       (λ j q. then-all (λ (t : Tuple). 0 ≡ residue t) 200 (chiTuples row) (iotaTuples row) j (λ b. idle _ e) (λ i r. idle _ e))
 
@@ -97,8 +97,8 @@ module _ (row : List ℕ) where
       → d ≡ sets l 183 (tab 848 (residues (thetaPart row)))
   unfolding thetaPart
   theta-stored l {a} {b} e f g h =
-      stored-then l 183 40 808 (dTuples row) (then 200 (thetaTuples row) (then 200 (rotTuples row) (chiPart row))) e
-      (stored-then a 223 200 608 (thetaTuples row) (then 200 (rotTuples row) (chiPart row)) f
+      stored-then l 183 40 808 (dTuples row) (followedBy 200 (thetaTuples row) (followedBy 200 (rotTuples row) (chiPart row))) e
+      (stored-then a 223 200 608 (thetaTuples row) (followedBy 200 (rotTuples row) (chiPart row)) f
       (stored-then b 423 200 408 (rotTuples row) (chiPart row) g h))
 
   pub all-stored : (l : List ℕ) {a b c d e : List ℕ} → 1031 ≤ length l → a ≡ sets l 0 (tab 3 (residues (roundTuple row)))
@@ -109,6 +109,6 @@ module _ (row : List ℕ) where
   all-stored l {a} {b} {c} {d} {e} long p q r s t =
       marked 1031 (roundTuple row) l e long
       (stored-rest l 0 3 1028 (roundTuple row) (parityPart row) (λ k h. from-parity k) p
-      (stored-then a 3 40 988 (parityTuples row) (then 120 (stageTuples row) (then 20 (leftTuples row) (thetaPart row))) q
-      (stored-then b 43 120 868 (stageTuples row) (then 20 (leftTuples row) (thetaPart row)) r
+      (stored-then a 3 40 988 (parityTuples row) (followedBy 120 (stageTuples row) (followedBy 20 (leftTuples row) (thetaPart row))) q
+      (stored-then b 43 120 868 (stageTuples row) (followedBy 20 (leftTuples row) (thetaPart row)) r
       (stored-then c 163 20 848 (leftTuples row) (thetaPart row) s t))))

@@ -1,5 +1,5 @@
 -- How often a row's tuples count: 1,031 times in an active row (808 ByteAlu, 220 AreBytes, 1 KeccakRc and 1 Keccak sent, 1
--- Keccak received), and 220 times, all AreBytes, in a padding row. Assumes nothing.
+-- Keccak received), and 220 times, all AreBytes, in a padding row.
 use mathlib.Core.Path.{_≡_, ap, ap₂, _∙_}
 use mathlib.Core.List.{List}
 use Prim.Native.Nat.{ℕ, _+_, _*_}

@@ -1,4 +1,4 @@
--- The words of a Keccak tuple's state: what each copy of the code stores, and the tuple that they make. Assumes nothing.
+-- The words of a Keccak tuple's state: what each copy of the code stores, and the tuple that they make.
 use mathlib.Core.Path.{_≡_, refl, ap, _∙_}
 use mathlib.Core.Bool.{Bool}
 use mathlib.Core.List.{List, _∷_}

@@ -1,4 +1,4 @@
--- What stands at each index of a round row's tuples: the first three, and how many values each has. Assumes nothing.
+-- What stands at each index of a round row's tuples: the first three, and how many values each has.
 use mathlib.Core.Path.{_≡_, refl, sym, ap, _∙_}
 use mathlib.Core.List.{List}
 use Prim.Native.Nat.{ℕ, suc, _≤_, _<_}

@@ -1,4 +1,4 @@
--- The words of a Keccak tuple's state, as the code copies them. Assumes nothing.
+-- The words of a Keccak tuple's state, as the code copies them.
 use mathlib.Core.List.{List}
 use mathlib.Core.Bool.{_&&_}
 use Prim.Native.Nat.{ℕ, _+_, _*_, _/_, _%_}

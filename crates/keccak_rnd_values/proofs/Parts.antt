@@ -1,12 +1,12 @@
 -- The values by their parts: a turn that stores the four values of a column or lane, or the twenty of an x; and the groups
--- one after the other. Assumes nothing.
+-- one after the other.
 use mathlib.Core.Path.{_≡_, ap, _∙_}
 use mathlib.Core.List.{List}
 use Prim.Native.Nat.{ℕ, _+_, _*_, _/_, _%_, _≤_, _<_}
 use native.Mathlib.Omega.{arith}
 use lib.ListN.{set}
 use lib.Seq.{sets}
-use Rattle.lists.specs.Tab.{tab, then, word}
+use Rattle.lists.specs.Tab.{tab, followedBy, word}
 use Rattle.lists.proofs.Laws.{Filled, filled-block, sets-then, sets-cell}
 use Rattle.lists.proofs.Then.{at-two, at-three}
 use Rattle.templates.specs.Templates.{isBit}
@@ -63,7 +63,7 @@ module _ (row : List ℕ) where
       ∙ sets-cell c 140 (isBit (word row MU))
       ∙ ap (λ (t : List ℕ). sets t 140 (tab 1 last)) r
       ∙ sets-then b 40 100 1 rhos last
-      ∙ ap (λ (t : List ℕ). sets t 40 (tab 101 (then 100 rhos last))) q
-      ∙ sets-then a 20 20 101 thetas (then 100 rhos last)
-      ∙ ap (λ (t : List ℕ). sets t 20 (tab 121 (then 20 thetas (then 100 rhos last)))) p
-      ∙ sets-then l 0 20 121 carries (then 20 thetas (then 100 rhos last))
+      ∙ ap (λ (t : List ℕ). sets t 40 (tab 101 (followedBy 100 rhos last))) q
+      ∙ sets-then a 20 20 101 thetas (followedBy 100 rhos last)
+      ∙ ap (λ (t : List ℕ). sets t 20 (tab 121 (followedBy 20 thetas (followedBy 100 rhos last)))) p
+      ∙ sets-then l 0 20 121 carries (followedBy 20 thetas (followedBy 100 rhos last))

@@ -1,4 +1,4 @@
--- The parts of which the values of a Keccak tuple are made. Assumes nothing.
+-- The parts of which the values of a Keccak tuple are made.
 use mathlib.Core.Path.{_≡_}
 use mathlib.Core.List.{List}
 use Prim.Native.Nat.{ℕ, _+_, _*_, _/_, _%_, _<_}

@@ -1,4 +1,4 @@
--- How many values a Keccak tuple of a core row has, and what a function answers that wrote them. Assumes nothing.
+-- How many values a Keccak tuple of a core row has, and what a function answers that wrote them.
 use mathlib.Core.Path.{_≡_, sym, ap}
 use mathlib.Core.List.{List}
 use Prim.Native.Nat.{ℕ}

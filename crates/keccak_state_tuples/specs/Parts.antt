@@ -1,4 +1,4 @@
--- A part of a Keccak tuple's values, for the functions that write it. Assumes nothing.
+-- A part of a Keccak tuple's values, for the functions that write it.
 use Prim.Native.Nat.{ℕ, _/_, _%_}
 use mathlib.Core.List.{List}
 use Rattle.lists.specs.Tab.{word}

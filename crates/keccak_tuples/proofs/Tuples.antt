@@ -1,4 +1,4 @@
--- Which of a core row's tuples an index names. Assumes nothing.
+-- Which of a core row's tuples an index names.
 use mathlib.Core.Path.{_≡_, refl, ap, _∙_}
 use mathlib.Core.List.{List}
 use Prim.Native.Nat.{ℕ, _+_, _-_, _/_, _%_, _≤_, _<_}

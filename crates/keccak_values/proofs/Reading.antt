@@ -1,4 +1,4 @@
--- The call for a core row's values reads of the lent row its columns only. Assumes nothing.
+-- The call for a core row's values reads of the lent row its columns only.
 use Rattle.evaluation.specs.Call.{RestNotRead}
 use Rattle.evaluation.proofs.Reading.{values-rest}
 use Rattle.keccak.specs.Columns.{NUM-COLUMNS}

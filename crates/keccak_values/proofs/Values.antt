@@ -1,4 +1,4 @@
--- The values of a core row by the carries of its lanes, where its words are below p. Assumes nothing.
+-- The values of a core row by the carries of its lanes, where its words are below p.
 use mathlib.Core.Path.{_≡_, refl, sym, ap, ap₂, _∙_}
 use mathlib.Core.List.{List}
 use Prim.Native.Nat.{ℕ, _+_, _*_, _/_, _%_, _<_}

@@ -1,4 +1,4 @@
--- `firstAt` and `firstIn` find the first failure, for a test that separates what fails from what holds; and tests that do. Assumes nothing.
+-- `firstAt` and `firstIn` find the first failure, for a test that separates what fails from what holds; and tests that do.
 use mathlib.Core.Path.{_≡_, refl, sym, _∙_}
 use mathlib.Core.Bool.{Bool, true, false, not, _&&_}
 use mathlib.Core.Option.{Option, none, some}
@@ -7,7 +7,7 @@ use Prim.Native.Nat.{ℕ, _≤_, _<_}
 use native.Mathlib.Omega.{arith}
 use borrow.Author.Tests.{leb-true, leb-false, le-leb, lt-leb}
 use lib.Dec.{leb}
-use Rattle.lists.specs.First.{firstAt, firstIn, isSome, any}
+use Rattle.lists.specs.First.{firstAt, firstIn, isSome, anyBelow}
 use Rattle.lists.specs.Decides.{Decides}
 use Rattle.lists.specs.Failure.{Separates, FirstAt, FirstIn}
 use Rattle.lists.proofs.Tests.{true-not-false}
@@ -71,8 +71,8 @@ separates-and false b s d =
     record { fails = λ e. absurd (true-not-false (sym e)); holds = λ e y. absurd (n y); is-true = λ y. absurd (n (y .0)); is-false = λ h. refl }
 
 module _ (t : ℕ → Bool) (n : ℕ) {F H : ℕ → Type 0} (s : (k : ℕ) → k < n → Separates (t k) (F k) (H k)) where
-  pub separates-any : Separates (any t n) ((k : ℕ) × (k < n) × F k) ((k : ℕ) → k < n → H k)
-  unfolding any
+  pub separates-any : Separates (anyBelow t n) ((k : ℕ) × (k < n) × F k) ((k : ℕ) → k < n → H k)
+  unfolding anyBelow
   separates-any = go (firstAt t n) refl
     where
       go : (o : Option ℕ) → firstAt t n ≡ o → Separates (isSome o) ((k : ℕ) × (k < n) × F k) ((k : ℕ) → k < n → H k)

@@ -1,5 +1,5 @@
 -- What is read of a list of words: two lists whose first n words are the same, and a definition, by list and index, that
--- tells no two such lists apart. Assumes nothing.
+-- tells no two such lists apart.
 use mathlib.Core.Path.{_≡_, sym, ap, _∙_}
 use mathlib.Core.Bool.{Bool, true, false}
 use mathlib.Core.List.{List}
@@ -8,7 +8,7 @@ use native.Mathlib.Omega.{arith}
 use native.Mathlib.Nat.{le-refl, le-of-lt}
 use lib.ListN.{length, take}
 use lib.Seq.{getD-take, length-take-le, take-all}
-use Rattle.lists.specs.Tab.{pick, then, word}
+use Rattle.lists.specs.Tab.{pick, followedBy, word}
 use Rattle.lists.proofs.Then.{by-le, then-lt, then-past}
 
 -- the first n words of the two are the same; what else each has, and how long it is, is open
@@ -31,7 +31,7 @@ front-same f n e row =
 
 -- a table of two parts is the same where each part is
 pub then-same : {A : Type 0} (n m : ℕ) (f g f′ g′ : ℕ → A) → ((i : ℕ) → i < n → f i ≡ f′ i) → ((i : ℕ) → i < m → g i ≡ g′ i)
-    → (i : ℕ) → i < n + m → then n f g i ≡ then n f′ g′ i
+    → (i : ℕ) → i < n + m → followedBy n f g i ≡ followedBy n f′ g′ i
 then-same n m f g f′ g′ e₁ e₂ i h =
     by-le n i (λ l. then-past n i f g l ∙ e₂ (i - n) (omega arith) ∙ sym (then-past n i f′ g′ l))
     (λ l. then-lt n i f g l ∙ e₁ i l ∙ sym (then-lt n i f′ g′ l))

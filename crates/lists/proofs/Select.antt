@@ -1,4 +1,4 @@
--- Laws of the elements that pass a test, and of the equality of lists of words. Assumes nothing.
+-- Laws of the elements that pass a test, and of the equality of lists of words.
 use mathlib.Core.Path.{_≡_, refl, sym, ap, subst, _∙_}
 use mathlib.Core.Logic.{_⊎_, inl, inr}
 use mathlib.Core.Bool.{Bool, true, false}

@@ -1,4 +1,4 @@
--- Laws of tests by their value: `&&`, and what is neither true nor false. Assumes nothing.
+-- Laws of tests by their value: `&&`, and what is neither true nor false.
 --     T-of, T-true (of Then)     from `b ≡ true` to T b and back
 --     and-true, true-and         a conjunction is true exactly where both are
 --     false-and, and-false       it is false where the second is, given the first

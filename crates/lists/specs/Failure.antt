@@ -1,4 +1,4 @@
--- The first failure, said without a search: what `firstAt` and `firstIn` find (proofs/Failure.antt). Assumes nothing.
+-- The first failure, said without a search: what `firstAt` and `firstIn` find (proofs/Failure.antt).
 use mathlib.Core.Path.{_≡_}
 use mathlib.Core.Bool.{Bool, true, false}
 use Prim.Native.Nat.{ℕ, _<_}

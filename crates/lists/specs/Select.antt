@@ -1,4 +1,4 @@
--- Of a list: the elements that pass a test; of two lists of words: whether they are equal. Assumes nothing.
+-- Of a list: the elements that pass a test; of two lists of words: whether they are equal.
 use mathlib.Core.Bool.{Bool, true, false, _&&_}
 use mathlib.Core.List.{List, [], _∷_}
 use Prim.Native.Nat.{ℕ}

@@ -1,5 +1,4 @@
 -- Laws of a call for a tuple: what an accepted call knows of its arguments, and the two clauses of its contract.
--- Assumes nothing.
 use Prim.Native.Nat.{ℕ, _≤_}
 use mathlib.Core.Path.{_≡_, sym, ap, subst, _∙_}
 use mathlib.Core.Option.{Option, none, some}

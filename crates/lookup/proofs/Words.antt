@@ -1,4 +1,4 @@
--- Laws of the tuples of a row as words: how many words, in parts, and the invariant of a loop that writes them. Assumes nothing.
+-- Laws of the tuples of a row as words: how many words, in parts, and the invariant of a loop that writes them.
 use mathlib.Core.Path.{_≡_, refl, sym, ap, ap₂, _∙_, subst}
 use mathlib.Core.Logic.{⊎-elim}
 use mathlib.Core.List.{List, [], _∷_, _++_, append-assoc, append-nil}
@@ -9,8 +9,8 @@ use native.Mathlib.Omega.{arith}
 use lib.ListN.{length, set, length-append}
 use lib.Seq.{sets, length-sets, set-comm}
 use borrow.Rule.Slice.PartMut.{midOf, putMid, mid-len}
-use Rattle.lists.specs.Tab.{then}
-use Rattle.lists.specs.Sum.{sum}
+use Rattle.lists.specs.Tab.{followedBy}
+use Rattle.lists.specs.Sum.{sumBelow}
 use Rattle.lists.proofs.Sum.{sum-same, sum-const, sum-then}
 use Rattle.lists.proofs.Laws.{sets-append, sets-mid}
 use Rattle.lists.proofs.Then.{then-lt, then-ge}
@@ -26,18 +26,18 @@ pub tuple-length : (t : Tuple) → length (tupleWords t) ≡ 4 + length (t .valu
 unfolding tupleWords
 tuple-length t = omega arith
 
-pub tuples-length : (t : ℕ → Tuple) (n : ℕ) → length (tuplesWords t n) ≡ sum n (λ i. length (tupleWords (t i)))
-unfolding tuplesWords sum
+pub tuples-length : (t : ℕ → Tuple) (n : ℕ) → length (tuplesWords t n) ≡ sumBelow n (λ i. length (tupleWords (t i)))
+unfolding tuplesWords sumBelow
 tuples-length t zero = refl
 tuples-length t (suc n) = length-append (tuplesWords t n) (tupleWords (t n)) ∙ ap (λ (k : ℕ). k + length (tupleWords (t n))) (tuples-length t n)
 
 -- n tuples of c values each
-pub words-same : (n c : ℕ) (f : ℕ → Tuple) → ((i : ℕ) → length (f i .values) ≡ c) → sum n (λ i. length (tupleWords (f i))) ≡ n * (4 + c)
+pub words-same : (n c : ℕ) (f : ℕ → Tuple) → ((i : ℕ) → length (f i .values) ≡ c) → sumBelow n (λ i. length (tupleWords (f i))) ≡ n * (4 + c)
 words-same n c f e = sum-same n (λ i. length (tupleWords (f i))) (λ i. 4 + c) (λ i h. tuple-length (f i) ∙ ap (λ (k : ℕ). 4 + k) (e i)) ∙ sum-const n (4 + c)
 
 -- n tuples, and then m others
-pub words-then : (n m : ℕ) {a b : ℕ} (f g : ℕ → Tuple) → sum n (λ i. length (tupleWords (f i))) ≡ a → sum m (λ i. length (tupleWords (g i))) ≡ b
-    → sum (n + m) (λ i. length (tupleWords (then n f g i))) ≡ a + b
+pub words-then : (n m : ℕ) {a b : ℕ} (f g : ℕ → Tuple) → sumBelow n (λ i. length (tupleWords (f i))) ≡ a → sumBelow m (λ i. length (tupleWords (g i))) ≡ b
+    → sumBelow (n + m) (λ i. length (tupleWords (followedBy n f g i))) ≡ a + b
 words-then n m f g e q = sum-then (λ t. length (tupleWords t)) n m f g ∙ ap₂ _+_ e q
 
 -- ---- a tuple is stored where its values are stored first and then the words before them
@@ -115,14 +115,14 @@ words-count n c t e = tuples-length t n ∙ words-same n c t e
 
 -- n tuples of f were stored from `at`, and then m of g behind them
 pub stored-then : {out out′ : List ℕ} {at′ : ℕ} (l : List ℕ) (at n m c : ℕ) (f g : ℕ → Tuple) → ((i : ℕ) → length (f i .values) ≡ c) → out ≡ sets l at (tuplesWords f n)
-    → out′ ≡ sets out at′ (tuplesWords g m) → at′ ≡ at + n * (4 + c) → out′ ≡ sets l at (tuplesWords (then n f g) (n + m))
+    → out′ ≡ sets out at′ (tuplesWords g m) → at′ ≡ at + n * (4 + c) → out′ ≡ sets l at (tuplesWords (followedBy n f g) (n + m))
 stored-then l at n m c f g u e q h =
     q
     ∙ (λ i. sets (e i) ((h ∙ ap (λ (k : ℕ). at + k) (sym (words-count n c f u))) i) (tuplesWords g m))
     ∙ sets-append l at (tuplesWords f n) (tuplesWords g m)
     ∙ ap (sets l at)
-    (ap (λ (a : List ℕ). a ++ tuplesWords g m) (sym (words-eq n (then n f g) f (λ k b. then-lt n k f g b)))
-    ∙ sym (words-add n m (then n f g) g (λ k b. then-ge n k f g)))
+    (ap (λ (a : List ℕ). a ++ tuplesWords g m) (sym (words-eq n (followedBy n f g) f (λ k b. then-lt n k f g b)))
+    ∙ sym (words-add n m (followedBy n f g) g (λ k b. then-ge n k f g)))
 
 -- ---- the invariant of a loop that stores tuples t 0 .. t (n - 1) in l from `from`, one after the other: i of them are stored, and the next
 -- goes to `at`

@@ -1,4 +1,4 @@
--- The tuples of a row as words, one tuple after the other: what a call that gives all of them writes. Assumes nothing.
+-- The tuples of a row as words, one tuple after the other: what a call that gives all of them writes.
 use Prim.Native.Nat.{ℕ, zero, suc}
 use mathlib.Core.List.{List, [], _∷_, _++_}
 use Rattle.lookup.specs.Tuple.{Tuple, busNumber, sideNumber}

@@ -2,12 +2,11 @@
 --     feed-append  a piece after another is the two as one piece
 --     whole        a whole record from its start: at its fault, or before the next record
 --     reads-file   `finish` after the whole file is `tallyOf`
--- Assumes nothing.
 use Prim.Native.Nat.{ℕ, zero, suc, _+_, _*_, _/_, _-_, _^_, _<_, _≤_}
 use mathlib.Core.Path.{_≡_, refl, sym, ap, _∙_}
 use mathlib.Core.Bool.{Bool, true, false}
 use mathlib.Core.List.{List, [], _∷_, _++_}
-use mathlib.Core.Option.{Option, none, some}
+use mathlib.Core.Option.{Option, none, some, orElse}
 use mathlib.Core.Logic.{_⊎_, inl, inr, ⊎-elim}
 use native.Mathlib.Nat.{add-zero, div-div-eq-div-mul, pow-suc, mul-comm, div-one}
 use native.Mathlib.Omega.{arith}
@@ -16,7 +15,6 @@ use lib.ListN.{length, take, drop, getD, take-append-drop, length-take, length-d
 use lib.Seq.{take-all, take-take, drop-drop}
 use borrow.Author.Tests.{lt-ltb, le-ltb, le-leb, lt-leb, eq-eqb, ne-eqb, leb-true, leb-false}
 use Rattle.lists.specs.Tab.{pick, word}
-use Rattle.lists.specs.First.{orElse}
 use Rattle.lists.proofs.Then.{by-le}
 use Rattle.bits.specs.Bits.{pack}
 use Rattle.bits.proofs.Bytes.{pack-by, pack-part, pack-cons}

@@ -1,4 +1,4 @@
--- The computed counts of `tally` are the sums over both tables. Assumes nothing.
+-- The computed counts of `tally` are the sums over both tables.
 use mathlib.Core.Path.{_≡_, refl, sym, ap}
 use Prim.Native.Nat.{ℕ, zero, suc, _+_, _*_, _<_}
 use native.Mathlib.Omega.{arith}

@@ -1,13 +1,11 @@
 -- The operation file: records of 418 bytes, the first faulty one, the operations, and what `tally` says of a file.
--- Assumes nothing.
 use Prim.Native.Nat.{ℕ, zero, suc, _+_, _*_}
 use mathlib.Core.Bool.{Bool, false, not}
 use mathlib.Core.List.{List, [], _∷_}
-use mathlib.Core.Option.{Option, none, some}
+use mathlib.Core.Option.{Option, none, some, orElse}
 use lib.ListN.{length, take, drop, getD}
 use lib.Dec.{ltb, leb, eqb}
 use Rattle.lists.specs.Tab.{pick, tab, tableOf, word}
-use Rattle.lists.specs.First.{orElse}
 use Rattle.bits.specs.Bits.{pack}
 use Rattle.answer.specs.Limits.{MAX-OPS}
 use Rattle.answer.specs.Refusal.{refuseIf, accepted}

@@ -1,5 +1,4 @@
--- Reading a file in pieces: where a reader stands after each byte, and what the end of the file makes of it. Assumes
--- nothing.
+-- Reading a file in pieces: where a reader stands after each byte, and what the end of the file makes of it.
 use Prim.Native.Nat.{ℕ, _+_, _*_, _/_, _<_, _≤_}
 use mathlib.Core.Path.{_≡_}
 use mathlib.Core.Bool.{Bool, true, false, not}

@@ -1,10 +1,9 @@
--- A whole operation file and the flat list of its operations, both ways. Assumes nothing.
+-- A whole operation file and the flat list of its operations, both ways.
 use Prim.Native.Nat.{ℕ, _*_}
 use mathlib.Core.List.{List}
-use mathlib.Core.Option.{Option}
+use mathlib.Core.Option.{Option, orElse}
 use lib.ListN.{length}
 use Rattle.lists.specs.Tab.{tableOf}
-use Rattle.lists.specs.First.{orElse}
 use Rattle.answer.specs.Refusal.{accepted, overwrite, afterwards, tooShort}
 use Rattle.answer.specs.declared.Refusal.{Refusal}
 use Rattle.keccak.specs.Row.{OP-WORDS}

@@ -1,4 +1,4 @@
--- Bytes to words and back, and words to bytes and back, change nothing. Assumes nothing.
+-- Bytes to words and back, and words to bytes and back, change nothing.
 use Prim.Native.Nat.{ℕ, zero, suc, _+_, _*_, _/_, _%_, _<_}
 use mathlib.Core.Path.{_≡_, refl, sym, ap, ap₂, _∙_}
 use mathlib.Core.Bool.{Bool, true, false}

@@ -1,5 +1,5 @@
 -- An operation's 52 words as the 418 bytes of its record: the mark 4B 4F, then 8 bytes to a word, lowest first. What
--- reads them back is `recordWord` (op_file/specs/File.antt). Assumes nothing.
+-- reads them back is `recordWord` (op_file/specs/File.antt).
 use Prim.Native.Nat.{ℕ, _+_, _/_, _%_, _<_}
 use mathlib.Core.Path.{_≡_}
 use mathlib.Core.Bool.{true}

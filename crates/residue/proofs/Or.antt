@@ -1,4 +1,4 @@
--- An OR is 0 where all of it is; and a loop that makes one. Assumes nothing.
+-- An OR is 0 where all of it is; and a loop that makes one.
 use mathlib.Core.Path.{_≡_, refl, sym, ap, ap₂, _∙_}
 use mathlib.Core.Bool.{Bool, _&&_}
 use Prim.Native.Nat.{ℕ, zero, suc, _+_, _≤_, _<_}
@@ -7,7 +7,7 @@ use native.Mathlib.Omega.{arith}
 use borrow.Author.Tests.{eq-eqb, ne-eqb, eqb-true}
 use lib.Bits.{bitOr, or-add-and, and-le-l, and-le-r}
 use lib.Dec.{eqb}
-use Rattle.lists.specs.Sum.{all}
+use Rattle.lists.specs.Sum.{allBelow}
 use Rattle.lists.proofs.Sum.{all-at}
 use Rattle.lists.proofs.Tests.{T-of}
 use Rattle.lists.proofs.Then.{by-le, T-true}
@@ -31,8 +31,8 @@ or-zero a b =
     (λ m. let za : a ≡ 0 = omega arith in let zb : b ≡ 0 = omega arith in eq-eqb (bitOr a b) 0 (ap₂ bitOr za zb) ∙ sym (ap₂ (λ (x y : Bool). x && y) (eq-eqb a 0 za) (eq-eqb b 0 zb))))
 
 -- ---- of many
-pub or-all-zero : (n : ℕ) (f : ℕ → ℕ) (t : ℕ → Bool) → ((b : ℕ) → eqb (f b) 0 ≡ t b) → eqb (orAll n f) 0 ≡ all n t
-unfolding orAll all
+pub or-all-zero : (n : ℕ) (f : ℕ → ℕ) (t : ℕ → Bool) → ((b : ℕ) → eqb (f b) 0 ≡ t b) → eqb (orAll n f) 0 ≡ allBelow n t
+unfolding orAll allBelow
 or-all-zero zero f t h = refl
 or-all-zero (suc n) f t h = or-zero (f n) (orAll n f) ∙ ap₂ (λ (x y : Bool). x && y) (h n) (or-all-zero n f t h)
 
@@ -40,7 +40,7 @@ or-all-zero (suc n) f t h = or-zero (f n) (orAll n f) ∙ ap₂ (λ (x y : Bool)
 pub or-each : (n : ℕ) (f : ℕ → ℕ) → orAll n f ≡ 0 → (i : ℕ) → i < n → f i ≡ 0
 or-each n f e i l =
     eqb-true (f i) 0
-    (T-true (eqb (f i) 0) (all-at n (λ k. eqb (f k) 0) (T-of (all n (λ k. eqb (f k) 0)) (sym (or-all-zero n f (λ k. eqb (f k) 0) (λ k. refl)) ∙ eq-eqb (orAll n f) 0 e)) i l))
+    (T-true (eqb (f i) 0) (all-at n (λ k. eqb (f k) 0) (T-of (allBelow n (λ k. eqb (f k) 0)) (sym (or-all-zero n f (λ k. eqb (f k) 0) (λ k. refl)) ∙ eq-eqb (orAll n f) 0 e)) i l))
 
 pub or-same : (n : ℕ) (f g : ℕ → ℕ) → ((k : ℕ) → k < n → f k ≡ g k) → orAll n f ≡ orAll n g
 unfolding orAll

@@ -1,4 +1,4 @@
--- A tuple's residue is 0 exactly where the tuple needs no match or has one: `residue-matched`. Assumes nothing.
+-- A tuple's residue is 0 exactly where the tuple needs no match or has one: `residue-matched`.
 use mathlib.Core.Path.{_≡_, refl, sym, ap, ap₂, _∙_}
 use mathlib.Core.Bool.{Bool, true, false, _&&_}
 use mathlib.Core.List.{List}
@@ -9,7 +9,7 @@ use lib.Bits.{bitXor, xor-add-and, xor-self, and-le-l, and-le-r, or-shr}
 use lib.Dec.{eqb, ltb}
 use lib.ListN.{length, getD}
 use Rattle.lists.specs.Tab.{pick}
-use Rattle.lists.specs.Sum.{all}
+use Rattle.lists.specs.Sum.{allBelow}
 use Rattle.lists.proofs.Then.{by-le}
 use Rattle.bits.specs.Bits.{byteAt}
 use Rattle.fips202.specs.Tables.{roundConstant}
@@ -84,7 +84,7 @@ is-wh-zero : (w h : ℕ) → eqb (isWhResidue w h) 0 ≡ (ltb w (2 ^ 32) && ltb 
 unfolding isWhResidue
 is-wh-zero w h = or-zero (w / 2 ^ 32) (h / 2 ^ 16) ∙ ap₂ (λ (x y : Bool). x && y) (over-32 w) (over-16 h)
 
-constant-zero : (k : ℕ) (f : ℕ → ℕ) → eqb (constantResidue k f) 0 ≡ all 8 (λ b. eqb (f b) (byteAt k b))
+constant-zero : (k : ℕ) (f : ℕ → ℕ) → eqb (constantResidue k f) 0 ≡ allBelow 8 (λ b. eqb (f b) (byteAt k b))
 unfolding constantResidue
 constant-zero k f = or-all-zero 8 (λ b. bitXor (byteAt k b) (f b)) (λ b. eqb (f b) (byteAt k b)) (λ b. xor-zero (byteAt k b) (f b))
 
@@ -93,7 +93,7 @@ picked : (t : Bool) (n : ℕ) (u : Bool) → eqb n 0 ≡ u → eqb (pick t n 1) 
 picked true n u e = e
 picked false n u e = refl
 
-rc-zero : (r : ℕ) (f : ℕ → ℕ) → eqb (rcResidue r f) 0 ≡ (ltb r 32 && all 8 (λ b. eqb (f b) (byteAt (roundConstant r) b)))
+rc-zero : (r : ℕ) (f : ℕ → ℕ) → eqb (rcResidue r f) 0 ≡ (ltb r 32 && allBelow 8 (λ b. eqb (f b) (byteAt (roundConstant r) b)))
 unfolding rcResidue
 rc-zero r f = picked (ltb r 32) (constantResidue (roundConstant r) f) _ (constant-zero (roundConstant r) f)
 

@@ -1,5 +1,5 @@
 -- What a scan of a row's lookups goes by: a number for each tuple that is 0 exactly where the tuple needs no match or
--- has one (proofs/Residue.antt, `residue-matched`). Assumes nothing.
+-- has one (proofs/Residue.antt, `residue-matched`).
 --     residueOn    of the values on a bus: what is left of them where they should be bytes, halves or a result
 --     residue      of a tuple: 0 where its multiplicity is 0
 --     residues     of tuples by their index

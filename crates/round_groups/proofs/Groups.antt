@@ -1,4 +1,4 @@
--- The tuples of a round row's groups, lane by lane: byte z of lane l stands at 8 l + z of its group. Assumes nothing.
+-- The tuples of a round row's groups, lane by lane: byte z of lane l stands at 8 l + z of its group.
 use mathlib.Core.Path.{_≡_, refl, sym, ap, ap₂, _∙_}
 use mathlib.Core.List.{List}
 use Prim.Native.Nat.{ℕ, _+_, _*_, _/_, _%_, _≤_, _<_}

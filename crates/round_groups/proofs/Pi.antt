@@ -1,4 +1,4 @@
--- The bytes of π that are computed first, 255 less each of them, and the tuples of χ by these. Assumes nothing.
+-- The bytes of π that are computed first, 255 less each of them, and the tuples of χ by these.
 use mathlib.Core.Path.{_≡_, sym, ap, ap₂, _∙_}
 use mathlib.Core.List.{List}
 use Prim.Native.Nat.{ℕ, _+_, _-_, _*_, _/_, _%_, _≤_, _<_}

@@ -1,10 +1,10 @@
 -- The groups of a round row's tuples, the parts in which they are scanned and written, and the bytes that are computed
--- first. Assumes nothing.
+-- first.
 use Prim.Native.Nat.{ℕ, _/_, _%_, _≤_, _<_}
 use mathlib.Core.Path.{_≡_}
 use mathlib.Core.List.{List}
 use lib.ListN.{length}
-use Rattle.lists.specs.Tab.{then, word}
+use Rattle.lists.specs.Tab.{followedBy, word}
 use Rattle.field.specs.Field.{fsub}
 use Rattle.lookup.specs.Tuple.{Tuple}
 use Rattle.keccak.specs.Columns.{byXYB}
@@ -41,13 +41,13 @@ iotaTuples row = iotaTuple row
 
 -- ---- χ's ands, χ and ι behind each other, 408 of them
 unfoldable pub chiPart : List ℕ → ℕ → Tuple
-chiPart row = then 200 (andsTuples row) (then 200 (chiTuples row) (iotaTuples row))
+chiPart row = followedBy 200 (andsTuples row) (followedBy 200 (chiTuples row) (iotaTuples row))
 
 unfoldable pub thetaPart : List ℕ → ℕ → Tuple
-thetaPart row = then 40 (dTuples row) (then 200 (thetaTuples row) (then 200 (rotTuples row) (chiPart row)))
+thetaPart row = followedBy 40 (dTuples row) (followedBy 200 (thetaTuples row) (followedBy 200 (rotTuples row) (chiPart row)))
 
 unfoldable pub parityPart : List ℕ → ℕ → Tuple
-parityPart row = then 40 (parityTuples row) (then 120 (stageTuples row) (then 20 (leftTuples row) (thetaPart row)))
+parityPart row = followedBy 40 (parityTuples row) (followedBy 120 (stageTuples row) (followedBy 20 (leftTuples row) (thetaPart row)))
 
 -- ---- computed first: the bytes of π, x outermost, 255 less each of them, and those of C rotated by one
 pub record PiOf (row pi : List ℕ) : Type 0 where

@@ -1,4 +1,4 @@
--- C rotated by one, byte by byte. Assumes nothing.
+-- C rotated by one, byte by byte.
 use mathlib.Core.Path.{_≡_}
 use mathlib.Core.List.{List}
 use Prim.Native.Nat.{ℕ, _+_, _*_, _/_, _%_}

@@ -1,5 +1,4 @@
 -- A byte of the padded message, case by case; eight of them as a lane, the highest first; a lane of a block.
--- Assumes nothing.
 use mathlib.Core.Path.{_≡_, refl, sym, ap, ap₂, _∙_, subst}
 use mathlib.Core.Bool.{Bool, true, false}
 use mathlib.Core.List.{List}

@@ -1,4 +1,4 @@
--- SHA3-256 of a message of bytes: FIPS 202, sections 4, 5 and 6.1, with bytes as in its appendix B. Assumes nothing.
+-- SHA3-256 of a message of bytes: FIPS 202, sections 4, 5 and 6.1, with bytes as in its appendix B.
 use Prim.Native.Nat.{ℕ, zero, suc, _+_, _*_, _/_}
 use mathlib.Core.List.{List}
 use lib.Bits.{bitXor}

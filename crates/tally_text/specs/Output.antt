@@ -1,4 +1,4 @@
--- What `tally` writes: the bytes of its lines. Assumes nothing.
+-- What `tally` writes: the bytes of its lines.
 use Prim.Native.Nat.{ℕ}
 use mathlib.Core.List.{List, [], _∷_, _++_}
 use Rattle.text.specs.Text.{decimalOf, lineOf}

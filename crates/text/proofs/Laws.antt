@@ -1,4 +1,4 @@
--- What a store adds to a text, and to a number's digits. Assumes nothing.
+-- What a store adds to a text, and to a number's digits.
 use Prim.Native.Nat.{ℕ, zero, suc, _+_, _-_, _*_, _/_, _%_, _^_, _<_, _≤_}
 use mathlib.Core.Path.{_≡_, refl, sym, ap, _∙_}
 use mathlib.Core.List.{List, [], _∷_, _++_, append-assoc}

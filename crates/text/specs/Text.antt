@@ -1,4 +1,4 @@
--- Numbers and lines as bytes. Assumes nothing.
+-- Numbers and lines as bytes.
 use Prim.Native.Nat.{ℕ, zero, suc, _+_, _/_, _%_}
 use mathlib.Core.Path.{_≡_}
 use mathlib.Core.List.{List, [], _∷_, _++_}

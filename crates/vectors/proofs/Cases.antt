@@ -1,4 +1,4 @@
--- A published value of the definition itself, which the program's first line has of the code. Assumes nothing.
+-- A published value of the definition itself, which the program's first line has of the code.
 use mathlib.Core.Path.{_≡_, refl}
 use mathlib.Core.List.{[], _∷_}
 use lib.ListN.{replicate}

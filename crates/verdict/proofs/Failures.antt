@@ -6,7 +6,6 @@
 --     round-places      a round row's: 0, which it receives, and 1, which it sends
 --     timestamp-twice   where a timestamp stands twice, the verdict names one
 --     out-of-balance    where only the bus is wrong, the verdict names an unbalanced tuple
--- Assumes nothing.
 use mathlib.Core.Path.{_≡_, refl, sym, ap, subst, _∙_}
 use mathlib.Core.Bool.{Bool, true, false}
 use mathlib.Core.Logic.{_↔_, _⊎_, inl, inr}
@@ -17,7 +16,7 @@ use native.Mathlib.Omega.{arith}
 use lib.Dec.{eqb}
 use lib.ListN.{length}
 use Rattle.lists.specs.Tab.{pick, word}
-use Rattle.lists.specs.First.{any}
+use Rattle.lists.specs.First.{anyBelow}
 use Rattle.lists.specs.Failure.{Separates}
 use Rattle.lists.proofs.Then.{by-le, T-true}
 use Rattle.lists.proofs.Decides.{decides-eq, decides-map}
@@ -72,7 +71,7 @@ module _ (A : Layout) (ws : List ℕ) where
         (λ x. record { active = x .0; earlier = x .1 .0; before = x .1 .1; earlier-active = x .1 .2 .0; same = x .1 .2 .1 }),
         λ x. (x .active, (x .earlier, x .before, (x .earlier-active, x .same))),
       ) ((λ h. h), λ h. h)
-      (separates-and (active A ws r) (any (sameStampAt A ws r) r) (active-separates r l) (separates-any (sameStampAt A ws r) r (λ q g.
+      (separates-and (active A ws r) (anyBelow (sameStampAt A ws r) r) (active-separates r l) (separates-any (sameStampAt A ws r) r (λ q g.
       separates-and (active A ws q) (sameStamp (row A ws q) (row A ws r)) (active-separates q (omega arith)) (stamp-separates (row A ws q) (row A ws r)))))
 
 module _ (K : Kind) (ws : List ℕ) where

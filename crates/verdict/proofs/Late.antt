@@ -1,11 +1,11 @@
 -- A row past the last round: in tables that pass and whose timestamps differ, an active round row with ROUND 24 or more has the verdict name an unbalanced tuple.
--- Such a row sends the round after its own; no core row receives that, so a later row does, and so on; no row that passes has ROUND 32. Assumes nothing.
+-- Such a row sends the round after its own; no core row receives that, so a later row does, and so on; no row that passes has ROUND 32.
 use mathlib.Core.Path.{_≡_, refl, sym, ap, subst, _∙_}
 use mathlib.Core.Logic.{_⊎_}
 use mathlib.Core.List.{List}
 use Prim.Native.Nat.{ℕ, zero, suc, _+_, _-_, _≤_, _<_}
 use native.Mathlib.Omega.{arith}
-use Rattle.lists.specs.Tab.{word, then}
+use Rattle.lists.specs.Tab.{word, followedBy}
 use Rattle.lists.specs.Select.{wordsTest}
 use Rattle.lists.proofs.Count.{count-find, count-hit}
 use Rattle.lists.proofs.Tests.{T-of, and-true, true-and}
@@ -25,37 +25,37 @@ use Rattle.verdict.specs.declared.Table.the-variants.{Core, Round}
 use Rattle.verdict.specs.declared.Verdict.the-variants.{Unbalanced}
 use Rattle.verdict.proofs.Tables.{passes-row, all-below}
 use Rattle.verdict.proofs.Judge.{is-active, active-is}
-use Rattle.verdict.proofs.Tuples.{carriesAt, carried-count, core-bus, round-bus}
+use Rattle.verdict.proofs.Tuples.{activeTupleAt, active-tuples-count, core-bus, round-bus}
 use Rattle.verdict.proofs.Failures.{round-passes, out-of-balance}
 
 -- what an active row sends is sent, and what is received, an active row receives
 module _ {K : Kind} {S R : ℕ} (bus : OnBus K S R) (ws : List ℕ) where
   is-sent : (r : ℕ) → Active (K .layout) ws r → 1 ≤ sent K ws (K .tuple (row (K .layout) ws r) S .values)
-  unfolding carriesAt
+  unfolding activeTupleAt
   is-sent r a =
       let x : List ℕ = K .tuple (row (K .layout) ws r) S .values in
-      subst (λ (n : ℕ). 1 ≤ n) (sym (carried-count bus Sender ws x)) (count-hit (carriesAt K S ws x) (rows (K .layout) ws) r (a .there)
+      subst (λ (n : ℕ). 1 ≤ n) (sym (active-tuples-count bus Sender ws x)) (count-hit (activeTupleAt K S ws x) (rows (K .layout) ws) r (a .there)
       (true-and (active (K .layout) ws r) (wordsTest x x) (is-active (K .layout) ws a) (T-true (wordsTest x x) (words-same x))))
 
   who-receives : (x : List ℕ) → 1 ≤ received K ws x → (r : ℕ) × Active (K .layout) ws r × (x ≡ K .tuple (row (K .layout) ws r) R .values)
-  unfolding carriesAt
+  unfolding activeTupleAt
   who-receives x h =
-      let f = count-find (carriesAt K R ws x) (rows (K .layout) ws) (subst (λ (n : ℕ). 1 ≤ n) (carried-count bus Receiver ws x) h) in
+      let f = count-find (activeTupleAt K R ws x) (rows (K .layout) ws) (subst (λ (n : ℕ). 1 ≤ n) (active-tuples-count bus Receiver ws x) h) in
       let v : List ℕ = K .tuple (row (K .layout) ws (f .0)) R .values in
       let g = and-true (active (K .layout) ws (f .0)) (wordsTest x v) (f .2) in
       (f .0, active-is (K .layout) ws (f .0) (f .1) (g .0), words-sound x v (T-of (wordsTest x v) (g .1)))
 
 -- the round number in a Keccak tuple
 core-received-round : (nr : ℕ) (x : List ℕ) → word (coreTuple nr 0 x 3 .values) 2 ≡ 24
-unfolding coreTuple then coreReceived keccakValues
+unfolding coreTuple followedBy coreReceived keccakValues
 core-received-round nr x = refl
 
 round-received-round : (x : List ℕ) → word (roundTuple x 0 .values) 2 ≡ word x ROUND
-unfolding roundTuple then roundReceived keccakValues
+unfolding roundTuple followedBy roundReceived keccakValues
 round-received-round x = refl
 
 round-sent-round : (x : List ℕ) → word (roundTuple x 1 .values) 2 ≡ fadd (word x ROUND) 1
-unfolding roundTuple then roundSent keccakValues
+unfolding roundTuple followedBy roundSent keccakValues
 round-sent-round x = refl
 
 module _ (nr : ℕ) (core round : List ℕ) (passes : Passes roundKind round) (balanced : Balanced (coreKind nr) roundKind core round) where

@@ -1,5 +1,5 @@
 -- The operations that are read from the active rows of a core table: what they hold, that they make these rows again, and that no call
--- refuses them. Assumes nothing.
+-- refuses them.
 --     op-is        operation i is active row i, read as an operation
 --     row-again    the core row that is written for what is read from a row is that row
 --     none-refused, lendable, rows-again   the claims of demand 3 on the operations
@@ -10,7 +10,7 @@ use native.Mathlib.Omega.{arith}
 use lib.ListN.{length, getD, List·getD-append}
 use lib.Seq.{ext-getD, getD-append-add}
 use Rattle.lists.specs.Tab.{word, tab}
-use Rattle.lists.specs.First.{count}
+use Rattle.lists.specs.First.{countBelow}
 use Rattle.lists.proofs.Laws.{tab-same, list-tab, table-at, length-table, length-rowAt, holds-row}
 use Rattle.lists.proofs.Then.{by-le}
 use Rattle.bits.specs.Bits.{byteAt, laneByte, wordAt, limbAt}
@@ -223,9 +223,9 @@ module _ (core : List ℕ) where
         (of-active States states (k / 52) i) (k % 52) g))
 
     pub rows-again : EachActive States core → (r : ℕ) → Active coreLayout core r →
-        coreRow (opAt (operations core) (count (active coreLayout core) r)) ≡ row coreLayout core r
+        coreRow (opAt (operations core) (countBelow (active coreLayout core) r)) ≡ row coreLayout core r
     rows-again states r a =
-        let i : ℕ = count (active coreLayout core) r in
+        let i : ℕ = countBelow (active coreLayout core) r in
         let here : getD rowsOf i [] ≡ row coreLayout core r =
         selected-at (isActive coreLayout) (row coreLayout core) [] (rows coreLayout core) r (a .there) (is-on coreLayout (row coreLayout core r) (a .on)) in
         let below : i < length rowsOf =

@@ -1,4 +1,4 @@
--- The core table and the round table as kinds, for nr rounds (today 24), and the verdict on them. Assumes nothing.
+-- The core table and the round table as kinds, for nr rounds (today 24), and the verdict on them.
 use mathlib.Core.List.{List}
 use Prim.Native.Nat.{ℕ}
 use Rattle.keccak.specs.Columns as core

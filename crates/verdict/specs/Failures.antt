@@ -1,6 +1,6 @@
 -- What each answer of the verdict says, with no search in it. proofs/Failures.antt: the verdict on two tables is an
 -- answer exactly where `Says` has it. So the order of the failures, and the table, row and index of each, are those of
--- the scope. Assumes nothing.
+-- the scope.
 use mathlib.Core.Path.{_≡_}
 use mathlib.Core.Logic.{_⊎_}
 use mathlib.Core.List.{List}

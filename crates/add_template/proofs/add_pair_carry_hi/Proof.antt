@@ -1,4 +1,4 @@
--- `add_template::add_pair_carry_hi` meets its contract: the same with the low carry. Assumes nothing.
+-- `add_template::add_pair_carry_hi` meets its contract: the same with the low carry.
 use mathlib.Core.Path.{ap, ap₂, _∙_}
 use Prim.Native.Nat.{ℕ}
 use borrow.Author.Needs.{needs}

@@ -1,4 +1,4 @@
--- `add_template::carry0` meets its contract: the difference, times the inverse of 2^32. Assumes nothing.
+-- `add_template::carry0` meets its contract: the difference, times the inverse of 2^32.
 use mathlib.Core.Path.{ap, ap₂, _∙_}
 use Prim.Native.Nat.{ℕ}
 use borrow.Author.Needs.{needs}

@@ -1,4 +1,4 @@
--- `add_template::emit_add_pair` meets its contract: the low carry, or the high one. Assumes nothing.
+-- `add_template::emit_add_pair` meets its contract: the low carry, or the high one.
 use mathlib.Core.Path.{_∙_}
 use Rattle.bit_values.specs.Conditions.{columnsOf}
 use Rattle.add_template.proofs.Values.{first-value, second-value}

@@ -1,4 +1,4 @@
--- `add_template::high_sum` meets its contract: the two high words, added. Assumes nothing.
+-- `add_template::high_sum` meets its contract: the two high words, added.
 use mathlib.Core.Path.{ap₂, _∙_}
 use borrow.Author.Needs.{needs}
 use Rattle.field.specs.Field.{fadd}

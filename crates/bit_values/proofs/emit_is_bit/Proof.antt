@@ -1,4 +1,4 @@
--- `emit_is_bit` meets its contract: under a column, or always. Assumes nothing.
+-- `emit_is_bit` meets its contract: under a column, or always.
 use mathlib.Core.Path.{_∙_}
 use native.Mathlib.Omega.{arith}
 use borrow.Author.Needs.{needs}

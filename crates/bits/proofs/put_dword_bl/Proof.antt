@@ -1,4 +1,4 @@
--- `bits::put_dword_bl` meets its contract: after b turns the first b bytes are stored. Assumes nothing.
+-- `bits::put_dword_bl` meets its contract: after b turns the first b bytes are stored.
 use mathlib.Core.Path.{refl}
 use Prim.Native.Nat.{_-_}
 use native.Mathlib.Omega.{arith}

@@ -1,4 +1,4 @@
--- `bits::put_dword_whh` meets its contract: three stores. Assumes nothing.
+-- `bits::put_dword_whh` meets its contract: three stores.
 use native.Mathlib.Omega.{arith}
 use lib.ListN.{length-set}
 use Rattle.bits.specs.Bits.{limbAt}

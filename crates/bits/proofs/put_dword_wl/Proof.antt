@@ -1,4 +1,4 @@
--- `bits::put_dword_wl` meets its contract. Assumes nothing.
+-- `bits::put_dword_wl` meets its contract.
 use native.Mathlib.Omega.{arith}
 use lib.ListN.{length-set}
 use Rattle.bits.specs.Bits.{wordAt}

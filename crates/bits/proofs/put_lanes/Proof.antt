@@ -1,4 +1,4 @@
--- `bits::put_lanes` meets its contract: after i turns the first 8 i bytes are stored. Assumes nothing.
+-- `bits::put_lanes` meets its contract: after i turns the first 8 i bytes are stored.
 use Prim.Native.Nat.{_-_, _*_}
 use native.Mathlib.Omega.{arith}
 use lib.ListN.{getD}

@@ -1,4 +1,4 @@
--- `bits::put_zeros` meets its contract: after k turns k zeros are stored. Assumes nothing.
+-- `bits::put_zeros` meets its contract: after k turns k zeros are stored.
 use mathlib.Core.Path.{refl}
 use Prim.Native.Nat.{_-_}
 use native.Mathlib.Omega.{arith}

@@ -1,4 +1,4 @@
--- `bitwise_counts::bump` meets its contract: one check after the other, then one store. Assumes nothing.
+-- `bitwise_counts::bump` meets its contract: one check after the other, then one store.
 use mathlib.Core.Path.{refl, ap, _∙_}
 use Prim.Native.Nat.{ℕ, _+_, _*_}
 use borrow.Author.Needs.{needs}

@@ -1,4 +1,4 @@
--- `kind_at` meets its contract, arm by arm. Assumes nothing.
+-- `kind_at` meets its contract, arm by arm.
 use mathlib.Core.Path.{_≡_, sym, ap}
 use Prim.Native.Nat.{ℕ, suc, _≤_}
 use native.Mathlib.Omega.{arith}

@@ -1,4 +1,4 @@
--- `bitwise_rows::generate_bitwise_row` meets its contract: one check after the other, then the row. Assumes nothing.
+-- `bitwise_rows::generate_bitwise_row` meets its contract: one check after the other, then the row.
 use mathlib.Core.Path.{refl, _∙_}
 use borrow.Author.Needs.{needs}
 use borrow.Author.Tests.{le-leb, lt-leb, le-ltb, lt-ltb}

@@ -1,4 +1,4 @@
--- `bitwise_rows::is_zero` meets its contract: one test after the other. Assumes nothing.
+-- `bitwise_rows::is_zero` meets its contract: one test after the other.
 use borrow.Author.Tests.{eq-eqb, ne-eqb}
 use Rattle.bitwise_rows.proofs.is_zero.Statement.{statement}
 use Rattle.bitwise_rows.proofs.is_zero.Tie as tie

@@ -1,4 +1,4 @@
--- `bitwise_rows::put_row` meets its contract: eleven stores, one after the other. Assumes nothing.
+-- `bitwise_rows::put_row` meets its contract: eleven stores, one after the other.
 use Prim.Native.Nat.{ℕ, _+_, _*_, _/_, _%_}
 use native.Mathlib.Omega.{arith}
 use lib.ListN.{length-set}

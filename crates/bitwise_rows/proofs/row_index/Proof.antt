@@ -1,4 +1,4 @@
--- `bitwise_rows::row_index` meets its contract: one check, then the index. Assumes nothing.
+-- `bitwise_rows::row_index` meets its contract: one check, then the index.
 use mathlib.Core.Path.{refl}
 use borrow.Author.Needs.{needs}
 use borrow.Author.Tests.{le-leb, lt-leb}

@@ -1,4 +1,4 @@
--- `bitwise_rows::row_of` meets its contract, by its sum. Assumes nothing.
+-- `bitwise_rows::row_of` meets its contract, by its sum.
 use mathlib.Core.Path.{refl}
 use borrow.Author.Needs.{needs}
 use Rattle.bitwise_rows.proofs.row_of.Statement.{statement}

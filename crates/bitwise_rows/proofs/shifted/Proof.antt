@@ -1,4 +1,4 @@
--- `bitwise_rows::shifted` meets its contract: sixteen bits and a shift below 16 fit 64 bits. Assumes nothing.
+-- `bitwise_rows::shifted` meets its contract: sixteen bits and a shift below 16 fit 64 bits.
 use native.Mathlib.Omega.{arith}
 use borrow.Author.Needs.{needs}
 use lib.Pow.{shl-exact}

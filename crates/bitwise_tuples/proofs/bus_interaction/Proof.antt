@@ -1,4 +1,4 @@
--- `bitwise_tuples::bus_interaction` meets its contract: the checks, then the values of the kind of the index. Assumes nothing.
+-- `bitwise_tuples::bus_interaction` meets its contract: the checks, then the values of the kind of the index.
 use mathlib.Core.Path.{_≡_, refl, sym, ap, _∙_, ap₂}
 use Prim.Native.Nat.{ℕ}
 use native.Mathlib.Omega.{arith}

@@ -1,4 +1,4 @@
--- `kind_values` meets its contract, arm by arm. Assumes nothing.
+-- `kind_values` meets its contract, arm by arm.
 use mathlib.Core.Path.{_≡_, sym, ap, _∙_}
 use Prim.Native.Nat.{ℕ}
 use borrow.Author.Needs.{needs}

@@ -1,4 +1,4 @@
--- `evaluation::check_values` meets its contract: one check after the other. Assumes nothing.
+-- `evaluation::check_values` meets its contract: one check after the other.
 use mathlib.Core.Path.{refl, sym, _∙_}
 use borrow.Author.Needs.{needs}
 use borrow.Author.Tests.{le-ltb, lt-ltb}

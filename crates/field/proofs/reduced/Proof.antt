@@ -1,4 +1,4 @@
--- `field::reduced` meets its contract: the word lo is brought below p, then the two steps are `sub` and `add`. Assumes nothing.
+-- `field::reduced` meets its contract: the word lo is brought below p, then the two steps are `sub` and `add`.
 use borrow.Author.Needs.{needs}
 use mathlib.Core.Logic.{⊎-elim}
 use mathlib.Core.Path.{_≡_, ap, _∙_}

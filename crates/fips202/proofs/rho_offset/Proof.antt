@@ -1,4 +1,4 @@
--- `rho_offset` meets its contract: it reads the tested table at [x][y]. Assumes nothing.
+-- `rho_offset` meets its contract: it reads the tested table at [x][y].
 use borrow.Author.Needs.{needs}
 use Rattle.fips202.proofs.rho_offset.Statement.{statement}
 use Rattle.fips202.proofs.rho_offset.Tie as tie

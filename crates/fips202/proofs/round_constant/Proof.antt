@@ -1,4 +1,4 @@
--- `round_constant` meets its contract: it reads the tested table below 24. Assumes nothing.
+-- `round_constant` meets its contract: it reads the tested table below 24.
 use mathlib.Core.Path.{sym, _∙_}
 use Prim.Native.Nat.{_<_}
 use native.Mathlib.Omega.{arith}

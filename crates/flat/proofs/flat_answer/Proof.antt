@@ -1,4 +1,4 @@
--- `flat_answer` meets its contract: one case after the other. Assumes nothing.
+-- `flat_answer` meets its contract: one case after the other.
 use borrow.Author.Needs.{needs}
 use Rattle.flat.specs.Flat.{flatAnswer}
 use Rattle.flat.proofs.flat_answer.Statement.{statement}

@@ -1,4 +1,4 @@
--- `flat_key` meets its contract. Assumes nothing.
+-- `flat_key` meets its contract.
 use mathlib.Core.Path.{refl}
 use Rattle.flat.specs.Flat.{flatKey}
 use Rattle.flat.proofs.flat_key.Statement.{statement}

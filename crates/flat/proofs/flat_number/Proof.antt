@@ -1,4 +1,4 @@
--- `flat_number` meets its contract: one case after the other. Assumes nothing.
+-- `flat_number` meets its contract: one case after the other.
 use borrow.Author.Needs.{needs}
 use Rattle.flat.specs.Flat.{flatNumber}
 use Rattle.flat.proofs.flat_number.Statement.{statement}

@@ -1,4 +1,4 @@
--- `flat_tuple` meets its contract: one case after the other. Assumes nothing.
+-- `flat_tuple` meets its contract: one case after the other.
 use borrow.Author.Needs.{needs}
 use Rattle.flat.specs.Flat.{flatTuple}
 use Rattle.flat.proofs.flat_tuple.Statement.{statement}

@@ -1,4 +1,4 @@
--- `flat_cursor` meets its contract: one case after the other. Assumes nothing.
+-- `flat_cursor` meets its contract: one case after the other.
 use Rattle.flat_reader.specs.FlatReader.{flatCursor}
 use borrow.Author.Needs.{needs}
 use Rattle.flat_reader.proofs.flat_cursor.Statement.{statement}

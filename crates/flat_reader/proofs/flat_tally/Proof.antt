@@ -1,4 +1,4 @@
--- `flat_tally` meets its contract: one case after the other. Assumes nothing.
+-- `flat_tally` meets its contract: one case after the other.
 use Rattle.flat_reader.specs.FlatReader.{flatTally}
 use borrow.Author.Needs.{needs}
 use Rattle.flat_reader.proofs.flat_tally.Statement.{statement}

@@ -1,4 +1,4 @@
--- `refusal_of` meets its contract: one number after the other. Assumes nothing.
+-- `refusal_of` meets its contract: one number after the other.
 use borrow.Author.Tests.{eq-eqb, ne-eqb}
 use Rattle.flat_reader.specs.FlatReader.{refusalOf}
 use Rattle.flat_reader.proofs.refusal_of.Statement.{statement}

@@ -1,4 +1,4 @@
--- `halfword::half_of` meets its contract: two bytes. Assumes nothing.
+-- `halfword::half_of` meets its contract: two bytes.
 use native.Mathlib.Omega.{arith}
 use borrow.Author.Needs.{needs}
 use Rattle.halfword.proofs.half_of.Statement.{statement}

@@ -1,4 +1,4 @@
--- `next_power_of_two` meets its contract: a power of two that is doubled while it is below n. Assumes nothing.
+-- `next_power_of_two` meets its contract: a power of two that is doubled while it is below n.
 use Prim.Native.Nat.{_-_}
 use native.Mathlib.Omega.{arith}
 use Rattle.keccak.proofs.Height.{Climbs, climbs-one, climbs-more, climbs-pos, climbs-next}

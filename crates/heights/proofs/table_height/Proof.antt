@@ -1,4 +1,4 @@
--- `table_height` meets its contract: the larger of the floor and the power. Assumes nothing.
+-- `table_height` meets its contract: the larger of the floor and the power.
 use Prim.Native.Nat.{_-_}
 use borrow.Author.Needs.{needs}
 use Rattle.keccak.proofs.Height.{height-below, height-above}

@@ -1,4 +1,4 @@
--- `is_wh::bus_interaction` meets its contract: the checks, then the tuple of the index. Assumes nothing.
+-- `is_wh::bus_interaction` meets its contract: the checks, then the tuple of the index.
 use mathlib.Core.Path.{_≡_, sym, ap, _∙_}
 use mathlib.Core.List.{List}
 use Prim.Native.Nat.{ℕ}

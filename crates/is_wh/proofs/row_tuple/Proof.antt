@@ -1,4 +1,4 @@
--- `is_wh::row_tuple` meets its contract: the tuple of the index, in three cases. Assumes nothing.
+-- `is_wh::row_tuple` meets its contract: the tuple of the index, in three cases.
 use mathlib.Core.Path.{ap, _∙_}
 use mathlib.Core.List.{[], _∷_}
 use Prim.Native.Nat.{ℕ}

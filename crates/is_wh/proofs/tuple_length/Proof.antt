@@ -1,4 +1,4 @@
--- `is_wh::tuple_length` meets its contract: only the last tuple has two values. Assumes nothing.
+-- `is_wh::tuple_length` meets its contract: only the last tuple has two values.
 use Rattle.is_wh.proofs.Tuples.{one-value, two-values}
 use Rattle.is_wh.proofs.tuple_length.Statement.{statement}
 use Rattle.is_wh.proofs.tuple_length.Tie as tie

@@ -1,4 +1,4 @@
--- `pair` meets its contract: two words are stored. Assumes nothing.
+-- `pair` meets its contract: two words are stored.
 use mathlib.Core.Path.{refl}
 use mathlib.Core.List.{[], _∷_}
 use Rattle.answer.proofs.Laws.{sets-overwrite}

@@ -1,4 +1,4 @@
--- `is_wh_parts::pair_word` meets its contract: the product, then the sum. Assumes nothing.
+-- `is_wh_parts::pair_word` meets its contract: the product, then the sum.
 use mathlib.Core.Path.{ap, _∙_}
 use borrow.Author.Needs.{needs}
 use Rattle.field.specs.Field.{fadd}

@@ -1,4 +1,4 @@
--- `send_one` meets its contract: one word is stored. Assumes nothing.
+-- `send_one` meets its contract: one word is stored.
 use mathlib.Core.Path.{refl}
 use mathlib.Core.List.{[], _∷_}
 use Rattle.answer.proofs.Laws.{sets-overwrite}

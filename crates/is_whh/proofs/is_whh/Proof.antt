@@ -1,4 +1,4 @@
--- `is_whh` meets its contract: one of the template's two tuples. Assumes nothing.
+-- `is_whh` meets its contract: one of the template's two tuples.
 use Rattle.lookup.proofs.Call.{as-tuple}
 use Rattle.is_wh.proofs.Tuples.{pair-sent, low-sent}
 use borrow.Author.Needs.{needs}

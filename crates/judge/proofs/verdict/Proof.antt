@@ -1,4 +1,4 @@
--- `judge::verdict` meets its contract: whole rows, then field elements, then the stages on rows. Assumes nothing.
+-- `judge::verdict` meets its contract: whole rows, then field elements, then the stages on rows.
 use mathlib.Core.Path.{sym, _∙_}
 use borrow.Author.Needs.{needs}
 use Rattle.lists.proofs.First.{place-at, place-nowhere}

@@ -1,4 +1,4 @@
--- `judge_bus::first_unbalanced` meets its contract: no row before this one has an unbalanced tuple. Assumes nothing.
+-- `judge_bus::first_unbalanced` meets its contract: no row before this one has an unbalanced tuple.
 use mathlib.Core.Path.{_≡_, refl, ap, sym, _∙_}
 use mathlib.Core.Logic.{inl, inr}
 use Prim.Native.Nat.{_≤_, _-_}

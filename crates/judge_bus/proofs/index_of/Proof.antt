@@ -1,4 +1,4 @@
--- `judge_bus::index_of` meets its contract, arm by arm. Assumes nothing.
+-- `judge_bus::index_of` meets its contract, arm by arm.
 use borrow.Author.Needs.{needs}
 use Rattle.judge_bus.specs.Pair.{indexOf}
 use Rattle.judge_bus.proofs.Bus.{told-index}

@@ -1,4 +1,4 @@
--- `judge_bus::unbalanced_tuples` meets its contract: what the walk passed is even, so what it left decides. Assumes nothing.
+-- `judge_bus::unbalanced_tuples` meets its contract: what the walk passed is even, so what it left decides.
 use mathlib.Core.Path.{refl, _∙_}
 use native.Mathlib.Omega.{arith}
 use Rattle.judge_tuples.specs.Port.{widthOf}

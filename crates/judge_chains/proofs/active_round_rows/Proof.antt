@@ -1,9 +1,9 @@
--- `judge_chains::active_round_rows` meets its contract: n of the first rows are active. Assumes nothing.
+-- `judge_chains::active_round_rows` meets its contract: n of the first rows are active.
 use mathlib.Core.Path.{_≡_, sym, _∙_}
 use mathlib.Core.Logic.{⊎-elim}
 use Prim.Native.Nat.{_≤_, _-_}
 use native.Mathlib.Omega.{arith}
-use Rattle.lists.specs.First.{count}
+use Rattle.lists.specs.First.{countBelow}
 use Rattle.lists.proofs.First.{count-start, counted-more, counted-skip, counted-le, count-end}
 use Rattle.verdict.specs.Kind.{active}
 use Rattle.verdict.specs.CoreAndRound.{roundLayout}
@@ -11,7 +11,7 @@ use Rattle.judge_chains.proofs.active_round_rows.Statement.{statement}
 use Rattle.judge_chains.proofs.active_round_rows.Tie as tie
 
 abbrev Inv-loop : tie.InvT-loop
-Inv-loop round rows n₀ row₀ n row = (row ≤ rows) × (n ≡ count (active roundLayout round) row)
+Inv-loop round rows n₀ row₀ n row = (row ≤ rows) × (n ≡ countBelow (active roundLayout round) row)
 
 abbrev μ-loop : tie.MeasureT-loop
 μ-loop round rows n₀ row₀ n row = rows - row

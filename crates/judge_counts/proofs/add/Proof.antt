@@ -1,4 +1,4 @@
--- `judge_counts::add` meets its contract. Assumes nothing.
+-- `judge_counts::add` meets its contract.
 use Rattle.judge_counts.proofs.Counting.{with-row}
 use Rattle.judge_counts.proofs.add.Statement.{statement}
 use Rattle.judge_counts.proofs.add.Tie as tie

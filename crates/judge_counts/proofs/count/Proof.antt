@@ -1,4 +1,4 @@
--- `judge_counts::count` meets its contract: a row that is not of the call neither sends one of the tuples nor receives it. Assumes nothing.
+-- `judge_counts::count` meets its contract: a row that is not of the call neither sends one of the tuples nor receives it.
 use mathlib.Core.Path.{refl}
 use mathlib.Core.Logic.{inl, inr}
 use Prim.Native.Nat.{_≤_, _-_}

@@ -1,4 +1,4 @@
--- `judge_counts::of_call` meets its contract: the timestamps decide, then MU. Assumes nothing.
+-- `judge_counts::of_call` meets its contract: the timestamps decide, then MU.
 use mathlib.Core.Path.{sym, _∙_}
 use native.Mathlib.Omega.{arith}
 use denote.Ref.{now}

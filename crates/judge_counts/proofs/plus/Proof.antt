@@ -1,4 +1,4 @@
--- `judge_counts::plus` meets its contract. Assumes nothing.
+-- `judge_counts::plus` meets its contract.
 use native.Mathlib.Omega.{arith}
 use Rattle.judge_counts.proofs.Counting.{one-more, no-more}
 use Rattle.judge_counts.proofs.plus.Statement.{statement}

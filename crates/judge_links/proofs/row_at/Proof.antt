@@ -1,4 +1,4 @@
--- `judge_links::row_at` meets its contract: the part that it gives is the row. Assumes nothing.
+-- `judge_links::row_at` meets its contract: the part that it gives is the row.
 use native.Mathlib.Omega.{arith}
 use denote.Ref.{now}
 use Rattle.judge_scan.proofs.Scan.{row-ends, part-is}

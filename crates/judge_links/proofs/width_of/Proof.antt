@@ -1,4 +1,4 @@
--- `judge_links::width_of` meets its contract, arm by arm. Assumes nothing.
+-- `judge_links::width_of` meets its contract, arm by arm.
 use borrow.Author.Needs.{needs}
 use Rattle.judge_links.specs.Even.{layoutOf}
 use Rattle.judge_links.proofs.Even.{told-width}

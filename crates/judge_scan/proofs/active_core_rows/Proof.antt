@@ -1,9 +1,9 @@
--- `judge_scan::active_core_rows` meets its contract: n of the first rows are active. Assumes nothing.
+-- `judge_scan::active_core_rows` meets its contract: n of the first rows are active.
 use mathlib.Core.Path.{_≡_, sym, _∙_}
 use mathlib.Core.Logic.{⊎-elim}
 use Prim.Native.Nat.{_≤_, _-_}
 use native.Mathlib.Omega.{arith}
-use Rattle.lists.specs.First.{count}
+use Rattle.lists.specs.First.{countBelow}
 use Rattle.lists.proofs.First.{count-start, counted-more, counted-skip, counted-le, count-end}
 use Rattle.verdict.specs.Kind.{active}
 use Rattle.verdict.specs.CoreAndRound.{coreLayout}
@@ -11,7 +11,7 @@ use Rattle.judge_scan.proofs.active_core_rows.Statement.{statement}
 use Rattle.judge_scan.proofs.active_core_rows.Tie as tie
 
 abbrev Inv-loop : tie.InvT-loop
-Inv-loop core rows n₀ row₀ n row = (row ≤ rows) × (n ≡ count (active coreLayout core) row)
+Inv-loop core rows n₀ row₀ n row = (row ≤ rows) × (n ≡ countBelow (active coreLayout core) row)
 
 abbrev μ-loop : tie.MeasureT-loop
 μ-loop core rows n₀ row₀ n row = rows - row

@@ -1,4 +1,4 @@
--- `judge_scan::core_active` meets its contract: MU of row r stands at r rows and MU words. Assumes nothing.
+-- `judge_scan::core_active` meets its contract: MU of row r stands at r rows and MU words.
 use native.Mathlib.Omega.{arith}
 use Rattle.verdict.specs.CoreAndRound.{coreLayout}
 use Rattle.judge_scan.proofs.Scan.{active-word}

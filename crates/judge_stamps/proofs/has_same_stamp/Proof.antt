@@ -1,4 +1,4 @@
--- `judge_stamps::has_same_stamp` meets its contract: no active row before q has the timestamp. Assumes nothing.
+-- `judge_stamps::has_same_stamp` meets its contract: no active row before q has the timestamp.
 use mathlib.Core.Path.{_≡_, sym, _∙_}
 use mathlib.Core.Logic.{⊎-elim}
 use mathlib.Core.Option.{none}

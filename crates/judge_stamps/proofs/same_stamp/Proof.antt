@@ -1,4 +1,4 @@
--- `judge_stamps::same_stamp` meets its contract: the low words decide, then the high ones. Assumes nothing.
+-- `judge_stamps::same_stamp` meets its contract: the low words decide, then the high ones.
 use native.Mathlib.Omega.{arith}
 use Rattle.judge_stamps.proofs.Stamps.{stamps-apart, stamps-by-high}
 use Rattle.judge_stamps.proofs.same_stamp.Statement.{statement}

@@ -1,4 +1,4 @@
--- `judge_tuples::rest_at` meets its contract, arm by arm. Assumes nothing.
+-- `judge_tuples::rest_at` meets its contract, arm by arm.
 use mathlib.Core.Path.{sym, ap}
 use borrow.Author.Needs.{needs}
 use Rattle.judge_tuples.specs.Port.{restAt}

@@ -1,4 +1,4 @@
--- `judge_tuples::same_stamp` meets its contract: the low words decide, then the high ones. Assumes nothing.
+-- `judge_tuples::same_stamp` meets its contract: the low words decide, then the high ones.
 use native.Mathlib.Omega.{arith}
 use Rattle.judge_tuples.proofs.Ports.{low-apart, by-high}
 use Rattle.judge_tuples.proofs.same_stamp.Statement.{statement}

@@ -1,4 +1,4 @@
--- `judge_tuples::same_state` meets its contract: the first lane decides, then the others. Assumes nothing.
+-- `judge_tuples::same_state` meets its contract: the first lane decides, then the others.
 use mathlib.Core.Path.{ap}
 use Prim.Native.Nat.{ℕ, _+_}
 use native.Mathlib.Omega.{arith}

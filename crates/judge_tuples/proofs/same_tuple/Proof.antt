@@ -1,4 +1,4 @@
--- `judge_tuples::same_tuple` meets its contract, one test after the other. Assumes nothing.
+-- `judge_tuples::same_tuple` meets its contract, one test after the other.
 use native.Mathlib.Omega.{arith}
 use mathlib.Core.Path.{sym, _∙_}
 use borrow.Author.Tests.{not-true, not-false}

@@ -1,4 +1,4 @@
--- `judge_tuples::same_words` meets its contract: no word before k differs. Assumes nothing.
+-- `judge_tuples::same_words` meets its contract: no word before k differs.
 use mathlib.Core.Path.{_≡_, sym, ap}
 use mathlib.Core.Bool.{not}
 use mathlib.Core.Option.{none}

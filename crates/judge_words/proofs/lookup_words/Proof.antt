@@ -1,4 +1,4 @@
--- `judge_words::lookup_words` meets its contract: one table, then the other. Assumes nothing.
+-- `judge_words::lookup_words` meets its contract: one table, then the other.
 use borrow.Author.Needs.{needs}
 use Rattle.judge_words.proofs.lookup_words.Statement.{statement}
 use Rattle.judge_words.proofs.lookup_words.Tie as tie

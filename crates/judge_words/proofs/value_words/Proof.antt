@@ -1,4 +1,4 @@
--- `judge_words::value_words` meets its contract: one table, then the other. Assumes nothing.
+-- `judge_words::value_words` meets its contract: one table, then the other.
 use borrow.Author.Needs.{needs}
 use Rattle.judge_words.proofs.value_words.Statement.{statement}
 use Rattle.judge_words.proofs.value_words.Tie as tie

@@ -1,4 +1,4 @@
--- `judge_words::verdict_words` meets its contract: one case after the other. Assumes nothing.
+-- `judge_words::verdict_words` meets its contract: one case after the other.
 use mathlib.Core.Path.{sym, ap, _∙_}
 use borrow.Author.Needs.{needs}
 use Rattle.verdict.specs.Verdict.{verdictWords}

@@ -1,4 +1,4 @@
--- `keccak_carries::carries` meets its contract: the low carry feeds the high one. Assumes nothing.
+-- `keccak_carries::carries` meets its contract: the low carry feeds the high one.
 use Prim.Native.Nat.{_+_, _*_}
 use native.Mathlib.Omega.{arith}
 use Rattle.keccak_carries.proofs.Carried.{low-carried, high-carried}

@@ -1,4 +1,4 @@
--- `keccak_carries::carry` meets its contract: the difference, times the inverse of 2^32. Assumes nothing.
+-- `keccak_carries::carry` meets its contract: the difference, times the inverse of 2^32.
 use mathlib.Core.Path.{ap, _∙_}
 use Prim.Native.Nat.{ℕ}
 use Rattle.field.specs.Field.{fmul, INV-SHIFT-32}

@@ -1,4 +1,4 @@
--- `keccak_carries::word_of_bytes` meets its contract: three products, summed. Assumes nothing.
+-- `keccak_carries::word_of_bytes` meets its contract: three products, summed.
 use mathlib.Core.Path.{ap, ap₂, _∙_}
 use Rattle.field.specs.Field.{fadd}
 use borrow.Author.Needs.{needs}

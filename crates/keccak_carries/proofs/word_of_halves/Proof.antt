@@ -1,4 +1,4 @@
--- `keccak_carries::word_of_halves` meets its contract: the product, then the sum. Assumes nothing.
+-- `keccak_carries::word_of_halves` meets its contract: the product, then the sum.
 use mathlib.Core.Path.{ap, _∙_}
 use borrow.Author.Needs.{needs}
 use Rattle.field.specs.Field.{fadd}

@@ -1,4 +1,4 @@
--- `keccak_keys::is_wh_keys` meets its contract: one check after the other, then the keys. Assumes nothing.
+-- `keccak_keys::is_wh_keys` meets its contract: one check after the other, then the keys.
 use mathlib.Core.Path.{_≡_, refl, _∙_}
 use Prim.Native.Nat.{ℕ, _-_, _*_}
 use native.Mathlib.Omega.{arith}

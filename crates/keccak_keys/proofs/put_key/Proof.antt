@@ -1,4 +1,4 @@
--- `keccak_keys::put_key` meets its contract: the two words of the key. Assumes nothing.
+-- `keccak_keys::put_key` meets its contract: the two words of the key.
 use mathlib.Core.Path.{_≡_, ap, _∙_}
 use Prim.Native.Nat.{ℕ, _+_}
 use mathlib.Core.List.{List}

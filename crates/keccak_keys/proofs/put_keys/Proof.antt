@@ -1,4 +1,4 @@
--- `keccak_keys::put_keys` meets its contract: after i turns the first i keys are stored. Assumes nothing.
+-- `keccak_keys::put_keys` meets its contract: after i turns the first i keys are stored.
 use Prim.Native.Nat.{_+_, _-_, _*_}
 use native.Mathlib.Omega.{arith}
 use Rattle.is_wh.specs.Key.{of-dword}

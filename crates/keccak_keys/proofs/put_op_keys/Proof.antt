@@ -1,4 +1,4 @@
--- `keccak_keys::put_op_keys` meets its contract: after i turns the keys of the first i operations are stored. Assumes nothing.
+-- `keccak_keys::put_op_keys` meets its contract: after i turns the keys of the first i operations are stored.
 use mathlib.Core.Path.{sym, ap, subst, _∙_}
 use Prim.Native.Nat.{ℕ, _+_, _-_, _*_, _≤_, _<_, _/_, _%_, _^_}
 use native.Mathlib.Omega.{arith}

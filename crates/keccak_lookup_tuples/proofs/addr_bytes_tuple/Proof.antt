@@ -1,4 +1,4 @@
--- `keccak_lookup_tuples::addr_bytes_tuple` meets its contract: two columns are stored. Assumes nothing.
+-- `keccak_lookup_tuples::addr_bytes_tuple` meets its contract: two columns are stored.
 use mathlib.Core.Path.{_≡_, ap, _∙_}
 use Prim.Native.Nat.{ℕ, _+_, _*_}
 use native.Mathlib.Omega.{arith}

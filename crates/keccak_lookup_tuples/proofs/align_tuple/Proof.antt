@@ -1,4 +1,4 @@
--- `keccak_lookup_tuples::align_tuple` meets its contract: four words are stored. Assumes nothing.
+-- `keccak_lookup_tuples::align_tuple` meets its contract: four words are stored.
 use native.Mathlib.Omega.{arith}
 use borrow.Author.Needs.{needs}
 use lib.ListN.{length-set}

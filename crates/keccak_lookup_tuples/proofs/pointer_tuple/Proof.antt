@@ -1,4 +1,4 @@
--- `keccak_lookup_tuples::pointer_tuple` meets its contract: a pair, or one value. Assumes nothing.
+-- `keccak_lookup_tuples::pointer_tuple` meets its contract: a pair, or one value.
 use mathlib.Core.Path.{refl}
 use native.Mathlib.Omega.{arith}
 use borrow.Author.Needs.{needs}

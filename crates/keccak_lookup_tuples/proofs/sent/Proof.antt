@@ -1,4 +1,4 @@
--- `keccak_lookup_tuples::sent` meets its contract: the four fields. Assumes nothing.
+-- `keccak_lookup_tuples::sent` meets its contract: the four fields.
 use mathlib.Core.Path.{refl}
 use Rattle.keccak_lookup_tuples.proofs.sent.Statement.{statement}
 use Rattle.keccak_lookup_tuples.proofs.sent.Tie as tie

@@ -1,4 +1,4 @@
--- `keccak_lookups::put_address` meets its contract: after i turns the first i words are stored. Assumes nothing.
+-- `keccak_lookups::put_address` meets its contract: after i turns the first i words are stored.
 use Prim.Native.Nat.{_-_}
 use native.Mathlib.Omega.{arith}
 use Rattle.lists.proofs.Laws.{Filled, filled-none, filled-more, filled-all}

@@ -1,4 +1,4 @@
--- `keccak_lookups::put_align` meets its contract: one word. Assumes nothing.
+-- `keccak_lookups::put_align` meets its contract: one word.
 use borrow.Author.Needs.{needs}
 use Rattle.keccak_lookups.proofs.Stored.{align-stored}
 use Rattle.keccak_lookups.proofs.put_align.Statement.{statement}

@@ -1,4 +1,4 @@
--- `keccak_lookups::put_core_lookups` meets its contract: one group behind the other. Assumes nothing.
+-- `keccak_lookups::put_core_lookups` meets its contract: one group behind the other.
 use native.Mathlib.Omega.{arith}
 use borrow.Author.Needs.{needs}
 use Rattle.keccak_lookups.proofs.Stored.{all-stored}

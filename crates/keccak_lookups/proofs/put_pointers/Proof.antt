@@ -1,4 +1,4 @@
--- `keccak_lookups::put_pointers` meets its contract: after i turns the words of the first i pointers are stored. Assumes nothing.
+-- `keccak_lookups::put_pointers` meets its contract: after i turns the words of the first i pointers are stored.
 use mathlib.Core.Path.{_≡_, subst}
 use Prim.Native.Nat.{ℕ, _+_, _-_, _*_, _/_, _%_}
 use lib.ListN.{length-set}

@@ -1,4 +1,4 @@
--- `keccak_memw_tuples::addr_memw` meets its contract: the four parts. Assumes nothing.
+-- `keccak_memw_tuples::addr_memw` meets its contract: the four parts.
 use mathlib.Core.Path.{refl}
 use native.Mathlib.Omega.{arith}
 use borrow.Author.Needs.{needs}

@@ -1,4 +1,4 @@
--- `keccak_memw_tuples::lane_memw` meets its contract: the four parts. Assumes nothing.
+-- `keccak_memw_tuples::lane_memw` meets its contract: the four parts.
 use Prim.Native.Nat.{_+_, _*_}
 use native.Mathlib.Omega.{arith}
 use borrow.Author.Needs.{needs}

@@ -1,4 +1,4 @@
--- `keccak_memw_tuples::put_access` meets its contract: five words are stored. Assumes nothing.
+-- `keccak_memw_tuples::put_access` meets its contract: five words are stored.
 use native.Mathlib.Omega.{arith}
 use borrow.Author.Needs.{needs}
 use lib.ListN.{length-set}

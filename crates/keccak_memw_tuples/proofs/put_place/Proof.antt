@@ -1,4 +1,4 @@
--- `keccak_memw_tuples::put_place` meets its contract: three words are stored. Assumes nothing.
+-- `keccak_memw_tuples::put_place` meets its contract: three words are stored.
 use native.Mathlib.Omega.{arith}
 use borrow.Author.Needs.{needs}
 use lib.ListN.{length-set}

@@ -1,4 +1,4 @@
--- `keccak_memw_tuples::put_register` meets its contract: eight words are stored. Assumes nothing.
+-- `keccak_memw_tuples::put_register` meets its contract: eight words are stored.
 use borrow.Author.Needs.{needs}
 use Rattle.lists.specs.Tab.{tab, tabFrom}
 use Rattle.keccak_memw_tuples.proofs.put_register.Statement.{statement}

@@ -1,4 +1,4 @@
--- `keccak_rc_trace::generate_keccak_rc_trace` meets its contract: the check, then the table. Assumes nothing.
+-- `keccak_rc_trace::generate_keccak_rc_trace` meets its contract: the check, then the table.
 use mathlib.Core.Path.{refl, _∙_}
 use native.Mathlib.Omega.{arith}
 use borrow.Author.Needs.{needs}

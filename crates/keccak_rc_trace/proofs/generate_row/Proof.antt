@@ -1,4 +1,4 @@
--- `keccak_rc_trace::generate_row` meets its contract: one check after the other, then the row. Assumes nothing.
+-- `keccak_rc_trace::generate_row` meets its contract: one check after the other, then the row.
 use mathlib.Core.Path.{refl, _∙_}
 use native.Mathlib.Omega.{arith}
 use borrow.Author.Needs.{needs}

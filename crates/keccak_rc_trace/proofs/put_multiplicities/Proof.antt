@@ -1,4 +1,4 @@
--- `keccak_rc_trace::put_multiplicities` meets its contract: after r turns MU of the rounds below r is stored. Assumes nothing.
+-- `keccak_rc_trace::put_multiplicities` meets its contract: after r turns MU of the rounds below r is stored.
 use mathlib.Core.Path.{_≡_, refl, ap, _∙_}
 use Prim.Native.Nat.{ℕ, _-_, _≤_}
 use native.Mathlib.Omega.{arith}

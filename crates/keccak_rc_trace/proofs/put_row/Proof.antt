@@ -1,4 +1,4 @@
--- `keccak_rc_trace::put_row` meets its contract: one store, then the bytes of the constant. Assumes nothing.
+-- `keccak_rc_trace::put_row` meets its contract: one store, then the bytes of the constant.
 use mathlib.Core.Path.{ap, _∙_}
 use Prim.Native.Nat.{ℕ, _+_}
 use native.Mathlib.Omega.{arith}

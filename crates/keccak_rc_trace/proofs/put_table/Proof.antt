@@ -1,4 +1,4 @@
--- `keccak_rc_trace::put_table` meets its contract: after r turns the rows below r are stored. Assumes nothing.
+-- `keccak_rc_trace::put_table` meets its contract: after r turns the rows below r are stored.
 use mathlib.Core.Path.{sym}
 use Prim.Native.Nat.{_-_, _*_, _≤_}
 use native.Mathlib.Omega.{arith}

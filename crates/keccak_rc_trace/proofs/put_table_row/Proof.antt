@@ -1,4 +1,4 @@
--- `keccak_rc_trace::put_table_row` meets its contract: the fixed words, then MU. Assumes nothing.
+-- `keccak_rc_trace::put_table_row` meets its contract: the fixed words, then MU.
 use mathlib.Core.Path.{sym, ap, _∙_}
 use Prim.Native.Nat.{ℕ, _+_}
 use borrow.Author.Needs.{needs}

@@ -1,4 +1,4 @@
--- `keccak_rc_trace::update_multiplicities` meets its contract: one check after the other, then the MU column. Assumes nothing.
+-- `keccak_rc_trace::update_multiplicities` meets its contract: one check after the other, then the MU column.
 use mathlib.Core.Path.{refl}
 use borrow.Author.Needs.{needs}
 use borrow.Author.Tests.{le-ltb, lt-ltb}

@@ -1,4 +1,4 @@
--- `keccak_rc_tuples::bus_interaction` meets its contract: the checks, then the nine words. Assumes nothing.
+-- `keccak_rc_tuples::bus_interaction` meets its contract: the checks, then the nine words.
 use mathlib.Core.Path.{_≡_, sym, ap, _∙_}
 use Prim.Native.Nat.{ℕ}
 use native.Mathlib.Omega.{arith}

@@ -1,4 +1,4 @@
--- `keccak_rnd_interactions::put_chi_part` meets its contract: the bytes of π first, then one group behind the other. Assumes nothing.
+-- `keccak_rnd_interactions::put_chi_part` meets its contract: the bytes of π first, then one group behind the other.
 use native.Mathlib.Omega.{arith}
 use Rattle.round_groups.proofs.Pi.{pi-of, pi-below, not-of}
 use Rattle.keccak_rnd_interactions.proofs.Words.{chi-stored}

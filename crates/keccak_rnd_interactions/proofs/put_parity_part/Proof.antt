@@ -1,4 +1,4 @@
--- `keccak_rnd_interactions::put_parity_part` meets its contract: one group behind the other. Assumes nothing.
+-- `keccak_rnd_interactions::put_parity_part` meets its contract: one group behind the other.
 use native.Mathlib.Omega.{arith}
 use Rattle.keccak_rnd_interactions.proofs.Words.{parity-stored}
 use Rattle.keccak_rnd_interactions.proofs.put_parity_part.Statement.{statement}

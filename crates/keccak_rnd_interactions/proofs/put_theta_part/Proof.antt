@@ -1,4 +1,4 @@
--- `keccak_rnd_interactions::put_theta_part` meets its contract: one group behind the other. Assumes nothing.
+-- `keccak_rnd_interactions::put_theta_part` meets its contract: one group behind the other.
 use native.Mathlib.Omega.{arith}
 use Rattle.keccak_rnd_interactions.proofs.Words.{theta-stored}
 use Rattle.keccak_rnd_interactions.proofs.put_theta_part.Statement.{statement}

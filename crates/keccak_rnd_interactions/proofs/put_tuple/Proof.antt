@@ -1,4 +1,4 @@
--- `keccak_rnd_interactions::put_tuple` meets its contract: the values, then the four words before them. Assumes nothing.
+-- `keccak_rnd_interactions::put_tuple` meets its contract: the values, then the four words before them.
 use mathlib.Core.Path.{ap, _∙_}
 use Prim.Native.Nat.{_+_}
 use native.Mathlib.Omega.{arith}

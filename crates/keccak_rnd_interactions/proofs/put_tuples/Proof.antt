@@ -1,4 +1,4 @@
--- `keccak_rnd_interactions::put_tuples` meets its contract: the first three, then the others. Assumes nothing.
+-- `keccak_rnd_interactions::put_tuples` meets its contract: the first three, then the others.
 use native.Mathlib.Omega.{arith}
 use Rattle.keccak_rnd_interactions.proofs.Words.{all-stored}
 use Rattle.keccak_rnd_interactions.proofs.put_tuples.Statement.{statement}

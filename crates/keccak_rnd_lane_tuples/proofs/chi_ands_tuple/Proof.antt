@@ -1,4 +1,4 @@
--- `keccak_rnd_lane_tuples::chi_ands_tuple` meets its contract: three words are read and sent. Assumes nothing.
+-- `keccak_rnd_lane_tuples::chi_ands_tuple` meets its contract: three words are read and sent.
 use native.Mathlib.Omega.{arith}
 use Rattle.byte_tuples.proofs.Sends.{alu-words}
 use borrow.Author.Needs.{needs}

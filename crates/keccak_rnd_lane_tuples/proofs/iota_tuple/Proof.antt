@@ -1,4 +1,4 @@
--- `keccak_rnd_lane_tuples::iota_tuple` meets its contract: three words are read and sent. Assumes nothing.
+-- `keccak_rnd_lane_tuples::iota_tuple` meets its contract: three words are read and sent.
 use native.Mathlib.Omega.{arith}
 use Rattle.keccak_rnd_lane_tuples.proofs.iota_tuple.Statement.{statement}
 use Rattle.keccak_rnd_lane_tuples.proofs.iota_tuple.Tie as tie

@@ -1,4 +1,4 @@
--- `keccak_rnd_lane_tuples::not_pi_at` meets its contract: both words are taken from 255 mod p. Assumes nothing.
+-- `keccak_rnd_lane_tuples::not_pi_at` meets its contract: both words are taken from 255 mod p.
 use mathlib.Core.Path.{ap, ap₂, _∙_}
 use native.Mathlib.Omega.{arith}
 use Rattle.field.specs.Field.{fsub}

@@ -1,4 +1,4 @@
--- `keccak_rnd_lane_tuples::pi_at` meets its contract: the sum of the two words mod p. Assumes nothing.
+-- `keccak_rnd_lane_tuples::pi_at` meets its contract: the sum of the two words mod p.
 use Rattle.keccak_rnd_lane_tuples.proofs.Pi.{left-element, right-element}
 use borrow.Author.Needs.{needs}
 use Rattle.keccak_rnd_lane_tuples.proofs.pi_at.Statement.{statement}

@@ -1,4 +1,4 @@
--- `keccak_rnd_lane_tuples::pi_parts` meets its contract: the two words stand in the columns that the offset names. Assumes nothing.
+-- `keccak_rnd_lane_tuples::pi_parts` meets its contract: the two words stand in the columns that the offset names.
 use native.Mathlib.Omega.{arith}
 use Rattle.keccak_rnd_lane_tuples.proofs.Pi.{left-word, right-word}
 use borrow.Author.Needs.{needs}

@@ -1,4 +1,4 @@
--- `keccak_rnd_lane_tuples::rot_tuple` meets its contract: two words are read and sent. Assumes nothing.
+-- `keccak_rnd_lane_tuples::rot_tuple` meets its contract: two words are read and sent.
 use Rattle.byte_tuples.proofs.Sends.{bytes-words}
 use borrow.Author.Needs.{needs}
 use Rattle.keccak_rnd_lane_tuples.proofs.rot_tuple.Statement.{statement}

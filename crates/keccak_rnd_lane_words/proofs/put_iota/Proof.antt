@@ -1,4 +1,4 @@
--- `keccak_rnd_lane_words::put_iota` meets its contract: one lane. Assumes nothing.
+-- `keccak_rnd_lane_words::put_iota` meets its contract: one lane.
 use native.Mathlib.Omega.{arith}
 use Rattle.round_groups.specs.Parts.{iotaTuples}
 use Rattle.keccak_rnd_lane_words.proofs.put_iota.Statement.{statement}

@@ -1,4 +1,4 @@
--- `keccak_rnd_lookup_tuples::lookup_tuple` meets its contract: the index in three cases. Assumes nothing.
+-- `keccak_rnd_lookup_tuples::lookup_tuple` meets its contract: the index in three cases.
 use native.Mathlib.Omega.{arith}
 use Rattle.lookup.proofs.Call.{fits, as-tuple}
 use Rattle.keccak_rnd_lookup_tuples.proofs.Tuples.{at-iota}

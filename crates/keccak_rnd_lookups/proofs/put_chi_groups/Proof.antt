@@ -1,4 +1,4 @@
--- `keccak_rnd_lookups::put_chi_groups` meets its contract: the bytes of π first, then one group behind the other. Assumes nothing.
+-- `keccak_rnd_lookups::put_chi_groups` meets its contract: the bytes of π first, then one group behind the other.
 use native.Mathlib.Omega.{arith}
 use borrow.Author.Needs.{needs}
 use Rattle.round_groups.proofs.Pi.{pi-of, pi-below, not-of}

@@ -1,4 +1,4 @@
--- `keccak_rnd_lookups::put_chi_part` meets its contract: zeros of a padding row, and else the groups. Assumes nothing.
+-- `keccak_rnd_lookups::put_chi_part` meets its contract: zeros of a padding row, and else the groups.
 use borrow.Author.Needs.{needs}
 use Rattle.keccak_rnd_lookups.proofs.Joins.{chi-zeros}
 use Rattle.keccak_rnd_lookups.proofs.put_chi_part.Statement.{statement}

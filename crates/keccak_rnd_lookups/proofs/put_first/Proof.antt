@@ -1,4 +1,4 @@
--- `keccak_rnd_lookups::put_first` meets its contract: the constant's, behind two zeros. Assumes nothing.
+-- `keccak_rnd_lookups::put_first` meets its contract: the constant's, behind two zeros.
 use lib.ListN.{length-set}
 use native.Mathlib.Omega.{arith}
 use borrow.Author.Needs.{needs}

@@ -1,4 +1,4 @@
--- `keccak_rnd_lookups::put_round_lookups` meets its contract: one group behind the other. Assumes nothing.
+-- `keccak_rnd_lookups::put_round_lookups` meets its contract: one group behind the other.
 use native.Mathlib.Omega.{arith}
 use borrow.Author.Needs.{needs}
 use Rattle.keccak_rnd_lookups.proofs.Joins.{all-stored}

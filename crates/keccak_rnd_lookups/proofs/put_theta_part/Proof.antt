@@ -1,4 +1,4 @@
--- `keccak_rnd_lookups::put_theta_part` meets its contract: one group behind the other. Assumes nothing.
+-- `keccak_rnd_lookups::put_theta_part` meets its contract: one group behind the other.
 use borrow.Author.Needs.{needs}
 use Rattle.keccak_rnd_lookups.proofs.Joins.{theta-stored}
 use Rattle.keccak_rnd_lookups.proofs.put_theta_part.Statement.{statement}

@@ -1,4 +1,4 @@
--- `bytes_of` meets its contract, byte by byte. Assumes nothing.
+-- `bytes_of` meets its contract, byte by byte.
 use mathlib.Core.Path.{refl}
 use Prim.Native.Nat.{_-_}
 use borrow.Author.Needs.{needs}

@@ -1,4 +1,4 @@
--- `cxz_table` meets its contract, column by column. Assumes nothing.
+-- `cxz_table` meets its contract, column by column.
 use Prim.Native.Nat.{_-_}
 use borrow.Author.Needs.{needs}
 use Rattle.keccak_rnd.specs.Parts.{stagesOf, cxzTable}

@@ -1,4 +1,4 @@
--- `left_bytes` meets its contract, halfword by halfword. Assumes nothing.
+-- `left_bytes` meets its contract, halfword by halfword.
 use Prim.Native.Nat.{_-_}
 use borrow.Author.Needs.{needs}
 use Rattle.keccak_rnd.proofs.Tables.{left-eight}

@@ -1,4 +1,4 @@
--- `right_bits` meets its contract, halfword by halfword. Assumes nothing.
+-- `right_bits` meets its contract, halfword by halfword.
 use Prim.Native.Nat.{_-_}
 use borrow.Author.Needs.{needs}
 use Rattle.lists.specs.Tab.{word}

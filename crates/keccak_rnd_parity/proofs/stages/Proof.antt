@@ -1,4 +1,4 @@
--- `stages` meets its contract: the bytes of a xor are the xors of the bytes. Assumes nothing.
+-- `stages` meets its contract: the bytes of a xor are the xors of the bytes.
 use mathlib.Core.Path.{refl}
 use Prim.Native.Nat.{_-_}
 use borrow.Author.Needs.{needs}

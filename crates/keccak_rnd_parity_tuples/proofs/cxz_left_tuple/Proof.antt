@@ -1,4 +1,4 @@
--- `keccak_rnd_parity_tuples::cxz_left_tuple` meets its contract: two words are read and sent. Assumes nothing.
+-- `keccak_rnd_parity_tuples::cxz_left_tuple` meets its contract: two words are read and sent.
 use mathlib.Core.Path.{_≡_, refl, ap}
 use Prim.Native.Nat.{_+_, _*_}
 use native.Mathlib.Omega.{arith}

@@ -1,4 +1,4 @@
--- `keccak_rnd_parity_tuples::dxz_tuple` meets its contract: three words are read and sent. Assumes nothing.
+-- `keccak_rnd_parity_tuples::dxz_tuple` meets its contract: three words are read and sent.
 use native.Mathlib.Omega.{arith}
 use mathlib.Core.Path.{refl}
 use Rattle.byte_tuples.proofs.Sends.{alu-words}

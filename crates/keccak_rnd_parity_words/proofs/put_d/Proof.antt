@@ -1,4 +1,4 @@
--- `keccak_rnd_parity_words::put_d` meets its contract: the bytes of C rotated by one, then the lanes. Assumes nothing.
+-- `keccak_rnd_parity_words::put_d` meets its contract: the bytes of C rotated by one, then the lanes.
 use native.Mathlib.Omega.{arith}
 use Rattle.round_groups.proofs.Groups.{rotated-of}
 use borrow.Author.Needs.{needs}

@@ -1,4 +1,4 @@
--- `keccak_rnd_parity_words::put_d_lanes` meets its contract: after x turns the first x lanes are stored. Assumes nothing.
+-- `keccak_rnd_parity_words::put_d_lanes` meets its contract: after x turns the first x lanes are stored.
 use mathlib.Core.Path.{refl}
 use Prim.Native.Nat.{_+_, _-_, _*_}
 use native.Mathlib.Omega.{arith}

@@ -1,4 +1,4 @@
--- `keccak_rnd_parity_words::put_left` meets its contract: after i turns the first i pairs are stored. Assumes nothing.
+-- `keccak_rnd_parity_words::put_left` meets its contract: after i turns the first i pairs are stored.
 use mathlib.Core.Path.{refl}
 use Prim.Native.Nat.{_+_, _-_, _*_}
 use native.Mathlib.Omega.{arith}

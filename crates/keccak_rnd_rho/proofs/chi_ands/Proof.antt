@@ -1,4 +1,4 @@
--- `chi_ands` meets its contract: it is made of its planes. Assumes nothing.
+-- `chi_ands` meets its contract: it is made of its planes.
 use mathlib.Core.Path.{_∙_}
 use borrow.Author.Needs.{needs}
 use Rattle.keccak_rnd.specs.Row.{andLanes}

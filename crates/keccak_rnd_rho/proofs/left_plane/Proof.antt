@@ -1,4 +1,4 @@
--- `left_plane` meets its contract: the lanes are stored one after the other. Assumes nothing.
+-- `left_plane` meets its contract: the lanes are stored one after the other.
 use mathlib.Core.Path.{refl}
 use Prim.Native.Nat.{_-_, _<_}
 use native.Mathlib.Omega.{arith}

@@ -1,4 +1,4 @@
--- `rot_left` meets its contract: it is made of its planes. Assumes nothing.
+-- `rot_left` meets its contract: it is made of its planes.
 use mathlib.Core.Path.{_∙_}
 use borrow.Author.Needs.{needs}
 use Rattle.fips202.proofs.Steps.{planes-grid}

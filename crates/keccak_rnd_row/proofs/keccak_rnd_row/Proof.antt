@@ -1,4 +1,4 @@
--- `keccak_rnd_row::keccak_rnd_row` meets its contract: one check after the other, then the row. Assumes nothing.
+-- `keccak_rnd_row::keccak_rnd_row` meets its contract: one check after the other, then the row.
 use mathlib.Core.Path.{refl, ap, _∙_}
 use mathlib.Core.List.{List}
 use Prim.Native.Nat.{ℕ, _+_, _-_}

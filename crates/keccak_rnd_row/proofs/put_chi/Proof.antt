@@ -1,4 +1,4 @@
--- `put_chi` meets its contract: five groups, one after the other. Assumes nothing.
+-- `put_chi` meets its contract: five groups, one after the other.
 use mathlib.Core.Path.{refl, sym, ap, _∙_}
 use mathlib.Core.List.{List}
 use Prim.Native.Nat.{ℕ, _-_}

@@ -1,4 +1,4 @@
--- `put_front` meets its contract: seven groups, one after the other. Assumes nothing.
+-- `put_front` meets its contract: seven groups, one after the other.
 use mathlib.Core.Path.{refl, sym}
 use Prim.Native.Nat.{_-_}
 use borrow.Author.Needs.{needs}

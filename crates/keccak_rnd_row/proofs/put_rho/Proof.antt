@@ -1,4 +1,4 @@
--- `put_rho` meets its contract: three groups of lanes. Assumes nothing.
+-- `put_rho` meets its contract: three groups of lanes.
 use mathlib.Core.Path.{refl, sym, ap, _∙_}
 use mathlib.Core.List.{List}
 use Prim.Native.Nat.{ℕ, _-_}

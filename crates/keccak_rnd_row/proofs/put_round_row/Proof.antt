@@ -1,4 +1,4 @@
--- `put_round_row` meets its contract: the three parts make the row. Assumes nothing.
+-- `put_round_row` meets its contract: the three parts make the row.
 use mathlib.Core.Path.{_≡_, refl, sym, ap, _∙_}
 use mathlib.Core.List.{List, []}
 use Prim.Native.Nat.{ℕ, _+_, _-_}

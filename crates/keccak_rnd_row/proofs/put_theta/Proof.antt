@@ -1,4 +1,4 @@
--- `put_theta` meets its contract: the tables are those of the state, so the row's front is. Assumes nothing.
+-- `put_theta` meets its contract: the tables are those of the state, so the row's front is.
 use mathlib.Core.Path.{ap, _∙_}
 use Prim.Native.Nat.{ℕ, _-_}
 use lib.ListN.{getD}

@@ -1,4 +1,4 @@
--- `put_word` meets its contract: one store. Assumes nothing.
+-- `put_word` meets its contract: one store.
 use Prim.Native.Nat.{_-_}
 use borrow.Author.Needs.{needs}
 use Rattle.lists.proofs.Laws.{sets-cell}

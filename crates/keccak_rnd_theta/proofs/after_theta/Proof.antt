@@ -1,4 +1,4 @@
--- `after_theta` meets its contract: the lanes of D, then the planes. Assumes nothing.
+-- `after_theta` meets its contract: the lanes of D, then the planes.
 use mathlib.Core.Path.{ap, _∙_}
 use Prim.Native.Nat.{ℕ, _-_}
 use lib.ListN.{getD}

@@ -1,4 +1,4 @@
--- `d_bytes` meets its contract, byte by byte. Assumes nothing.
+-- `d_bytes` meets its contract, byte by byte.
 use Prim.Native.Nat.{_-_}
 use borrow.Author.Needs.{needs}
 use Rattle.keccak_rnd.proofs.Tables.{d-eight}

@@ -1,4 +1,4 @@
--- `d_table` meets its contract, column by column. Assumes nothing.
+-- `d_table` meets its contract, column by column.
 use Prim.Native.Nat.{_-_}
 use native.Mathlib.Omega.{arith}
 use borrow.Author.Needs.{needs}

@@ -1,4 +1,4 @@
--- `lane_of` meets its contract: eight bytes are four halfwords. Assumes nothing.
+-- `lane_of` meets its contract: eight bytes are four halfwords.
 use Prim.Native.Nat.{_-_}
 use native.Mathlib.Omega.{arith}
 use borrow.Author.Needs.{needs}

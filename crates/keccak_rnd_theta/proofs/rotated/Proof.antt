@@ -1,4 +1,4 @@
--- `rotated` meets its contract, byte by byte. Assumes nothing.
+-- `rotated` meets its contract, byte by byte.
 use mathlib.Core.Path.{refl, sym}
 use Prim.Native.Nat.{_+_, _-_, _<_}
 use native.Mathlib.Omega.{arith}

@@ -1,4 +1,4 @@
--- `keccak_rnd_trace::padding_are_bytes` meets its contract: the check, then the rows past the operations'. Assumes nothing.
+-- `keccak_rnd_trace::padding_are_bytes` meets its contract: the check, then the rows past the operations'.
 use mathlib.Core.Path.{refl}
 use Prim.Native.Nat.{_-_, _*_}
 use native.Mathlib.Omega.{arith}

@@ -1,4 +1,4 @@
--- `keccak_rnd_trace::put_op_rounds` meets its contract: after i turns the rows of the first i operations are stored. Assumes nothing.
+-- `keccak_rnd_trace::put_op_rounds` meets its contract: after i turns the rows of the first i operations are stored.
 use mathlib.Core.Path.{sym, ap, _∙_}
 use mathlib.Core.List.{List}
 use Prim.Native.Nat.{ℕ, _-_, _*_, _≤_}

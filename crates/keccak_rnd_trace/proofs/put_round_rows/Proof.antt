@@ -1,4 +1,4 @@
--- `keccak_rnd_trace::put_round_rows` meets its contract: the rows of the operations, then zeros. Assumes nothing.
+-- `keccak_rnd_trace::put_round_rows` meets its contract: the rows of the operations, then zeros.
 use Prim.Native.Nat.{_-_}
 use native.Mathlib.Omega.{arith}
 use borrow.Author.Needs.{needs}

@@ -1,4 +1,4 @@
--- `keccak_rnd_trace::put_rounds` meets its contract: after r turns r rows are stored, and the state is the one after r rounds. Assumes nothing.
+-- `keccak_rnd_trace::put_rounds` meets its contract: after r turns r rows are stored, and the state is the one after r rounds.
 use mathlib.Core.Path.{_≡_, refl, ap, _∙_}
 use mathlib.Core.List.{List}
 use Prim.Native.Nat.{ℕ, _+_, _-_, _*_, _≤_}

@@ -1,4 +1,4 @@
--- `keccak_rnd_tuples::constant` meets its contract: ROUND, then the eight bytes. Assumes nothing.
+-- `keccak_rnd_tuples::constant` meets its contract: ROUND, then the eight bytes.
 use mathlib.Core.Path.{sym, _∙_}
 use mathlib.Core.List.{_∷_}
 use native.Mathlib.Omega.{arith}

@@ -1,4 +1,4 @@
--- `keccak_rnd_tuples::copy_columns` meets its contract: after x turns the lanes of the first x columns are stored. Assumes nothing.
+-- `keccak_rnd_tuples::copy_columns` meets its contract: after x turns the lanes of the first x columns are stored.
 use Prim.Native.Nat.{_+_, _-_, _*_, _≤_}
 use native.Mathlib.Omega.{arith}
 use Rattle.lists.proofs.Laws.{Filled, filled-none, filled-add, filled-all}

@@ -1,4 +1,4 @@
--- `keccak_rnd_tuples::lookup_length` meets its contract: the index in five cases. Assumes nothing.
+-- `keccak_rnd_tuples::lookup_length` meets its contract: the index in five cases.
 use Rattle.keccak_rnd_tuples.proofs.Tuples.{parity-size, left-size, theta-size, rot-size, chi-size}
 use Rattle.keccak_rnd_tuples.proofs.lookup_length.Statement.{statement}
 use Rattle.keccak_rnd_tuples.proofs.lookup_length.Tie as tie

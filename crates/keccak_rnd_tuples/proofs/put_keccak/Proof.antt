@@ -1,4 +1,4 @@
--- `keccak_rnd_tuples::put_keccak` meets its contract: three words, then the state. Assumes nothing.
+-- `keccak_rnd_tuples::put_keccak` meets its contract: three words, then the state.
 use mathlib.Core.Path.{_∙_}
 use native.Mathlib.Omega.{arith}
 use lib.ListN.{length-set}

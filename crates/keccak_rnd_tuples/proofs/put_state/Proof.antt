@@ -1,4 +1,4 @@
--- `keccak_rnd_tuples::put_state` meets its contract: lane (0, 0), the other lanes of x = 0, the rest. Assumes nothing.
+-- `keccak_rnd_tuples::put_state` meets its contract: lane (0, 0), the other lanes of x = 0, the rest.
 use mathlib.Core.Path.{refl}
 use Prim.Native.Nat.{_+_}
 use native.Mathlib.Omega.{arith}

@@ -1,4 +1,4 @@
--- `keccak_rnd_tuples::received` meets its contract: START at ROUND. Assumes nothing.
+-- `keccak_rnd_tuples::received` meets its contract: START at ROUND.
 use mathlib.Core.Path.{sym}
 use Rattle.lookup.proofs.Call.{as-tuple}
 use Rattle.keccak_rnd_tuples.proofs.Tuples.{at-received, received-interaction}

@@ -1,4 +1,4 @@
--- `keccak_rnd_tuples::sent` meets its contract: the state after the round at ROUND + 1. Assumes nothing.
+-- `keccak_rnd_tuples::sent` meets its contract: the state after the round at ROUND + 1.
 use mathlib.Core.Path.{sym, ap, _∙_}
 use Prim.Native.Nat.{ℕ}
 use Rattle.lists.specs.Tab.{word}

@@ -1,4 +1,4 @@
--- `keccak_rnd_values::put_round_values` meets its contract: the groups are stored one behind the other. Assumes nothing.
+-- `keccak_rnd_values::put_round_values` meets its contract: the groups are stored one behind the other.
 use mathlib.Core.Path.{ap, _∙_}
 use native.Mathlib.Omega.{arith}
 use lib.ListN.{length-set}

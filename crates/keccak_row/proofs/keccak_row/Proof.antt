@@ -1,4 +1,4 @@
--- `keccak_row::keccak_row` meets its contract: one check after the other, then the row. Assumes nothing.
+-- `keccak_row::keccak_row` meets its contract: one check after the other, then the row.
 use mathlib.Core.Path.{_≡_, sym, ap, _∙_, subst}
 use Prim.Native.Nat.{ℕ, _+_, _-_, _<_, _^_}
 use native.Mathlib.Omega.{arith}

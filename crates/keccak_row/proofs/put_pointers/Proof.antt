@@ -1,4 +1,4 @@
--- `keccak_row::put_pointers` meets its contract: after i turns the first 3 i limbs are stored. Assumes nothing.
+-- `keccak_row::put_pointers` meets its contract: after i turns the first 3 i limbs are stored.
 use Prim.Native.Nat.{_+_, _-_, _*_}
 use native.Mathlib.Omega.{arith}
 use Rattle.bits.specs.Bits.{limbAt}

@@ -1,4 +1,4 @@
--- `keccak_state_tuples::keccak_received` meets its contract: the values of OUTPUT. Assumes nothing.
+-- `keccak_state_tuples::keccak_received` meets its contract: the values of OUTPUT.
 use borrow.Author.Needs.{needs}
 use Rattle.keccak_state_tuples.proofs.Tuples.{received-answer}
 use Rattle.keccak.specs.Tuples.{coreReceived}

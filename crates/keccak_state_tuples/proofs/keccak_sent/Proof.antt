@@ -1,4 +1,4 @@
--- `keccak_state_tuples::keccak_sent` meets its contract: the values of INPUT. Assumes nothing.
+-- `keccak_state_tuples::keccak_sent` meets its contract: the values of INPUT.
 use borrow.Author.Needs.{needs}
 use Rattle.keccak_state_tuples.proofs.Tuples.{sent-answer}
 use Rattle.keccak.specs.Tuples.{coreSent}

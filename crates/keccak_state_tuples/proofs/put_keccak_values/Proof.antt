@@ -1,4 +1,4 @@
--- `keccak_state_tuples::put_keccak_values` meets its contract: three words, then the state. Assumes nothing.
+-- `keccak_state_tuples::put_keccak_values` meets its contract: three words, then the state.
 use mathlib.Core.Path.{_≡_, sym, ap, _∙_}
 use Prim.Native.Nat.{ℕ}
 use native.Mathlib.Omega.{arith}

@@ -1,4 +1,4 @@
--- `keccak_state_tuples::put_sheet` meets its contract: after y turns the first y lanes are stored. Assumes nothing.
+-- `keccak_state_tuples::put_sheet` meets its contract: after y turns the first y lanes are stored.
 use Prim.Native.Nat.{_+_, _-_, _*_}
 use native.Mathlib.Omega.{arith}
 use Rattle.lists.proofs.Laws.{Filled, filled-none, filled-add, filled-all}

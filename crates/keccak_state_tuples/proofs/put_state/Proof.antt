@@ -1,4 +1,4 @@
--- `keccak_state_tuples::put_state` meets its contract: after x turns the first x sheets are stored. Assumes nothing.
+-- `keccak_state_tuples::put_state` meets its contract: after x turns the first x sheets are stored.
 use Prim.Native.Nat.{ℕ, _-_, _*_}
 use native.Mathlib.Omega.{arith}
 use Rattle.lists.specs.Tab.{word}

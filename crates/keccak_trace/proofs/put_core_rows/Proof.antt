@@ -1,4 +1,4 @@
--- `keccak_trace::put_core_rows` meets its contract: the rows of the operations, then the padding rows. Assumes nothing.
+-- `keccak_trace::put_core_rows` meets its contract: the rows of the operations, then the padding rows.
 use mathlib.Core.Path.{_≡_, sym, ap, _∙_}
 use Prim.Native.Nat.{ℕ, _+_, _-_, _*_, _≤_}
 use native.Mathlib.Omega.{arith}

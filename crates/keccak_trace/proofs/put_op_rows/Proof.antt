@@ -1,4 +1,4 @@
--- `keccak_trace::put_op_rows` meets its contract: after i turns the rows of the first i operations are stored. Assumes nothing.
+-- `keccak_trace::put_op_rows` meets its contract: after i turns the rows of the first i operations are stored.
 use mathlib.Core.Path.{sym, ap, _∙_, subst}
 use Prim.Native.Nat.{_+_, _-_, _*_, _≤_, _<_, _^_}
 use native.Mathlib.Omega.{arith}

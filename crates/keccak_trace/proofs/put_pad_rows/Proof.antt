@@ -1,4 +1,4 @@
--- `keccak_trace::put_pad_rows` meets its contract: after i turns i padding rows are stored. Assumes nothing.
+-- `keccak_trace::put_pad_rows` meets its contract: after i turns i padding rows are stored.
 use mathlib.Core.Path.{refl}
 use Prim.Native.Nat.{_-_, _*_, _≤_}
 use native.Mathlib.Omega.{arith}

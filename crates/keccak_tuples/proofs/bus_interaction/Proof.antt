@@ -1,4 +1,4 @@
--- `keccak_tuples::bus_interaction` meets its contract: the checks, then the tuple of the index. Assumes nothing.
+-- `keccak_tuples::bus_interaction` meets its contract: the checks, then the tuple of the index.
 use mathlib.Core.Path.{_≡_, sym, ap, _∙_}
 use mathlib.Core.List.{List}
 use mathlib.Core.Option.{none}

@@ -1,4 +1,4 @@
--- `keccak_tuples::ecall_tuple` meets its contract: four words are stored. Assumes nothing.
+-- `keccak_tuples::ecall_tuple` meets its contract: four words are stored.
 use mathlib.Core.Path.{refl}
 use native.Mathlib.Omega.{arith}
 use borrow.Author.Needs.{needs}

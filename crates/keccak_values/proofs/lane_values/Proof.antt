@@ -1,4 +1,4 @@
--- `keccak_values::lane_values` meets its contract: both carries are bits, MU times. Assumes nothing.
+-- `keccak_values::lane_values` meets its contract: both carries are bits, MU times.
 use mathlib.Core.Path.{ap, _∙_}
 use Rattle.keccak_values.proofs.Values.{low-value, high-value}
 use Rattle.templates.specs.Templates.{isBitIf}

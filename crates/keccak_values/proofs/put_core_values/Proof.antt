@@ -1,4 +1,4 @@
--- `keccak_values::put_core_values` meets its contract: the values of the lanes, then the last two. Assumes nothing.
+-- `keccak_values::put_core_values` meets its contract: the values of the lanes, then the last two.
 use mathlib.Core.Path.{_∙_}
 use native.Mathlib.Omega.{arith}
 use Rattle.keccak.specs.Values.{coreValue}

@@ -1,4 +1,4 @@
--- `keccak_values::put_lane_values` meets its contract: after i turns the first 2 i values are stored. Assumes nothing.
+-- `keccak_values::put_lane_values` meets its contract: after i turns the first 2 i values are stored.
 use mathlib.Core.Path.{_≡_, subst}
 use Prim.Native.Nat.{ℕ, _+_, _-_, _*_}
 use native.Mathlib.Omega.{arith}

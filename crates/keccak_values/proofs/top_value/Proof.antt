@@ -1,4 +1,4 @@
--- `keccak_values::top_value` meets its contract: MU times the last lane's high carry. Assumes nothing.
+-- `keccak_values::top_value` meets its contract: MU times the last lane's high carry.
 use mathlib.Core.Path.{ap, _∙_}
 use Rattle.keccak_values.proofs.Values.{top-is}
 use Rattle.field.specs.Field.{fmul}

@@ -1,4 +1,4 @@
--- `joined` meets its contract: five lanes are known by their places. Assumes nothing.
+-- `joined` meets its contract: five lanes are known by their places.
 use borrow.Author.Needs.{needs}
 use Rattle.lists.specs.Tab.{tab, tabFrom}
 use Rattle.fips202.proofs.Steps.{by-places}

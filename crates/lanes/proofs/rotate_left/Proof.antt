@@ -1,4 +1,4 @@
--- `rotate_left` meets its contract: the two parts share no bit, so their bits together are their sum. Assumes nothing.
+-- `rotate_left` meets its contract: the two parts share no bit, so their bits together are their sum.
 use mathlib.Core.Path.{_≡_, sym, ap, ap₂, _∙_, subst}
 use Prim.Native.Nat.{ℕ, _+_, _-_, _*_, _/_, _%_, _^_, _<_}
 use native.Mathlib.Nat.{add-zero, mul-one, mod-eq-of-lt, div-eq-of-lt, div-one}

@@ -1,4 +1,4 @@
--- `lists::put_part` meets its contract: after k turns the first k are stored. Assumes nothing.
+-- `lists::put_part` meets its contract: after k turns the first k are stored.
 use mathlib.Core.Path.{refl}
 use Prim.Native.Nat.{_+_, _-_}
 use native.Mathlib.Omega.{arith}

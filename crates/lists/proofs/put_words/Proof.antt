@@ -1,4 +1,4 @@
--- `lists::put_words` meets its contract: the part from the first word on. Assumes nothing.
+-- `lists::put_words` meets its contract: the part from the first word on.
 use mathlib.Core.Path.{_≡_, ap, _∙_}
 use mathlib.Core.List.{List}
 use Prim.Native.Nat.{ℕ, _+_}

@@ -1,4 +1,4 @@
--- `op_list::put_operations` meets its contract: after i turns the words of i records are stored. Assumes nothing.
+-- `op_list::put_operations` meets its contract: after i turns the words of i records are stored.
 use mathlib.Core.Path.{sym}
 use Prim.Native.Nat.{_-_, _*_, _≤_}
 use native.Mathlib.Nat.{zero-add}

@@ -1,5 +1,5 @@
 -- `op_list::read_operations` meets its contract: the file is read through once for its faults and its count, then its words
--- are stored. Assumes nothing.
+-- are stored.
 use mathlib.Core.Path.{_≡_, sym, ap, _∙_}
 use mathlib.Core.List.{List}
 use Prim.Native.Nat.{ℕ}

@@ -1,4 +1,4 @@
--- `op_list::write_operations` meets its contract: one check after the other, then the records. Assumes nothing.
+-- `op_list::write_operations` meets its contract: one check after the other, then the records.
 use mathlib.Core.Path.{_≡_, refl, _∙_}
 use Prim.Native.Nat.{ℕ, _*_}
 use native.Mathlib.Omega.{arith}

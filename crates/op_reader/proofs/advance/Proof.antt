@@ -1,4 +1,4 @@
--- `op_reader::advance` meets its contract: a whole record, a stretch past the address, or one byte. Assumes nothing.
+-- `op_reader::advance` meets its contract: a whole record, a stretch past the address, or one byte.
 use Rattle.op_file.proofs.Laws.{whole, skip, plain-high, feed-one}
 use Rattle.op_file.specs.declared.Cursor.the-variants.{Reading}
 use Rattle.op_file.specs.Reader.{feedOf}

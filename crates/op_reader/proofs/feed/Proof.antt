@@ -1,4 +1,4 @@
--- `op_reader::feed` meets its contract: after each turn the rest of the piece is left. Assumes nothing.
+-- `op_reader::feed` meets its contract: after each turn the rest of the piece is left.
 use Rattle.op_file.specs.declared.Cursor.{Cursor}
 use Rattle.op_file.proofs.Laws.{feed-go, feed-refused, feed-none}
 use Rattle.op_file.specs.Reader.{feedOf}

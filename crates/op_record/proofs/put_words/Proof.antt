@@ -1,4 +1,4 @@
--- `op_record::put_words` meets its contract: after k turns k bytes are stored. Assumes nothing.
+-- `op_record::put_words` meets its contract: after k turns k bytes are stored.
 use mathlib.Core.Path.{refl}
 use native.Mathlib.Omega.{arith}
 use Prim.Native.Nat.{_-_}

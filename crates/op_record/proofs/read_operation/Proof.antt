@@ -1,4 +1,4 @@
--- `op_record::read_operation` meets its contract: after j turns j words are stored. Assumes nothing.
+-- `op_record::read_operation` meets its contract: after j turns j words are stored.
 use native.Mathlib.Omega.{arith}
 use Prim.Native.Nat.{_-_}
 use lib.ListN.{drop}

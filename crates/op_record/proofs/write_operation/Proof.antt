@@ -1,4 +1,4 @@
--- `op_record::write_operation` meets its contract: the mark, then the bytes of the words. Assumes nothing.
+-- `op_record::write_operation` meets its contract: the mark, then the bytes of the words.
 use mathlib.Core.Path.{_∙_}
 use native.Mathlib.Omega.{arith}
 use lib.ListN.{length-set}

@@ -1,4 +1,4 @@
--- `op_step::byte` meets its contract: the cases of one byte. Assumes nothing.
+-- `op_step::byte` meets its contract: the cases of one byte.
 use Rattle.op_file.specs.declared.Cursor.the-variants.{Reading}
 use Prim.Native.Nat.{ℕ, _+_}
 use Rattle.op_file.specs.Reader.{stepOf}

@@ -1,4 +1,4 @@
--- `op_step::is_wrong` meets its contract: the two bytes of the mark. Assumes nothing.
+-- `op_step::is_wrong` meets its contract: the two bytes of the mark.
 use Rattle.op_file.specs.Reader.{wrong}
 use borrow.Author.Tests.{eq-eqb, ne-eqb}
 use Rattle.op_step.proofs.is_wrong.Statement.{statement}

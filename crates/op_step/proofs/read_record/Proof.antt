@@ -1,4 +1,4 @@
--- `op_step::read_record` meets its contract: the checks of a record in their order. Assumes nothing.
+-- `op_step::read_record` meets its contract: the checks of a record in their order.
 use Rattle.op_file.specs.File.{faultOf, isWhole, recordWord}
 use Rattle.answer.specs.Refusal.{refuseIf}
 use borrow.Author.Tests.{lt-leb, lt-ltb, le-ltb, eq-eqb, ne-eqb}

@@ -1,4 +1,4 @@
--- `op_step::shift` meets its contract: only the address bytes come in. Assumes nothing.
+-- `op_step::shift` meets its contract: only the address bytes come in.
 use Rattle.op_file.specs.Reader.{inAddress}
 use borrow.Author.Tests.{le-leb, lt-leb, lt-ltb, le-ltb}
 use borrow.Author.Needs.{needs}

@@ -1,4 +1,4 @@
--- `op_step::shift_in` meets its contract: a byte comes in from the top. Assumes nothing.
+-- `op_step::shift_in` meets its contract: a byte comes in from the top.
 use Rattle.op_file.specs.Reader.{shifted}
 use native.Mathlib.Omega.{arith}
 use borrow.Author.Needs.{needs}

@@ -1,4 +1,4 @@
--- `op_step::word_at` meets its contract: after j turns j bytes are in. Assumes nothing.
+-- `op_step::word_at` meets its contract: after j turns j bytes are in.
 use Rattle.bits.proofs.Bytes.{pack-part}
 use Rattle.op_file.proofs.Laws.{shifts, shifts-more, shifts-eight}
 use lib.Seq.{getD-drop}

@@ -1,4 +1,4 @@
--- `op_sums::finish` meets its contract: the cases of the cursor. Assumes nothing.
+-- `op_sums::finish` meets its contract: the cases of the cursor.
 use Rattle.op_file.specs.declared.Tally.the-variants.{Counted}
 use Rattle.op_file.specs.Reader.{finishOf}
 use borrow.Author.Tests.{lt-ltb, le-ltb, le-leb, lt-leb, eq-eqb, ne-eqb}

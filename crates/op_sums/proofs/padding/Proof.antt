@@ -1,4 +1,4 @@
--- `op_sums::padding` meets its contract: none where there is no operation. Assumes nothing.
+-- `op_sums::padding` meets its contract: none where there is no operation.
 use Prim.Native.Nat.{_*_}
 use native.Mathlib.Omega.{arith}
 use Rattle.keccak.proofs.Height.{height-ge, height-le}

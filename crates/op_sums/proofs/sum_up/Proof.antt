@@ -1,4 +1,4 @@
--- `op_sums::sum_up` meets its contract: the heights and the multiples of n. Assumes nothing.
+-- `op_sums::sum_up` meets its contract: the heights and the multiples of n.
 use Rattle.op_file.specs.Reader.{countsOf}
 use borrow.Author.Needs.{needs}
 use Rattle.op_sums.proofs.sum_up.Statement.{statement}

@@ -1,4 +1,4 @@
--- `check_operations` meets its contract: one check after the other. Assumes nothing.
+-- `check_operations` meets its contract: one check after the other.
 use mathlib.Core.Path.{_≡_, refl, sym, ap, _∙_}
 use Prim.Native.Nat.{ℕ, _-_}
 use native.Mathlib.Omega.{arith}

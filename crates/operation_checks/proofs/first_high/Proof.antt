@@ -1,4 +1,4 @@
--- `first_high` meets its contract: no address before the i-th is too high. Assumes nothing.
+-- `first_high` meets its contract: no address before the i-th is too high.
 use mathlib.Core.Path.{_≡_, ap, sym}
 use mathlib.Core.Option.{none}
 use Prim.Native.Nat.{_≤_, _-_}

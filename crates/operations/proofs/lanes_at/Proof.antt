@@ -1,4 +1,4 @@
--- `lanes_at` meets its contract: after k turns the first k lanes are read. Assumes nothing.
+-- `lanes_at` meets its contract: after k turns the first k lanes are read.
 use mathlib.Core.Path.{refl}
 use Prim.Native.Nat.{_+_, _-_}
 use native.Mathlib.Omega.{arith}

@@ -1,4 +1,4 @@
--- `operation_at` meets its contract: each field is read from its place. Assumes nothing.
+-- `operation_at` meets its contract: each field is read from its place.
 use Prim.Native.Nat.{_-_}
 use borrow.Author.Needs.{needs}
 use Rattle.keccak.specs.Row.{opAt}

@@ -1,4 +1,4 @@
--- `from_planes` meets its contract: it is `joined` of the planes. Assumes nothing.
+-- `from_planes` meets its contract: it is `joined` of the planes.
 use borrow.Author.Needs.{needs}
 use Rattle.permutation.proofs.from_planes.Statement.{statement}
 use Rattle.permutation.proofs.from_planes.Tie as tie

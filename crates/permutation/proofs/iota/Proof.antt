@@ -1,4 +1,4 @@
--- `iota` meets its contract: lane (0, 0) alone changes. Assumes nothing.
+-- `iota` meets its contract: lane (0, 0) alone changes.
 use mathlib.Core.Path.{ap, _∙_}
 use lib.Bits.{bitXor}
 use lib.ListN.{getD}

@@ -1,4 +1,4 @@
--- `residue::bytes_residue` meets its contract: a tuple that is not sent, and one that is. Assumes nothing.
+-- `residue::bytes_residue` meets its contract: a tuple that is not sent, and one that is.
 use Rattle.residue.proofs.Residue.{idle, sent}
 use Rattle.residue.specs.Residue.{residueOn, bytesResidue}
 use Rattle.residue.proofs.bytes_residue.Statement.{statement}

@@ -1,4 +1,4 @@
--- `residue::half_residue` meets its contract: a tuple that is not sent, and one that is. Assumes nothing.
+-- `residue::half_residue` meets its contract: a tuple that is not sent, and one that is.
 use Rattle.residue.proofs.Residue.{idle, sent}
 use Rattle.residue.specs.Residue.{residueOn}
 use Rattle.residue.proofs.half_residue.Statement.{statement}

@@ -1,4 +1,4 @@
--- `residue::is_wh_residue` meets its contract: a tuple that is not sent, and one that is. Assumes nothing.
+-- `residue::is_wh_residue` meets its contract: a tuple that is not sent, and one that is.
 use Rattle.residue.proofs.Residue.{idle, sent}
 use Rattle.residue.specs.Residue.{residueOn, isWhResidue}
 use Rattle.residue.proofs.is_wh_residue.Statement.{statement}

@@ -1,4 +1,4 @@
--- `residue::put_bytes_lane` meets its contract: after z turns the first z residues are stored. Assumes nothing.
+-- `residue::put_bytes_lane` meets its contract: after z turns the first z residues are stored.
 use Prim.Native.Nat.{_-_}
 use native.Mathlib.Omega.{arith}
 use Rattle.lists.proofs.Laws.{Filled, filled-none, filled-more, filled-all}

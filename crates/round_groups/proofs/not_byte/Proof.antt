@@ -1,4 +1,4 @@
--- `round_groups::not_byte` meets its contract: the difference mod p. Assumes nothing.
+-- `round_groups::not_byte` meets its contract: the difference mod p.
 use native.Mathlib.Omega.{arith}
 use Rattle.round_groups.proofs.not_byte.Statement.{statement}
 use Rattle.round_groups.proofs.not_byte.Tie as tie

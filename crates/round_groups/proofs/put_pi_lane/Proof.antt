@@ -1,4 +1,4 @@
--- `round_groups::put_pi_lane` meets its contract: after z turns the first z bytes are stored. Assumes nothing.
+-- `round_groups::put_pi_lane` meets its contract: after z turns the first z bytes are stored.
 use Prim.Native.Nat.{_+_, _-_, _%_}
 use native.Mathlib.Omega.{arith}
 use Rattle.lists.specs.Tab.{word}

@@ -1,4 +1,4 @@
--- `round_value::element` meets its contract. Assumes nothing.
+-- `round_value::element` meets its contract.
 use mathlib.Core.Path.{refl}
 use borrow.Author.Needs.{needs}
 use Rattle.round_value.proofs.element.Statement.{statement}

@@ -1,4 +1,4 @@
--- `round_value::halfword_at` meets its contract. Assumes nothing.
+-- `round_value::halfword_at` meets its contract.
 use borrow.Author.Needs.{needs}
 use Rattle.round_value.proofs.halfword_at.Statement.{statement}
 use Rattle.round_value.proofs.halfword_at.Tie as tie

@@ -1,4 +1,4 @@
--- `round_value::identity` meets its contract. Assumes nothing.
+-- `round_value::identity` meets its contract.
 use borrow.Author.Needs.{needs}
 use Rattle.round_value.proofs.identity.Statement.{statement}
 use Rattle.round_value.proofs.identity.Tie as tie

@@ -1,4 +1,4 @@
--- `round_value::rotated_c` meets its contract: odd bytes take no carry. Assumes nothing.
+-- `round_value::rotated_c` meets its contract: odd bytes take no carry.
 use native.Mathlib.Omega.{arith}
 use Rattle.round_value.proofs.Rotated.{odd-byte, even-byte}
 use Rattle.round_value.proofs.rotated_c.Statement.{statement}

@@ -1,4 +1,4 @@
--- `bitwise_lookups` is safe and ends: it reads only indexes that were drawn. Assumes nothing.
+-- `bitwise_lookups` is safe and ends: it reads only indexes that were drawn.
 use mathlib.Core.Path.{_≡_}
 use Prim.Native.Nat.{_-_, _≤_}
 use native.Mathlib.Omega.{arith}

@@ -1,4 +1,4 @@
--- `constant_lookups` is safe and ends: each row stands whole in the table. Assumes nothing.
+-- `constant_lookups` is safe and ends: each row stands whole in the table.
 use mathlib.Core.Path.{_≡_}
 use Prim.Native.Nat.{_-_, _≤_}
 use native.Mathlib.Omega.{arith}

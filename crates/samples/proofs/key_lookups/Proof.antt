@@ -1,4 +1,4 @@
--- `key_lookups` is safe and ends: it reads only numbers that were drawn. Assumes nothing.
+-- `key_lookups` is safe and ends: it reads only numbers that were drawn.
 use mathlib.Core.Path.{_≡_}
 use Prim.Native.Nat.{_-_, _≤_}
 use native.Mathlib.Omega.{arith}

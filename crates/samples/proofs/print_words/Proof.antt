@@ -1,4 +1,4 @@
--- `print_words` is safe and ends: it reads only words of the slice. Assumes nothing.
+-- `print_words` is safe and ends: it reads only words of the slice.
 use mathlib.Core.Path.{_≡_}
 use Prim.Native.Nat.{_-_, _≤_}
 use native.Mathlib.Omega.{arith}

@@ -1,4 +1,4 @@
--- `put_drawn` is safe and ends: it writes only words of the slice. Assumes nothing.
+-- `put_drawn` is safe and ends: it writes only words of the slice.
 use mathlib.Core.Path.{_≡_}
 use Prim.Native.Nat.{_+_, _-_, _≤_}
 use native.Mathlib.Omega.{arith}

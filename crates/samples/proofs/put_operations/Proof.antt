@@ -1,4 +1,4 @@
--- `put_operations` is safe and ends: five operations have 260 words. Assumes nothing.
+-- `put_operations` is safe and ends: five operations have 260 words.
 use mathlib.Core.Path.{_≡_}
 use Prim.Native.Nat.{_-_, _≤_}
 use native.Mathlib.Omega.{arith}

@@ -1,4 +1,4 @@
--- `round_rows` is safe. Assumes nothing.
+-- `round_rows` is safe.
 use mathlib.Core.Path.{sym}
 use native.Mathlib.Omega.{arith}
 use lib.Seq.{length-take-le}

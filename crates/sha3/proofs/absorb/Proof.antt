@@ -1,4 +1,4 @@
--- `absorb` meets its contract: after i turns the state has absorbed i blocks. Assumes nothing.
+-- `absorb` meets its contract: after i turns the state has absorbed i blocks.
 use mathlib.Core.Path.{_≡_, refl, sym, ap, _∙_}
 use Prim.Native.Nat.{_-_, _≤_}
 use native.Mathlib.Numerals.{add-one}

@@ -1,4 +1,4 @@
--- `add_block` meets its contract: the lanes are stored one after the other. Assumes nothing.
+-- `add_block` meets its contract: the lanes are stored one after the other.
 use mathlib.Core.Path.{refl, ap}
 use Prim.Native.Nat.{_-_, _/_, _≤_}
 use native.Mathlib.Omega.{arith}

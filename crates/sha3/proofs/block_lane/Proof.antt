@@ -1,4 +1,4 @@
--- `block_lane` meets its contract. Assumes nothing.
+-- `block_lane` meets its contract.
 use mathlib.Core.Path.{_∙_}
 use native.Mathlib.Omega.{arith}
 use borrow.Author.Needs.{needs}

@@ -1,4 +1,4 @@
--- `lane_at` meets its contract: the bytes are taken from the highest down. Assumes nothing.
+-- `lane_at` meets its contract: the bytes are taken from the highest down.
 use Prim.Native.Nat.{_+_, _-_}
 use native.Mathlib.Omega.{arith}
 use borrow.Author.Needs.{needs}

@@ -1,4 +1,4 @@
--- `padded_byte` meets its contract: each way out is a case of the padding. Assumes nothing.
+-- `padded_byte` meets its contract: each way out is a case of the padding.
 use mathlib.Core.Path.{_∙_}
 use native.Mathlib.Omega.{arith}
 use borrow.Author.Needs.{needs}

@@ -1,4 +1,4 @@
--- `sha3_256` meets its contract. Assumes nothing.
+-- `sha3_256` meets its contract.
 use mathlib.Core.Path.{ap, _∙_}
 use mathlib.Core.List.{List}
 use Prim.Native.Nat.{ℕ}

@@ -1,4 +1,4 @@
--- `rho_pi_plane` meets its contract: the lanes are stored one after the other. Assumes nothing.
+-- `rho_pi_plane` meets its contract: the lanes are stored one after the other.
 use mathlib.Core.Path.{refl, ap, _∙_}
 use Prim.Native.Nat.{_+_, _-_, _*_, _%_, _<_}
 use native.Mathlib.Omega.{arith}

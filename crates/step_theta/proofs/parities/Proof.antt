@@ -1,4 +1,4 @@
--- `parities` meets its contract: the parities are stored one after the other. Assumes nothing.
+-- `parities` meets its contract: the parities are stored one after the other.
 use mathlib.Core.Path.{refl}
 use Prim.Native.Nat.{_-_}
 use native.Mathlib.Omega.{arith}

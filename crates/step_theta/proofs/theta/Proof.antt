@@ -1,4 +1,4 @@
--- `theta` meets its contract. Assumes nothing.
+-- `theta` meets its contract.
 use mathlib.Core.Path.{ap, _∙_}
 use mathlib.Core.List.{List}
 use Prim.Native.Nat.{ℕ}

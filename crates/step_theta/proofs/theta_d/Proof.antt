@@ -1,4 +1,4 @@
--- `theta_d` meets its contract: the five lanes are stored one after the other. Assumes nothing.
+-- `theta_d` meets its contract: the five lanes are stored one after the other.
 use mathlib.Core.Path.{refl, ap}
 use Prim.Native.Nat.{_+_, _-_, _%_}
 use native.Mathlib.Omega.{arith}

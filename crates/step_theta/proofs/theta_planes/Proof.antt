@@ -1,4 +1,4 @@
--- `theta_planes` meets its contract: it is made of its planes. Assumes nothing.
+-- `theta_planes` meets its contract: it is made of its planes.
 use mathlib.Core.Path.{_∙_}
 use borrow.Author.Needs.{needs}
 use Rattle.fips202.specs.Lanes.{thetaAt}

@@ -1,5 +1,5 @@
 -- `tally::read_all` meets its contract: the reader stands where the bytes so far take it, and what is left of the
--- most bytes falls. Assumes nothing.
+-- most bytes falls.
 use Prim.Native.Nat.{ℕ, _+_, _≤_, _<_}
 use mathlib.Core.Path.{_≡_, ap, sym, _∙_}
 use mathlib.Core.List.{List, [], _++_}

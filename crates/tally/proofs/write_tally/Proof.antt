@@ -1,4 +1,4 @@
--- `tally::write_tally` meets its contract: the lines fit the lent bytes. Assumes nothing.
+-- `tally::write_tally` meets its contract: the lines fit the lent bytes.
 use Rattle.text.proofs.Laws.{puts-long}
 use lib.Seq.{length-take-le}
 use lib.ListN.{length}

@@ -1,4 +1,4 @@
--- `print_bytes` is safe: each byte stands in the file. Assumes nothing.
+-- `print_bytes` is safe: each byte stands in the file.
 use mathlib.Core.Path.{_≡_, refl}
 use Prim.Native.Nat.{_-_, _≤_}
 use native.Mathlib.Omega.{arith}

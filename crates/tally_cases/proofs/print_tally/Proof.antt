@@ -1,4 +1,4 @@
--- `print_tally` is safe: the lines fit the 512 bytes. Assumes nothing.
+-- `print_tally` is safe: the lines fit the 512 bytes.
 use mathlib.Core.Path.{sym}
 use Prim.Native.Nat.{_≤_}
 use native.Mathlib.Omega.{arith}

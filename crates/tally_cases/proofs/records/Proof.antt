@@ -1,4 +1,4 @@
--- `records` is safe: every place is below 836. Assumes nothing.
+-- `records` is safe: every place is below 836.
 use mathlib.Core.Path.{_≡_, refl}
 use Prim.Native.Nat.{_-_, _≤_}
 use native.Mathlib.Omega.{arith}

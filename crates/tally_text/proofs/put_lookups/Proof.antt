@@ -1,4 +1,4 @@
--- `tally_text::put_lookups` meets its contract: four lines, one after the other. Assumes nothing.
+-- `tally_text::put_lookups` meets its contract: four lines, one after the other.
 use native.Mathlib.Omega.{arith}
 use Rattle.text.proofs.Laws.{puts-then}
 use Rattle.tally_text.specs.Output.{lookupLines}

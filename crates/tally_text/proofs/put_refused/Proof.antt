@@ -1,4 +1,4 @@
--- `tally_text::put_refused` meets its contract: a word and two numbers. Assumes nothing.
+-- `tally_text::put_refused` meets its contract: a word and two numbers.
 use mathlib.Core.Path.{ap}
 use native.Mathlib.Omega.{arith}
 use Rattle.text.specs.Text.{decimalOf, lineOf}

@@ -1,4 +1,4 @@
--- `tally_text::put_tally` meets its contract: the two cases. Assumes nothing.
+-- `tally_text::put_tally` meets its contract: the two cases.
 use mathlib.Core.Path.{sym, ap}
 use Rattle.text.proofs.Laws.{puts-as}
 use Rattle.tally_text.specs.Output.{textOf}

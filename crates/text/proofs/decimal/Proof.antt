@@ -1,4 +1,4 @@
--- `text::decimal` meets its contract: after each turn the digits so far stand at the end. Assumes nothing.
+-- `text::decimal` meets its contract: after each turn the digits so far stand at the end.
 use Rattle.text.proofs.Laws.{room, digit-more, digit-last}
 use Rattle.text.specs.Text.{digitsOf, decimalOf}
 use lib.ListN.{length, drop, length-set}

@@ -1,4 +1,4 @@
--- `text::put` meets its contract: after i turns i bytes are stored. Assumes nothing.
+-- `text::put` meets its contract: after i turns i bytes are stored.
 use Rattle.text.proofs.Laws.{put-more}
 use lib.Seq.{sets, take-length}
 use lib.ListN.{length, getD, set, take, length-set}

@@ -1,4 +1,4 @@
--- `text::put_decimal` meets its contract: the digits, from the first on. Assumes nothing.
+-- `text::put_decimal` meets its contract: the digits, from the first on.
 use Prim.Native.Nat.{_+_, _-_, _≤_}
 use Rattle.text.proofs.Laws.{puts-as, rest-of}
 use lib.ListN.{length, length-drop}

@@ -1,4 +1,4 @@
--- `text::put_line` meets its contract: the name, the number, a line end. Assumes nothing.
+-- `text::put_line` meets its contract: the name, the number, a line end.
 use Rattle.text.proofs.Laws.{puts-then, puts-byte, puts-long}
 use Rattle.text.specs.Text.{lineOf}
 use lib.ListN.{length-set}

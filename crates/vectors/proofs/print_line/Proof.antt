@@ -1,4 +1,4 @@
--- `print_line` is safe: the line has room for the digits of 200 bytes. Assumes nothing.
+-- `print_line` is safe: the line has room for the digits of 200 bytes.
 use mathlib.Core.Path.{_≡_, refl, sym}
 use Prim.Native.Nat.{_+_, _-_, _*_, _≤_}
 use native.Mathlib.Omega.{arith}

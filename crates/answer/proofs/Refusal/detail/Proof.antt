@@ -1,4 +1,4 @@
--- `answer::Refusal::detail` meets its contract: one case after the other. Assumes nothing.
+-- `answer::Refusal::detail` meets its contract: one case after the other.
 use borrow.Author.Needs.{needs}
 use Rattle.answer.proofs.Refusal.detail.Statement.{statement}
 use Rattle.answer.proofs.Refusal.detail.Tie as tie

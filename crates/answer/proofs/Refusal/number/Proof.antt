@@ -1,4 +1,4 @@
--- `answer::Refusal::number` meets its contract: one case after the other. Assumes nothing.
+-- `answer::Refusal::number` meets its contract: one case after the other.
 use borrow.Author.Needs.{needs}
 use Rattle.answer.proofs.Refusal.number.Statement.{statement}
 use Rattle.answer.proofs.Refusal.number.Tie as tie

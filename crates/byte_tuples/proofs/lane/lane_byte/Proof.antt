@@ -1,4 +1,4 @@
--- `byte_tuples::lane::lane_byte` meets its contract: one word is read. Assumes nothing.
+-- `byte_tuples::lane::lane_byte` meets its contract: one word is read.
 use mathlib.Core.Path.{refl}
 use native.Mathlib.Omega.{arith}
 use Rattle.byte_tuples.proofs.lane.lane_byte.Statement.{statement}

@@ -1,4 +1,4 @@
--- `byte_tuples::send::send_alu` meets its contract: four words are stored. Assumes nothing.
+-- `byte_tuples::send::send_alu` meets its contract: four words are stored.
 use mathlib.Core.Path.{refl}
 use mathlib.Core.List.{[], _∷_}
 use native.Mathlib.Omega.{arith}

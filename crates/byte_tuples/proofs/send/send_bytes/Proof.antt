@@ -1,4 +1,4 @@
--- `byte_tuples::send::send_bytes` meets its contract: two words are stored. Assumes nothing.
+-- `byte_tuples::send::send_bytes` meets its contract: two words are stored.
 use mathlib.Core.Path.{refl}
 use mathlib.Core.List.{[], _∷_}
 use Rattle.answer.proofs.Laws.{sets-overwrite}

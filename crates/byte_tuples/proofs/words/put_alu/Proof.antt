@@ -1,4 +1,4 @@
--- `byte_tuples::words::put_alu` meets its contract: the four words before the values, then these. Assumes nothing.
+-- `byte_tuples::words::put_alu` meets its contract: the four words before the values, then these.
 use native.Mathlib.Omega.{arith}
 use lib.ListN.{length-set}
 use Rattle.byte_tuples.proofs.Stored.{alu-stored}

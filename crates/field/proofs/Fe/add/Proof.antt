@@ -1,4 +1,4 @@
--- `field::Fe::add` meets its contract: below p the sum itself, else p is taken off. Assumes nothing.
+-- `field::Fe::add` meets its contract: below p the sum itself, else p is taken off.
 use native.Mathlib.Omega.{arith}
 use borrow.Author.Needs.{needs}
 use Rattle.field.proofs.Fe.add.Statement.{statement}

@@ -1,4 +1,4 @@
--- `field::Fe::mul` meets its contract: the whole product, reduced. Assumes nothing.
+-- `field::Fe::mul` meets its contract: the whole product, reduced.
 use borrow.Author.Needs.{needs}
 use mathlib.Core.Path.{_∙_, ap, subst, sym}
 use Prim.Native.Nat.{ℕ, _%_, _<_}

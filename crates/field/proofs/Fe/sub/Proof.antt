@@ -1,4 +1,4 @@
--- `field::Fe::sub` meets its contract: the difference itself, or from p on down. Assumes nothing.
+-- `field::Fe::sub` meets its contract: the difference itself, or from p on down.
 use native.Mathlib.Omega.{arith}
 use borrow.Author.Needs.{needs}
 use Rattle.field.proofs.Fe.sub.Statement.{statement}

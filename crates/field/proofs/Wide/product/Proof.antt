@@ -1,4 +1,4 @@
--- `field::Wide::product` meets its contract: no column passes a word, and the columns make the product. Assumes nothing.
+-- `field::Wide::product` meets its contract: no column passes a word, and the columns make the product.
 use borrow.Author.Needs.{needs}
 use native.Mathlib.Omega.{arith}
 use Rattle.field.proofs.Product.{whole, times, low-lt, high-lt}

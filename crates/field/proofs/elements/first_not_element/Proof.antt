@@ -1,4 +1,4 @@
--- `field::elements::first_not_element` meets its contract: what the OR shows, or else the scan. Assumes nothing.
+-- `field::elements::first_not_element` meets its contract: what the OR shows, or else the scan.
 use mathlib.Core.Path.{sym, ap}
 use borrow.Author.Needs.{needs}
 use Rattle.lists.specs.First.{placeOf}

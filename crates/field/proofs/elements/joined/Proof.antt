@@ -1,4 +1,4 @@
--- `field::elements::joined` meets its contract: no word read so far is above the OR of them all. Assumes nothing.
+-- `field::elements::joined` meets its contract: no word read so far is above the OR of them all.
 use mathlib.Core.Path.{_≡_}
 use mathlib.Core.Option.{none}
 use Prim.Native.Nat.{ℕ, _≤_, _<_, _-_}

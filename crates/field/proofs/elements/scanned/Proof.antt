@@ -1,4 +1,4 @@
--- `field::elements::scanned` meets its contract: no word before k is p or more. Assumes nothing.
+-- `field::elements::scanned` meets its contract: no word before k is p or more.
 use mathlib.Core.Path.{_≡_, ap, sym}
 use mathlib.Core.Option.{none}
 use Prim.Native.Nat.{_≤_, _-_}

@@ -1,4 +1,4 @@
--- `is_wh::IsWhKey::of_dword` meets its contract. Assumes nothing.
+-- `is_wh::IsWhKey::of_dword` meets its contract.
 use mathlib.Core.Path.{refl}
 use Rattle.is_wh.proofs.IsWhKey.of_dword.Statement.{statement}
 use Rattle.is_wh.proofs.IsWhKey.of_dword.Tie as tie

@@ -1,4 +1,4 @@
--- `keccak_rnd_lookups::rc::constant_residue` meets its contract: after b turns off is the OR of the first b differences. Assumes nothing.
+-- `keccak_rnd_lookups::rc::constant_residue` meets its contract: after b turns off is the OR of the first b differences.
 use mathlib.Core.Path.{_≡_}
 use lib.Bits.{bitXor}
 use Prim.Native.Nat.{_+_, _-_, _≤_}

@@ -1,4 +1,4 @@
--- `keccak_rnd_lookups::rc::rc_residue` meets its contract: one test after the other. Assumes nothing.
+-- `keccak_rnd_lookups::rc::rc_residue` meets its contract: one test after the other.
 use borrow.Author.Needs.{needs}
 use Rattle.residue.proofs.Residue.{idle}
 use Rattle.keccak_rnd_lookups.proofs.Joins.{rc-past, rc-known}

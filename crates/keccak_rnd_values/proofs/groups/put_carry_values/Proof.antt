@@ -1,4 +1,4 @@
--- `keccak_rnd_values::groups::put_carry_values` meets its contract: after i turns the first i values are stored. Assumes nothing.
+-- `keccak_rnd_values::groups::put_carry_values` meets its contract: after i turns the first i values are stored.
 use Prim.Native.Nat.{_-_, _/_, _%_}
 use native.Mathlib.Omega.{arith}
 use Rattle.lists.proofs.Laws.{Filled, filled-none, filled-next, filled-all}

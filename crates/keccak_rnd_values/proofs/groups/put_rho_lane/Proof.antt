@@ -1,4 +1,4 @@
--- `keccak_rnd_values::groups::put_rho_lane` meets its contract: after hw turns the first hw values are stored. Assumes nothing.
+-- `keccak_rnd_values::groups::put_rho_lane` meets its contract: after hw turns the first hw values are stored.
 use mathlib.Core.Path.{_≡_, ap}
 use Prim.Native.Nat.{ℕ, _-_, _%_}
 use native.Mathlib.Omega.{arith}

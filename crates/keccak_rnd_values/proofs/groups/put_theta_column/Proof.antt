@@ -1,4 +1,4 @@
--- `keccak_rnd_values::groups::put_theta_column` meets its contract: after hw turns the first hw values are stored. Assumes nothing.
+-- `keccak_rnd_values::groups::put_theta_column` meets its contract: after hw turns the first hw values are stored.
 use Prim.Native.Nat.{_-_}
 use native.Mathlib.Omega.{arith}
 use Rattle.lists.proofs.Laws.{Filled, filled-none, filled-more, filled-all}

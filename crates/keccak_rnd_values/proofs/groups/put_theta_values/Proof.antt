@@ -1,4 +1,4 @@
--- `keccak_rnd_values::groups::put_theta_values` meets its contract: after x turns the first 4x values are stored. Assumes nothing.
+-- `keccak_rnd_values::groups::put_theta_values` meets its contract: after x turns the first 4x values are stored.
 use Prim.Native.Nat.{_-_, _*_, _/_, _%_}
 use native.Mathlib.Omega.{arith}
 use Rattle.lists.proofs.Laws.{Filled, filled-none, filled-all}

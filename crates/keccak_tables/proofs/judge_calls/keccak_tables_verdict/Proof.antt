@@ -1,4 +1,4 @@
--- `keccak_tables_verdict` meets its contract: the words of the verdict, one by one. Assumes nothing.
+-- `keccak_tables_verdict` meets its contract: the words of the verdict, one by one.
 use mathlib.Core.Path.{_≡_, refl, ap, _∙_}
 use mathlib.Core.List.{List, [], _∷_}
 use Prim.Native.Nat.{ℕ}

@@ -1,4 +1,4 @@
--- `keccak_tables_tally_feed` meets its contract: the reader that it wraps, flat. Assumes nothing.
+-- `keccak_tables_tally_feed` meets its contract: the reader that it wraps, flat.
 use mathlib.Core.Path.{ap, _∙_}
 use Rattle.op_file.specs.Reader.{feedOf}
 use Rattle.op_file.specs.declared.Cursor.{Cursor}

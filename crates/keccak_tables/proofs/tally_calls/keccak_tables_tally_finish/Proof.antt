@@ -1,4 +1,4 @@
--- `keccak_tables_tally_finish` meets its contract: what the call that it wraps says, flat. Assumes nothing.
+-- `keccak_tables_tally_finish` meets its contract: what the call that it wraps says, flat.
 use mathlib.Core.Path.{ap, _∙_}
 use Rattle.op_file.specs.Reader.{finishOf}
 use Rattle.flat_reader.specs.FlatReader.{flatTally}

@@ -1,4 +1,4 @@
--- `keccak_tables_tally_start` meets its contract: the reader that it wraps, flat. Assumes nothing.
+-- `keccak_tables_tally_start` meets its contract: the reader that it wraps, flat.
 use mathlib.Core.Path.{ap, _∙_}
 use Rattle.flat_reader.specs.FlatReader.{flatCursor}
 use borrow.Author.Needs.{needs}

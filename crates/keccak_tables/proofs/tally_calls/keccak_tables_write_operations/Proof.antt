@@ -1,4 +1,4 @@
--- `keccak_tables_write_operations` meets its contract: the answer of the call that it wraps, flat. Assumes nothing.
+-- `keccak_tables_write_operations` meets its contract: the answer of the call that it wraps, flat.
 use mathlib.Core.Path.{ap, _∙_}
 use Rattle.flat.specs.Flat.{flatAnswer}
 use borrow.Author.Needs.{needs}

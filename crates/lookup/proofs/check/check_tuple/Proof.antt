@@ -1,4 +1,4 @@
--- `lookup::check::check_tuple` meets its contract: one check after the other. Assumes nothing.
+-- `lookup::check::check_tuple` meets its contract: one check after the other.
 use mathlib.Core.Path.{refl, sym, _∙_}
 use borrow.Author.Needs.{needs}
 use borrow.Author.Tests.{le-leb, lt-leb, le-ltb, lt-ltb}

@@ -1,4 +1,4 @@
--- `lookup::header::bus_number` meets its contract: case by case. Assumes nothing.
+-- `lookup::header::bus_number` meets its contract: case by case.
 use borrow.Author.Needs.{needs}
 use Rattle.lookup.proofs.header.bus_number.Statement.{statement}
 use Rattle.lookup.proofs.header.bus_number.Tie as tie

@@ -1,4 +1,4 @@
--- `lookup::header::put_header` meets its contract: four stores in a row. Assumes nothing.
+-- `lookup::header::put_header` meets its contract: four stores in a row.
 use native.Mathlib.Omega.{arith}
 use lib.ListN.{length-set}
 use borrow.Author.Needs.{needs}

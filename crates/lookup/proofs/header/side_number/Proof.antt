@@ -1,4 +1,4 @@
--- `lookup::header::side_number` meets its contract: case by case. Assumes nothing.
+-- `lookup::header::side_number` meets its contract: case by case.
 use borrow.Author.Needs.{needs}
 use Rattle.lookup.proofs.header.side_number.Statement.{statement}
 use Rattle.lookup.proofs.header.side_number.Tie as tie

@@ -1,4 +1,4 @@
--- `keccak_f` meets its contract: it is `keccak_p` of 24 rounds. Assumes nothing.
+-- `keccak_f` meets its contract: it is `keccak_p` of 24 rounds.
 use borrow.Author.Needs.{needs}
 use Rattle.permutation.proofs.State.keccak_f.Statement.{statement}
 use Rattle.permutation.proofs.State.keccak_f.Tie as tie

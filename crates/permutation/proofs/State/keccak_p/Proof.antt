@@ -1,4 +1,4 @@
--- `State::keccak_p` meets its contract: after i turns the state has gone through i rounds. Assumes nothing.
+-- `State::keccak_p` meets its contract: after i turns the state has gone through i rounds.
 use mathlib.Core.Path.{_≡_, refl, sym, ap, _∙_, subst}
 use mathlib.Core.List.{List}
 use Prim.Native.Nat.{ℕ, _+_, _-_, _≤_}

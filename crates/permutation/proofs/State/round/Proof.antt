@@ -1,4 +1,4 @@
--- `State::round` meets its contract: the steps follow each other. Assumes nothing.
+-- `State::round` meets its contract: the steps follow each other.
 use mathlib.Core.Path.{_≡_, sym, ap, _∙_, subst}
 use mathlib.Core.List.{List}
 use Prim.Native.Nat.{ℕ}

@@ -1,4 +1,4 @@
--- `State::theta_planes` meets its contract: it is `step_theta::theta_planes` of the lanes. Assumes nothing.
+-- `State::theta_planes` meets its contract: it is `step_theta::theta_planes` of the lanes.
 use borrow.Author.Needs.{needs}
 use Rattle.permutation.proofs.State.theta_planes.Statement.{statement}
 use Rattle.permutation.proofs.State.theta_planes.Tie as tie

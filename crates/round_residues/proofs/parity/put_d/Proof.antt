@@ -1,4 +1,4 @@
--- `round_residues::parity::put_d` meets its contract: the bytes of C rotated by one, then the lanes. Assumes nothing.
+-- `round_residues::parity::put_d` meets its contract: the bytes of C rotated by one, then the lanes.
 use native.Mathlib.Omega.{arith}
 use borrow.Author.Needs.{needs}
 use Rattle.round_groups.proofs.Groups.{rotated-of}

@@ -1,4 +1,4 @@
--- `round_residues::parity::put_left` meets its contract: after i turns the first i residues are stored. Assumes nothing.
+-- `round_residues::parity::put_left` meets its contract: after i turns the first i residues are stored.
 use mathlib.Core.Path.{_∙_, sym, ap}
 use Prim.Native.Nat.{_-_}
 use native.Mathlib.Omega.{arith}

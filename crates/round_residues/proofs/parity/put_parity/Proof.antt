@@ -1,4 +1,4 @@
--- `round_residues::parity::put_parity` meets its contract: after x turns the first x lanes are stored. Assumes nothing.
+-- `round_residues::parity::put_parity` meets its contract: after x turns the first x lanes are stored.
 use Prim.Native.Nat.{_-_, _*_}
 use native.Mathlib.Omega.{arith}
 use Rattle.lists.proofs.Laws.{Filled, filled-none, filled-all}

@@ -1,4 +1,4 @@
--- `templates::AddOperand::constant` meets its contract: one term. Assumes nothing.
+-- `templates::AddOperand::constant` meets its contract: one term.
 use mathlib.Core.Path.{ap}
 use mir.Syntax.{w64}
 use mir.ValLaws.{toZ-ofZ}

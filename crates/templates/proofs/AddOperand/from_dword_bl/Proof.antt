@@ -1,4 +1,4 @@
--- `templates::AddOperand::from_dword_bl` meets its contract: four bytes, and four more. Assumes nothing.
+-- `templates::AddOperand::from_dword_bl` meets its contract: four bytes, and four more.
 use mathlib.Core.Path.{_∙_}
 use Rattle.templates.proofs.Made.{operand, bytes-next}
 use borrow.Author.Needs.{needs}

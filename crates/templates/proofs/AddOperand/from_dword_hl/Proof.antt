@@ -1,4 +1,4 @@
--- `templates::AddOperand::from_dword_hl` meets its contract: two halfwords, and two more. Assumes nothing.
+-- `templates::AddOperand::from_dword_hl` meets its contract: two halfwords, and two more.
 use mathlib.Core.Path.{_∙_}
 use Rattle.templates.proofs.Made.{operand, halves-next}
 use borrow.Author.Needs.{needs}

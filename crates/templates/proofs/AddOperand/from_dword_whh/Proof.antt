@@ -1,4 +1,4 @@
--- `templates::AddOperand::from_dword_whh` meets its contract: two halfwords and a word. Assumes nothing.
+-- `templates::AddOperand::from_dword_whh` meets its contract: two halfwords and a word.
 use Rattle.templates.proofs.Made.{operand}
 use borrow.Author.Needs.{needs}
 use Rattle.templates.proofs.AddOperand.from_dword_whh.Statement.{statement}

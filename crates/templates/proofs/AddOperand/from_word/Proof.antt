@@ -1,4 +1,4 @@
--- `templates::AddOperand::from_word` meets its contract: one column. Assumes nothing.
+-- `templates::AddOperand::from_word` meets its contract: one column.
 use mathlib.Core.Path.{refl}
 use Rattle.templates.proofs.Made.{operand}
 use borrow.Author.Needs.{needs}

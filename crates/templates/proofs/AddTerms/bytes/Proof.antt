@@ -1,4 +1,4 @@
--- `templates::AddTerms::bytes` meets its contract: four terms. Assumes nothing.
+-- `templates::AddTerms::bytes` meets its contract: four terms.
 use mathlib.Core.Path.{refl}
 use borrow.Author.Needs.{needs}
 use Rattle.templates.proofs.AddTerms.bytes.Statement.{statement}
