@@ -3,19 +3,22 @@ use answer::Answer;
 use bitwise::NUM_COLUMNS;
 use bitwise::NUM_LOOKUP_TYPES;
 use bitwise::NUM_PRECOMPUTED_COLS;
-use bitwise_kinds::kind_at;
-use bitwise_kinds::kind_bus;
-use bitwise_kinds::kind_size;
-use bitwise_values::kind_values;
+use kinds::kind_at;
+use kinds::kind_bus;
+use kinds::kind_size;
 use lists::put_words;
 use lookup::BusInteraction;
 use lookup::Side;
 use lookup::TupleAnswer;
 use lookup::check::check_tuple;
+use values::kind_values;
 ghost use mathlib.Core.Path.{_≡_};
 ghost use Rattle.lookup.specs.Call.{tupleAnswerOf, tupleAfter};
 ghost use Rattle.bitwise.specs.Columns.{NUM-COLUMNS, NUM-LOOKUP-TYPES};
 ghost use Rattle.bitwise.specs.Tuples.{bitwiseTuple};
+
+pub mod kinds;
+pub mod values;
 
 // Tuple `index` of a row of 21 columns: its values go into `out`.
 pub fn bus_interaction(row: &[u64], index: usize, out: &mut [u64]) -> TupleAnswer

@@ -8,6 +8,8 @@ use lookup::header::side_number;
 ghost use mathlib.Core.Path.{_≡_};
 ghost use Rattle.flat.specs.Flat.{flatAnswer, flatNumber, flatTuple, flatKey};
 
+pub mod reader;
+
 // Number and detail of the refusal, or 0 and 0 where the call did its work.
 #[repr(C)]
 pub struct FlatAnswer {
@@ -38,6 +40,34 @@ pub struct FlatTuple {
 pub struct FlatKey {
     pub word: u64,
     pub half: u64,
+}
+
+// Where a reader stands: number and detail of the first fault, or 0 and 0 while there is none, and then the whole
+// records, the bytes of the next, and what its address bytes so far make.
+#[repr(C)]
+pub struct FlatCursor {
+    pub number: u64,
+    pub detail: u64,
+    pub records: u64,
+    pub at: usize,
+    pub address: u64,
+}
+
+// Number and detail of the first fault, or 0 and 0 and then the ten numbers.
+#[repr(C)]
+pub struct FlatTally {
+    pub number: u64,
+    pub detail: u64,
+    pub ops: u64,
+    pub core_rows: u64,
+    pub round_rows: u64,
+    pub byte_alu: u64,
+    pub are_bytes: u64,
+    pub keccak_rc: u64,
+    pub is_halfword: u64,
+    pub is_wh: u64,
+    pub memw: u64,
+    pub ecall: u64,
 }
 
 pub fn flat_answer(answer: Answer) -> FlatAnswer

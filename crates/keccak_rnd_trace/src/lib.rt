@@ -36,7 +36,7 @@ fn put_rounds(table: &mut [u64], at: usize, timestamp: u64, first: State)
 {
     let mut state = first;
     let mut r: usize = 0;
-    while r < 24 {
+    while r < ROUNDS {
         let lanes = state.lanes;
         put_round_row(table, at + r * NUM_COLUMNS, timestamp, r, lanes);
         let next = state.round(r);

@@ -1,19 +1,19 @@
 // `tally`, and the operations of a file. A reader is passed by value from call to call; the host lends the file's bytes
 // in pieces, cut anywhere.
 use flat::FlatAnswer;
+use flat::FlatCursor;
+use flat::FlatTally;
 use flat::flat_answer;
-use flat_reader::FlatCursor;
-use flat_reader::FlatTally;
-use flat_reader::cursor_of;
-use flat_reader::flat_cursor;
-use flat_reader::flat_tally;
+use flat::reader::cursor_of;
+use flat::reader::flat_cursor;
+use flat::reader::flat_tally;
 ghost use mathlib.Core.Path.{_≡_};
 ghost use lib.ListN.{length};
 ghost use Rattle.answer.specs.Refusal.{answerOf};
 ghost use Rattle.op_file.specs.Reader.{feedOf, finishOf, fileStart};
 ghost use Rattle.op_list.specs.Files.{readRefusal, writeRefusal, readAfter, writeAfter};
 ghost use Rattle.flat.specs.Flat.{flatAnswer};
-ghost use Rattle.flat_reader.specs.FlatReader.{cursorOf, flatCursor, flatTally};
+ghost use Rattle.flat.specs.FlatReader.{cursorOf, flatCursor, flatTally};
 
 #[no_mangle]
 pub extern "C" fn keccak_tables_tally_start() -> FlatCursor

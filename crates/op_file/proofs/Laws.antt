@@ -229,7 +229,7 @@ next n r e =
 
 -- the end of the file within record n
 ends : (n : ℕ) (r : List ℕ) (a : Sums) (f : Option Refusal) → 0 < length r → length r < 418 → finishOf (feedOf (Reading n 0 0) r) ≡ unless (orElse (faultOf n (418 * n) r) f) a
-unfolding finishOf
+unfolding finishOf orElse
 ends n r a f l h =
     by-le MAX-OPS n
     (λ (m : MAX-OPS ≤ n). ap finishOf (over n 0 r m l) ∙ ap (λ (g : Option Refusal). unless (orElse g f) a) (sym (over-fault n (418 * n) r m)))
@@ -268,7 +268,7 @@ from-cut k i b s h =
 -- a whole record, and the rest after it
 from-whole : (f : Option Refusal) (k i : ℕ) (r rest : List ℕ) → length r ≡ 418 → faultOf i (418 * i) r ≡ f → (i < MAX-OPS → From k (i + 1) rest)
     → finishOf (feedOf (after f (i + 1)) rest) ≡ unless (orElse f (firstFault (i + 1) (418 * i + length r) (split k rest))) (countsOf (i + suc (length (split k rest))))
-unfolding finishOf
+unfolding finishOf orElse
 from-whole (some x) k i r rest l e g = ap finishOf (feed-refused x rest)
 from-whole none k i r rest l e g =
     let at : 418 * (i + 1) ≡ 418 * i + length r = omega arith in

@@ -5,6 +5,7 @@ use mathlib.Core.Path.{_≡_, refl, sym, ap, subst, _∙_}
 use mathlib.Core.Logic.{_↔_}
 use mathlib.Core.List.{List, [], _∷_}
 use mathlib.Core.Option.{Option, none, some, orElse}
+use mathlib.Mathlib.Data.Option.Basic.{orElse-eq-none}
 use native.Mathlib.Omega.{arith}
 use borrow.Author.Tests.{not-false, lt-ltb, le-ltb}
 use lib.ListN.{length, take, drop, length-take, length-drop}
@@ -21,8 +22,8 @@ use Rattle.keccak.proofs.Refusals.{accepted-is}
 use Rattle.op_file.specs.File.{split, recordsOf, recordWord, operationWords, fileWords, faultOf, firstFault, sumsOf, unless, tallyOf, isWhole}
 use Rattle.op_file.specs.declared.Sums.{Sums}
 use Rattle.op_file.specs.declared.Tally.the-variants as tally
-use Rattle.op_record.specs.Record.{recordBytes, wordsFrom}
-use Rattle.op_record.proofs.RoundTrip.{marked}
+use Rattle.op_list.specs.Record.{recordBytes, wordsFrom}
+use Rattle.op_list.proofs.RecordAgain.{marked}
 use Rattle.op_list.specs.Files.{readRefusal, fileBytes, writeRefusal}
 
 pub operation-length : (r : List ℕ) → length (operationWords r) ≡ 52
@@ -36,14 +37,6 @@ words-length file = length-table (length (recordsOf file)) 52 (λ i. operationWo
 pub file-length : (ops : List ℕ) → length (fileBytes ops) ≡ opCount ops * 418
 unfolding fileBytes
 file-length ops = length-table (opCount ops) 418 (λ i. recordBytes (wordsFrom ops (i * 52)))
-
--- two searches that both find nothing
-pub neither : {A : Type 0} (a b : Option A) → orElse a b ≡ none → (a ≡ none) × (b ≡ none)
-neither none b e = (refl, e)
-neither (some x) b e = (e, absurd-some e)
-  where
-    absurd-some : some x ≡ none → b ≡ none
-    absurd-some q = cc
 
 -- a record without a fault is whole
 pub fault-whole : (i at : ℕ) (r : List ℕ) → faultOf i at r ≡ none → isWhole r ≡ true
@@ -59,7 +52,7 @@ split-whole zero i at [] l e = refl
 split-whole zero i at (b ∷ s) l e = absurd (omega arith)
 split-whole (suc k) i at [] l e = refl
 split-whole (suc k) i at (b ∷ s) l e =
-    let q = neither (faultOf i at (take 418 (b ∷ s))) _ e in
+    let q = orElse-eq-none (faultOf i at (take 418 (b ∷ s))) _ .0 e in
     let w = record-whole i at (take 418 (b ∷ s)) (q .0) in
     let t = length-take 418 (b ∷ s) in
     let d = length-drop 418 (b ∷ s) in
@@ -90,16 +83,16 @@ told-file file e =
 -- ---- the clauses of `read_operations`
 module _ (file : List ℕ) (room : ℕ) where
   pub read-fault : {r : Refusal} → firstFault 0 0 (recordsOf file) ≡ some r → readRefusal file room ≡ some r
-  unfolding readRefusal
+  unfolding readRefusal orElse
   read-fault e = rw e refl
 
   module _ (n : ℕ) (e : firstFault 0 0 (recordsOf file) ≡ none) (q : n ≡ length (recordsOf file)) where
     pub read-short : room < n * 52 → readRefusal file room ≡ some (TooShort (n * 52))
-    unfolding readRefusal
+    unfolding readRefusal orElse
     read-short h = rw (e, sym q) (refuse-yes _ _ (lt-ltb _ _ h))
 
     pub read-accepted : n * 52 ≤ room → readRefusal file room ≡ none
-    unfolding readRefusal
+    unfolding readRefusal orElse
     read-accepted h = rw (e, sym q) (refuse-no _ (le-ltb _ _ h) refl)
 
 pub read-words : (file ops : List ℕ) (n : ℕ) {new : List ℕ} → n ≡ length (recordsOf file) → n * 52 ≤ length ops

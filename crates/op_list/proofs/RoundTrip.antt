@@ -2,6 +2,7 @@
 -- written again is the same file.
 use mathlib.Core.Bool.{true}
 use mathlib.Core.Option.{none}
+use mathlib.Mathlib.Data.Option.Basic.{orElse-eq-none}
 use Rattle.keccak.specs.Refusals.{opCount}
 use Prim.Native.Nat.{ℕ, zero, suc, _+_, _*_, _/_, _%_, _^_, _≤_, _<_}
 use mathlib.Core.Path.{_≡_, refl, sym, ap, _∙_, subst}
@@ -13,10 +14,10 @@ use Rattle.lists.specs.Tab.{cellsOf, tab, tableOf, word}
 use Rattle.lists.proofs.Laws.{getD-tab, tab-same, list-tab, table-at}
 use Rattle.bits.proofs.Bytes.{lane-of-bytes}
 use Rattle.op_file.specs.File.{split, recordsOf, recordWord, operationWords, fileWords, isWhole, faultOf, firstFault}
-use Rattle.op_record.specs.Record.{recordBytes, wordsFrom, Record}
-use Rattle.op_record.proofs.RoundTrip.{word-of, written-byte, record-same, word-first, bytes-again}
+use Rattle.op_list.specs.Record.{recordBytes, wordsFrom, Record}
+use Rattle.op_list.proofs.RecordAgain.{word-of, written-byte, record-same, word-first, bytes-again}
 use Rattle.op_list.specs.Files.{fileBytes}
-use Rattle.op_list.proofs.Files.{file-length, words-length, file-whole, neither, fault-whole}
+use Rattle.op_list.proofs.Files.{file-length, words-length, file-whole, fault-whole}
 
 -- a list of n times 418 bytes has n records
 split-count : (k n : ℕ) (s : List ℕ) → length s ≡ n * 418 → length s ≤ k → length (split k s) ≡ n
@@ -71,13 +72,13 @@ split-at : (k i at m : ℕ) (s : List ℕ) → length s ≤ k → firstFault i a
 unfolding split firstFault
 split-at zero i at m s l e h = absurd (omega arith)
 split-at (suc k) i at m [] l e h = absurd (omega arith)
-split-at (suc k) i at zero (b ∷ s) l e h = fault-whole i at (take 418 (b ∷ s)) (neither (faultOf i at (take 418 (b ∷ s))) _ e .0)
+split-at (suc k) i at zero (b ∷ s) l e h = fault-whole i at (take 418 (b ∷ s)) (orElse-eq-none (faultOf i at (take 418 (b ∷ s))) _ .0 e .0)
 split-at (suc k) i at (suc m) (b ∷ s) l e h =
     let r : List ℕ = take 418 (b ∷ s) in
     let q : 418 + m * 418 ≡ suc m * 418 = omega arith in
     let d = length-drop 418 (b ∷ s) in
     ap (λ (t : List ℕ). isWhole (take 418 t)) (ap (λ (x : ℕ). drop x (b ∷ s)) (sym q) ∙ sym (drop-drop (m * 418) 418 (b ∷ s)))
-    ∙ split-at k (i + 1) (at + length r) m (drop 418 (b ∷ s)) (omega (arith, d)) (neither (faultOf i at r) _ e .1) (omega arith)
+    ∙ split-at k (i + 1) (at + length r) m (drop 418 (b ∷ s)) (omega (arith, d)) (orElse-eq-none (faultOf i at r) _ .0 e .1) (omega arith)
 
 module _ (file : List ℕ) (right : firstFault 0 0 (recordsOf file) ≡ none) (small : (k : ℕ) → word file k < 256) where
   abbrev count : ℕ

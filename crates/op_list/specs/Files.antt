@@ -9,7 +9,7 @@ use Rattle.answer.specs.declared.Refusal.{Refusal}
 use Rattle.keccak.specs.Row.{OP-WORDS}
 use Rattle.keccak.specs.Refusals.{opCount, operationsRefusal}
 use Rattle.op_file.specs.File.{RECORD-BYTES, recordsOf, firstFault, fileWords}
-use Rattle.op_record.specs.Record.{recordBytes, wordsFrom}
+use Rattle.op_list.specs.Record.{recordBytes, wordsFrom}
 
 -- `read_operations`: the file as `tally` refuses it; then 3, a list too short for the words
 unfoldable pub readRefusal : List ℕ → ℕ → Option Refusal

@@ -7,10 +7,10 @@ use op_file::RECORD_BYTES;
 use op_file::Tally;
 use op_reader::feed;
 use op_reader::start;
-use op_record::read_operation;
-use op_record::write_operation;
 use op_sums::finish;
 use operations::check_operations;
+use record::read_operation;
+use record::write_operation;
 ghost use mathlib.Core.Path.{_≡_};
 ghost use Prim.Native.Nat.{_*_, _≤_};
 ghost use lib.ListN.{length, drop};
@@ -18,8 +18,10 @@ ghost use lib.Seq.{sets};
 ghost use Rattle.lists.specs.Tab.{tableOf};
 ghost use Rattle.answer.specs.Refusal.{answerOf};
 ghost use Rattle.op_file.specs.File.{operationWords};
-ghost use Rattle.op_record.specs.Record.{recordBytes, wordsFrom};
+ghost use Rattle.op_list.specs.Record.{recordBytes, wordsFrom};
 ghost use Rattle.op_list.specs.Files.{readRefusal, writeRefusal, readAfter, writeAfter};
+
+pub mod record;
 
 // The words of the first n records.
 fn put_operations(file: &[u8], n: usize, ops: &mut [u64])

@@ -2,12 +2,14 @@
 use answer::MAX_OPS;
 use op_file::Cursor;
 use op_file::RECORD_BYTES;
-use op_step::byte;
-use op_step::read_record;
+use step::byte;
+use step::read_record;
 ghost use mathlib.Core.Path.{_≡_};
 ghost use Prim.Native.Nat.{_<_, _≤_};
 ghost use lib.ListN.{length};
 ghost use Rattle.op_file.specs.Reader.{Advanced, feedOf, isRefused, fileStart};
+
+pub mod step;
 
 pub fn start() -> Cursor
     ensures { λ r. ⌜ r ≡ fileStart ⌝ }

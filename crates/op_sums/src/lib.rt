@@ -2,7 +2,10 @@
 use answer::MAX_OPS;
 use answer::Refusal;
 use keccak::MIN_ROWS;
+use keccak_rnd::ARE_BYTES_PER_ROW;
+use keccak_rnd::ROUNDS;
 use op_file::Cursor;
+use op_file::RECORD_BYTES;
 use op_file::Sums;
 use op_file::Tally;
 use operations::table_height;
@@ -19,7 +22,7 @@ fn padding(n: u64, rows: u64) -> u64
     if n == 0 {
         return 0;
     }
-    (rows - n * 24) * 220
+    (rows - n * (ROUNDS as u64)) * (ARE_BYTES_PER_ROW as u64)
 }
 
 // The sums of n operations.
@@ -28,14 +31,14 @@ fn sum_up(n: u64) -> Sums
     ensures { λ r. ⌜ r ≡ countsOf n ⌝ }
 {
     let core_rows = table_height(MIN_ROWS, n as usize);
-    let round_rows = table_height(MIN_ROWS, n as usize * 24) as u64;
+    let round_rows = table_height(MIN_ROWS, n as usize * ROUNDS) as u64;
     Sums {
         ops: n,
         core_rows: core_rows as u64,
         round_rows,
         byte_alu: 19393 * n,
         are_bytes: 5284 * n + padding(n, round_rows),
-        keccak_rc: 24 * n,
+        keccak_rc: (ROUNDS as u64) * n,
         is_halfword: 25 * n,
         is_wh: 25 * n,
         memw: 26 * n,
@@ -59,7 +62,7 @@ pub fn finish(c: Cursor) -> Tally
             if n >= MAX_OPS {
                 return Tally::Refused(Refusal::PastEnd(MAX_OPS + 1));
             }
-            Tally::Refused(Refusal::BadRecord(418 * n))
+            Tally::Refused(Refusal::BadRecord((RECORD_BYTES as u64) * n))
         }
     }
 }

@@ -1,14 +1,17 @@
 // What the writers of both tables read of a flat list of operations: an operation, the checks of the list, the height
 // of a table.
+pub use checks::check_operations;
 pub use heights::table_height;
 use keccak::KeccakOperation;
 use keccak::OP_WORDS;
-pub use operation_checks::check_operations;
 ghost use mathlib.Core.Path.{_≡_};
 ghost use Prim.Native.Nat.{_+_, _*_, _≤_};
 ghost use lib.ListN.{length, getD};
 ghost use Rattle.lists.specs.Tab.{tab};
 ghost use Rattle.keccak.specs.Row.{OP-WORDS, opAt};
+
+pub mod checks;
+pub mod heights;
 
 // 25 words of a list, from `at`.
 pub fn lanes_at(ops: &[u64], at: usize) -> [u64; 25]

@@ -7,6 +7,11 @@ ghost use Prim.Native.Nat.{_≤_, _<_};
 ghost use Rattle.fips202.specs.Fips.{Agree, rnd, keccakP, keccakF};
 ghost use Rattle.fips202.specs.Lanes.{bits, grid, thetaAt, rhoPiL, chiL, iotaL, rndL, keccakPL};
 
+pub mod chi;
+pub mod lanes;
+pub mod rho_pi;
+pub mod theta;
+
 // The state as 25 lanes; lane (x, y) is lanes[x + 5 * y], and bit z of it is A[x, y, z].
 pub struct State {
     pub lanes: [u64; 25],
@@ -36,7 +41,7 @@ impl State {
         ensures { λ t. ⌜ t .lanes ≡ grid (thetaAt (self .lanes) d) ⌝ }
     {
         let a = self.lanes;
-        let lanes = step_theta::theta_planes(a, d);
+        let lanes = theta::theta_planes(a, d);
         State { lanes }
     }
 
@@ -44,7 +49,7 @@ impl State {
         ensures { λ t. ⌜ t .lanes ≡ rhoPiL (self .lanes) ⌝ }
     {
         let a = self.lanes;
-        let lanes = step_rho_pi::rho_pi(a);
+        let lanes = rho_pi::rho_pi(a);
         State { lanes }
     }
 
@@ -52,7 +57,7 @@ impl State {
         ensures { λ t. ⌜ t .lanes ≡ chiL (self .lanes) ⌝ }
     {
         let a = self.lanes;
-        let lanes = step_chi::chi(a);
+        let lanes = chi::chi(a);
         State { lanes }
     }
 
@@ -63,8 +68,8 @@ impl State {
         ensures fips { λ t. ⌜ Agree (bits (t .lanes)) (rnd (bits (self .lanes)) r) ⌝ }
     {
         let a = self.lanes;
-        let moved = step_rho_pi::rho_pi(step_theta::theta(a));
-        let lanes = iota(step_chi::chi(moved), r);
+        let moved = rho_pi::rho_pi(theta::theta(a));
+        let lanes = iota(chi::chi(moved), r);
         State { lanes }
     }
 

@@ -5,8 +5,8 @@ use native.Mathlib.Nat.{zero-add}
 use native.Mathlib.Omega.{arith}
 use Rattle.lists.specs.Tab.{cellsOf}
 use Rattle.lists.proofs.Laws.{Filled, filled-none, filled-row, filled-rows}
-use Rattle.op_record.specs.Record.{recordBytes, wordsFrom}
-use Rattle.op_record.proofs.RoundTrip.{record-length}
+use Rattle.op_list.specs.Record.{recordBytes, wordsFrom}
+use Rattle.op_list.proofs.RecordAgain.{record-length}
 use Rattle.op_list.proofs.put_records.Statement.{statement}
 use Rattle.op_list.proofs.put_records.Tie as tie
 

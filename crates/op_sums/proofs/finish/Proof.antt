@@ -34,8 +34,8 @@ returns-3 : tie.Need-returns-3
 unfolding finishOf
 returns-3 c = sym (ap finishOf (c .before .before .before .before .c2 .given .1) ∙ simp (le-ltb _ _ (c .before .before .if1 .left), ne-eqb _ _ (c .before .if2 .left), le-leb _ _ (c .if3 .taken)))
 
-mul-t13 : tie.Need-mul-t13
-mul-t13 c = search needs
+mul-t14 : tie.Need-mul-t14
+mul-t14 c = search needs
 
 returns-4 : tie.Need-returns-4
 unfolding finishOf
@@ -57,6 +57,6 @@ finish-spec =
     returns-2
     add-t11
     returns-3
-    mul-t13
+    mul-t14
     returns-4
     returns-5)

@@ -25,9 +25,6 @@ padding-requires c κs = search needs
 add-t11 : tie.Need-add-t11
 add-t11 c = search needs
 
-mul-t12 : tie.Need-mul-t12
-mul-t12 c = search needs
-
 mul-t13 : tie.Need-mul-t13
 mul-t13 c = search needs
 
@@ -36,6 +33,9 @@ mul-t14 c = search needs
 
 mul-t15 : tie.Need-mul-t15
 mul-t15 c = search needs
+
+mul-t16 : tie.Need-mul-t16
+mul-t16 c = search needs
 
 returns : tie.Need-returns
 unfolding countsOf
@@ -52,8 +52,8 @@ sum-up-spec =
     mul-t9
     padding-requires
     add-t11
-    mul-t12
     mul-t13
     mul-t14
     mul-t15
+    mul-t16
     returns)

@@ -2,7 +2,7 @@
 use mathlib.Core.Path.{ap, _∙_}
 use Rattle.op_file.specs.Reader.{feedOf}
 use Rattle.op_file.specs.declared.Cursor.{Cursor}
-use Rattle.flat_reader.specs.FlatReader.{flatCursor}
+use Rattle.flat.specs.FlatReader.{flatCursor}
 use borrow.Author.Needs.{needs}
 use Rattle.keccak_tables.proofs.tally_calls.keccak_tables_tally_feed.Statement.{statement}
 use Rattle.keccak_tables.proofs.tally_calls.keccak_tables_tally_feed.Tie as tie

@@ -1,7 +1,7 @@
 -- `keccak_tables_tally_finish` meets its contract: what the call that it wraps says, flat.
 use mathlib.Core.Path.{ap, _∙_}
 use Rattle.op_file.specs.Reader.{finishOf}
-use Rattle.flat_reader.specs.FlatReader.{flatTally}
+use Rattle.flat.specs.FlatReader.{flatTally}
 use borrow.Author.Needs.{needs}
 use Rattle.keccak_tables.proofs.tally_calls.keccak_tables_tally_finish.Statement.{statement}
 use Rattle.keccak_tables.proofs.tally_calls.keccak_tables_tally_finish.Tie as tie

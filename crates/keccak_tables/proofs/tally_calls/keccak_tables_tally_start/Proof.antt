@@ -1,6 +1,6 @@
 -- `keccak_tables_tally_start` meets its contract: the reader that it wraps, flat.
 use mathlib.Core.Path.{ap, _∙_}
-use Rattle.flat_reader.specs.FlatReader.{flatCursor}
+use Rattle.flat.specs.FlatReader.{flatCursor}
 use borrow.Author.Needs.{needs}
 use Rattle.keccak_tables.proofs.tally_calls.keccak_tables_tally_start.Statement.{statement}
 use Rattle.keccak_tables.proofs.tally_calls.keccak_tables_tally_start.Tie as tie

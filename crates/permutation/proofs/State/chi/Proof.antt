@@ -1,4 +1,4 @@
--- `State::chi` meets its contract: it is `step_chi::chi` of the lanes.
+-- `State::chi` meets its contract: it is `chi::chi` of the lanes.
 use borrow.Author.Needs.{needs}
 use Rattle.permutation.proofs.State.chi.Statement.{statement}
 use Rattle.permutation.proofs.State.chi.Tie as tie

@@ -1,4 +1,4 @@
--- `State::rho_pi` meets its contract: it is `step_rho_pi::rho_pi` of the lanes.
+-- `State::rho_pi` meets its contract: it is `rho_pi::rho_pi` of the lanes.
 use borrow.Author.Needs.{needs}
 use Rattle.permutation.proofs.State.rho_pi.Statement.{statement}
 use Rattle.permutation.proofs.State.rho_pi.Tie as tie

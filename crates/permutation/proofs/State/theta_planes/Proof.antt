@@ -1,4 +1,4 @@
--- `State::theta_planes` meets its contract: it is `step_theta::theta_planes` of the lanes.
+-- `State::theta_planes` meets its contract: it is `theta::theta_planes` of the lanes.
 use borrow.Author.Needs.{needs}
 use Rattle.permutation.proofs.State.theta_planes.Statement.{statement}
 use Rattle.permutation.proofs.State.theta_planes.Tie as tie

@@ -1,0 +1,98 @@
+// A reader of an operation file, and what it says at the end, as flat structs of words.
+use super::FlatCursor;
+use super::FlatTally;
+use answer::Refusal;
+use op_file::Cursor;
+use op_file::Tally;
+ghost use mathlib.Core.Path.{_≡_};
+ghost use Rattle.flat.specs.FlatReader.{refusalOf, cursorOf, flatCursor, flatTally};
+
+fn refusal_of(number: u64, detail: u64) -> Refusal
+    ensures { λ r. ⌜ r ≡ refusalOf number detail ⌝ }
+{
+    if number == 1 {
+        return Refusal::PastEnd(detail);
+    }
+    if number == 2 {
+        return Refusal::NotWhole(detail);
+    }
+    if number == 3 {
+        return Refusal::TooShort(detail);
+    }
+    if number == 4 {
+        return Refusal::HighAddress(detail);
+    }
+    if number == 5 {
+        return Refusal::NotElement(detail);
+    }
+    Refusal::BadRecord(detail)
+}
+
+pub fn cursor_of(c: FlatCursor) -> Cursor
+    ensures { λ r. ⌜ r ≡ cursorOf c ⌝ }
+{
+    if c.number == 0 {
+        return Cursor::Reading {
+            n: c.records,
+            at: c.at,
+            addr: c.address,
+        };
+    }
+    Cursor::Refused(refusal_of(c.number, c.detail))
+}
+
+pub fn flat_cursor(c: Cursor) -> FlatCursor
+    ensures { λ r. ⌜ r ≡ flatCursor c ⌝ }
+{
+    match c {
+        Cursor::Reading { n, at, addr } => FlatCursor {
+            number: 0,
+            detail: 0,
+            records: n,
+            at,
+            address: addr,
+        },
+        Cursor::Refused(refusal) => FlatCursor {
+            number: refusal.number(),
+            detail: refusal.detail(),
+            records: 0,
+            at: 0,
+            address: 0,
+        },
+    }
+}
+
+pub fn flat_tally(tally: Tally) -> FlatTally
+    ensures { λ r. ⌜ r ≡ flatTally tally ⌝ }
+{
+    match tally {
+        Tally::Counted(sums) => FlatTally {
+            number: 0,
+            detail: 0,
+            ops: sums.ops,
+            core_rows: sums.core_rows,
+            round_rows: sums.round_rows,
+            byte_alu: sums.byte_alu,
+            are_bytes: sums.are_bytes,
+            keccak_rc: sums.keccak_rc,
+            is_halfword: sums.is_halfword,
+            is_wh: sums.is_wh,
+            memw: sums.memw,
+            ecall: sums.ecall,
+        },
+        Tally::Refused(refusal) => FlatTally {
+            number: refusal.number(),
+            detail: refusal.detail(),
+            ops: 0,
+            core_rows: 0,
+            round_rows: 0,
+            byte_alu: 0,
+            are_bytes: 0,
+            keccak_rc: 0,
+            is_halfword: 0,
+            is_wh: 0,
+            memw: 0,
+            ecall: 0,
+        },
+    }
+}
