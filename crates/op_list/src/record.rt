@@ -1,4 +1,5 @@
 // An operation between the 418 bytes of its record and its 52 words in a flat list, both ways.
+use keccak::OP_WORDS;
 use op_reader::step::word_at;
 ghost use mathlib.Core.Path.{_≡_};
 ghost use Prim.Native.Nat.{_+_, _≤_};
@@ -14,7 +15,7 @@ pub fn read_operation(bytes: &[u8], from: usize, ops: &mut [u64], at: usize)
     ensures { λ _. ⌜ now (ops .exit) ≡ sets (now (ops .entry)) at (operationWords (drop from (now (bytes .entry)))) ⌝ }
 {
     let mut j: usize = 0;
-    while j < 52 {
+    while j < OP_WORDS {
         ops[at + j] = word_at(bytes, from + 2 + 8 * j);
         j += 1;
     }

@@ -1,4 +1,5 @@
 // FIPS 202, sections 3.2 and 3.3: the state of 25 lanes, its steps, the round, Keccak-p[1600, nr] and Keccak-f[1600].
+use fips202::ROUNDS;
 use fips202::round_constant;
 use lanes::joined;
 ghost use mathlib.Core.Path.{_≡_};
@@ -81,7 +82,7 @@ impl State {
     {
         let mut state = self;
         for i in 0..nr {
-            state = state.round(24 - nr + i);
+            state = state.round(ROUNDS - nr + i);
         }
         state
     }
@@ -91,6 +92,6 @@ impl State {
         ensures lanes { λ t. ⌜ t .lanes ≡ keccakPL 24 (self .lanes) ⌝ }
         ensures fips { λ t. ⌜ Agree (bits (t .lanes)) (keccakF (bits (self .lanes))) ⌝ }
     {
-        self.keccak_p(24)
+        self.keccak_p(ROUNDS)
     }
 }
