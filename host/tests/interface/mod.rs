@@ -69,7 +69,7 @@ pub fn host_source(name: &str) -> String {
 
 /// The sources of the exports and of the structs that they pass.
 fn export_sources() -> String {
-    let mut files: Vec<PathBuf> = ["keccak_tables", "flat", "flat_reader"]
+    let mut files: Vec<PathBuf> = ["keccak_tables", "flat"]
         .iter()
         .flat_map(|name| fs::read_dir(root().join("crates").join(name).join("src")).expect("a crate's folder"))
         .flatten()
