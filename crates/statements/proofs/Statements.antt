@@ -14,17 +14,19 @@ use mathlib.Core.Bool.{true}
 use mathlib.Core.Option.{some}
 use mathlib.Core.Logic.{_⊎_, _↔_}
 use mathlib.Core.List.{List, [], _∷_, _++_}
-use Prim.Native.Nat.{ℕ, suc, _+_, _*_, _%_, _^_, _≤_, _<_}
+use Prim.Native.Nat.{ℕ, suc, _+_, _*_, _/_, _%_, _^_, _≤_, _<_}
 use native.Mathlib.Nat.{zero-div}
 use native.Mathlib.Omega.{arith}
+use lib.Dec.{ltb}
 use lib.ListN.{length, replicate}
 use Rattle.lists.specs.Tab.{word, rowAt}
+use Rattle.lists.specs.First.{countBelow}
 use Rattle.field.specs.Field.{p, INV-SHIFT-32}
 use Rattle.field.proofs.Field.{inv-shift-32}
 use Rattle.answer.specs.Limits.{MAX-OPS}
 use Rattle.answer.specs.Refusal.{accepted, refusalNumber}
 use Rattle.answer.specs.declared.Refusal.the-variants.{HighAddress, PastEnd}
-use Rattle.fips202.specs.Fips.{Agree, rnd, keccakF}
+use Rattle.fips202.specs.Fips.{Agree, RHO, rnd, keccakF}
 use Rattle.bits.specs.Bits.{byteAt}
 use Rattle.fips202.specs.Lanes.{Lanes, bits, roundsL}
 use Rattle.fips202.specs.Tables.{roundConstant}
@@ -40,8 +42,8 @@ use Rattle.keccak_rnd.specs.Columns.{MU, ROUND, START, THETA, rc}
 use Rattle.keccak_rnd.specs.Row.{roundRow, roundTable, roundHeight, padding-are-bytes}
 use Rattle.keccak_rnd.specs.Tuples.{outLanes}
 use Rattle.keccak_rnd.specs.Passes.{RoundPasses}
-use Rattle.keccak_rnd.specs.Carries.{Carries}
-use Rattle.keccak_rnd.proofs.Carries.{carries}
+use Rattle.keccak_rnd.specs.Carries.{Carries, RhoCarries}
+use Rattle.keccak_rnd.proofs.Carries.{carries, rho-carries}
 use Rattle.keccak_rnd.proofs.Cases.{heights, paddings, row-zero-0, row-zero-23, row-ones-0, row-one-theta}
 use Rattle.keccak_rnd.proofs.Cells.{written-cells}
 use Rattle.keccak_rnd.proofs.Completeness.{round-written}
@@ -134,6 +136,17 @@ one-row row e small ok on = round-unique row small ok on e
 pub carry-places : (row : List ℕ) → ((k : ℕ) → word row k < p) → RoundPasses row → word row MU ≡ 1 →
     (x : ℕ) → x < 5 → Carries row (stateLanes START row) x
 carry-places = carries
+
+-- of a lane that ρ rotates by 16 q + r: halfword h takes the low part of halfword h - q and the carry of halfword
+-- h - q - 1, mod 4, and so do its bytes, odd ones too
+pub rho-carry-places : (row : List ℕ) → ((k : ℕ) → word row k < p) → RoundPasses row → word row MU ≡ 1 →
+    (x y : ℕ) → x < 5 → y < 5 → RhoCarries row (stateLanes START row) x y
+rho-carry-places = rho-carries
+
+-- q is 0, so that byte 0 takes the carry of halfword 3, in 9 of the 25 lanes; in the other 16 it takes another's
+pub carry-of-halfword-3 : countBelow (λ l. ltb (RHO (l % 5) (l / 5)) 16) 25 ≡ 9
+unfolding countBelow
+carry-of-halfword-3 = refl
 
 -- ---- the cases
 -- "START zero, round 0: lane 0 is 1, others 0."
