@@ -26,7 +26,7 @@ use Rattle.field.proofs.Field.{inv-shift-32}
 use Rattle.answer.specs.Limits.{MAX-OPS}
 use Rattle.answer.specs.Refusal.{accepted, refusalNumber}
 use Rattle.answer.specs.declared.Refusal.the-variants.{HighAddress, PastEnd}
-use Rattle.fips202.specs.Fips.{Agree, RHO, rnd, keccakF}
+use Rattle.fips202.specs.Fips.{Agree, offset, RHO, rnd, keccakF}
 use Rattle.bits.specs.Bits.{byteAt}
 use Rattle.fips202.specs.Lanes.{Lanes, bits, roundsL}
 use Rattle.fips202.specs.Tables.{roundConstant}
@@ -145,7 +145,7 @@ rho-carry-places = rho-carries
 
 -- q is 0, so that byte 0 takes the carry of halfword 3, in 9 of the 25 lanes; in the other 16 it takes another's
 pub carry-of-halfword-3 : countBelow (λ l. ltb (RHO (l % 5) (l / 5)) 16) 25 ≡ 9
-unfolding countBelow
+unfolding countBelow offset
 carry-of-halfword-3 = refl
 
 -- ---- the cases
