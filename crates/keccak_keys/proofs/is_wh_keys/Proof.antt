@@ -13,8 +13,6 @@ use Rattle.keccak.specs.Row.{keyWords, opAt}
 use Rattle.keccak.proofs.Keys.{length-keys}
 use Rattle.keccak_keys.proofs.is_wh_keys.Statement.{statement}
 use Rattle.keccak_keys.proofs.is_wh_keys.Tie as tie
-use Rattle.operations.proofs.check_operations.Reads as check-operations-reads
-use Rattle.keccak_keys.proofs.put_op_keys.Reads as put-op-keys-reads
 
 -- the arguments, from the place after the checks
 abbrev Ops : tie.After-check-operations → List ℕ

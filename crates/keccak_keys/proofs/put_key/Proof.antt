@@ -10,7 +10,6 @@ use Rattle.lists.specs.Tab.{tab}
 use Rattle.lists.proofs.Laws.{sets-two}
 use Rattle.is_wh.specs.declared.IsWhKey.{IsWhKey}
 use Rattle.is_wh.specs.Key.{of-dword}
-use Rattle.is_wh.proofs.IsWhKey.of_dword.Reads as of-dword-reads
 use Rattle.keccak.specs.Row.{keyWord}
 use Rattle.keccak_keys.proofs.put_key.Statement.{statement}
 use Rattle.keccak_keys.proofs.put_key.Tie as tie

@@ -12,8 +12,6 @@ use Rattle.keccak.proofs.Checks.{address-fits}
 use Rattle.keccak.proofs.Keys.{operation-key}
 use Rattle.keccak_keys.proofs.put_op_keys.Statement.{statement}
 use Rattle.keccak_keys.proofs.put_op_keys.Tie as tie
-use Rattle.operations.proofs.operation_at.Reads as operation-at-reads
-use Rattle.keccak_keys.proofs.put_keys.Reads as put-keys-reads
 
 abbrev Inv-loop : tie.InvT-loop
 Inv-loop ops n out₀ i₀ out i = (i ≤ n) × Filled out₀ 0 (n * 50) (λ k. keyWord (is-wh-keys (opAt ops) (k / 2)) (k % 2)) out (i * 50)

@@ -17,9 +17,6 @@ use Rattle.keccak.specs.declared.KeccakOperation.{KeccakOperation}
 use Rattle.keccak.proofs.Cells.{length-core}
 use Rattle.keccak_row.proofs.keccak_row.Statement.{statement}
 use Rattle.keccak_row.proofs.keccak_row.Tie as tie
-use Rattle.operations.proofs.check_operations.Reads as check-operations-reads
-use Rattle.operations.proofs.operation_at.Reads as operation-at-reads
-use Rattle.keccak_row.proofs.put_core_row.Reads as put-core-row-reads
 
 -- the arguments, from the place after the checks
 abbrev Ops : tie.After-check-operations → List ℕ

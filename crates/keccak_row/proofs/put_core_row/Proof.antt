@@ -14,10 +14,6 @@ use Rattle.keccak.specs.declared.KeccakOperation.{KeccakOperation}
 use Rattle.lists.proofs.Laws.{wrote-none, wrote-more, sets-cell}
 use Rattle.keccak_row.proofs.put_core_row.Statement.{statement}
 use Rattle.keccak_row.proofs.put_core_row.Tie as tie
-use Rattle.bits.proofs.put_dword_bl.Reads as put-dword-bl-reads
-use Rattle.bits.proofs.put_lanes.Reads as put-lanes-reads
-use Rattle.keccak_row.proofs.put_pointers.Reads as put-pointers-reads
-use Rattle.bits.proofs.put_dword_wl.Reads as put-dword-wl-reads
 
 -- the six groups, one after the other
 groups : (l : List ℕ) (at : ℕ) (r₀ r₁ r₂ r₃ r₄ : List ℕ) (o : KeccakOperation)

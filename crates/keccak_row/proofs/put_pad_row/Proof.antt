@@ -12,8 +12,6 @@ use Rattle.keccak.specs.Row.{corePad, corePadGroups, pointerLimb}
 use Rattle.lists.proofs.Laws.{wrote-none, wrote-more, sets-cell}
 use Rattle.keccak_row.proofs.put_pad_row.Statement.{statement}
 use Rattle.keccak_row.proofs.put_pad_row.Tie as tie
-use Rattle.keccak_row.proofs.put_pointers.Reads as put-pointers-reads
-use Rattle.bits.proofs.put_zeros.Reads as put-zeros-reads
 
 put-zeros-requires : tie.Need-put-zeros-requires
 put-zeros-requires c κs = search needs

@@ -17,9 +17,6 @@ use Rattle.keccak.proofs.Height.{height-ge, height-le}
 use Rattle.keccak.proofs.Table.{length-core-table}
 use Rattle.keccak_trace.proofs.generate_keccak_trace.Statement.{statement}
 use Rattle.keccak_trace.proofs.generate_keccak_trace.Tie as tie
-use Rattle.operations.proofs.check_operations.Reads as check-operations-reads
-use Rattle.keccak_trace.proofs.put_core_rows.Reads as put-core-rows-reads
-use Rattle.operations.proofs.table_height.Reads as table-height-reads
 
 -- the arguments, from the place after the height
 abbrev Ops : tie.After-table-height → List ℕ

@@ -7,7 +7,6 @@ use Rattle.answer.specs.Refusal.{countRefusal}
 use Rattle.answer.proofs.Laws.{refuse-yes, refuse-no, number-refused, number-is}
 use Rattle.keccak_trace.proofs.keccak_height.Statement.{statement}
 use Rattle.keccak_trace.proofs.keccak_height.Tie as tie
-use Rattle.operations.proofs.table_height.Reads as table-height-reads
 
 add-t5 : tie.Need-add-t5
 add-t5 c = search needs

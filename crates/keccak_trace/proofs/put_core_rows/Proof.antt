@@ -13,8 +13,6 @@ use Rattle.lists.proofs.Laws.{sets-append, length-table, table-add}
 use Rattle.keccak.proofs.Table.{core-row-op, core-row-pad}
 use Rattle.keccak_trace.proofs.put_core_rows.Statement.{statement}
 use Rattle.keccak_trace.proofs.put_core_rows.Tie as tie
-use Rattle.keccak_trace.proofs.put_op_rows.Reads as put-op-rows-reads
-use Rattle.keccak_trace.proofs.put_pad_rows.Reads as put-pad-rows-reads
 
 -- the operations' rows, then the padding
 rows : (l t₁ t₂ ws : List ℕ) (n h : ℕ) → n ≤ h → t₁ ≡ sets l 0 (tableOf n 486 (λ i. coreRow (opAt ws i)))

@@ -12,8 +12,6 @@ use Rattle.keccak.proofs.Cells.{length-core}
 use Rattle.keccak.proofs.Checks.{address-fits}
 use Rattle.keccak_trace.proofs.put_op_rows.Statement.{statement}
 use Rattle.keccak_trace.proofs.put_op_rows.Tie as tie
-use Rattle.operations.proofs.operation_at.Reads as operation-at-reads
-use Rattle.keccak_row.proofs.put_core_row.Reads as put-core-row-reads
 
 abbrev Inv-loop : tie.InvT-loop
 Inv-loop ops n table₀ i₀ table i = (i ≤ n) × Filled table₀ 0 (n * 486) (cellsOf 486 (λ j. coreRow (opAt ops j))) table (i * 486)

@@ -8,7 +8,6 @@ use Rattle.lists.proofs.Laws.{Filled, filled-none, filled-row, filled-rows}
 use Rattle.keccak.proofs.Cells.{length-pad}
 use Rattle.keccak_trace.proofs.put_pad_rows.Statement.{statement}
 use Rattle.keccak_trace.proofs.put_pad_rows.Tie as tie
-use Rattle.keccak_row.proofs.put_pad_row.Reads as put-pad-row-reads
 
 abbrev Inv-loop : tie.InvT-loop
 Inv-loop table₀ at m i₀ table i = (i ≤ m) × Filled table₀ at (m * 486) (cellsOf 486 (λ j. corePad)) table (i * 486)

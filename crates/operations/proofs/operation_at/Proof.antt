@@ -4,7 +4,6 @@ use borrow.Author.Needs.{needs}
 use Rattle.keccak.specs.Row.{opAt}
 use Rattle.operations.proofs.operation_at.Statement.{statement}
 use Rattle.operations.proofs.operation_at.Tie as tie
-use Rattle.operations.proofs.lanes_at.Reads as lanes-at-reads
 
 mul-at : tie.Need-mul-at
 mul-at c = search needs

@@ -14,7 +14,6 @@ use Rattle.keccak.specs.Row.{opAt}
 use Rattle.keccak.specs.Refusals.{opCount, highAt}
 use Rattle.operations.proofs.checks.check_operations.Statement.{statement}
 use Rattle.operations.proofs.checks.check_operations.Tie as tie
-use Rattle.operations.proofs.checks.first_high.Reads as first-high-reads
 
 abbrev Ops : tie.After-i → List ℕ
 Ops k = k .before .before .before .before .before .before .args .ops .now

@@ -4,7 +4,6 @@ use borrow.Author.Needs.{needs}
 use Rattle.keccak.proofs.Height.{height-below, height-above}
 use Rattle.operations.proofs.heights.table_height.Statement.{statement}
 use Rattle.operations.proofs.heights.table_height.Tie as tie
-use Rattle.operations.proofs.heights.next_power_of_two.Reads as next-power-of-two-reads
 
 next-power-of-two-requires : tie.Need-next-power-of-two-requires
 next-power-of-two-requires c κs = search needs
