@@ -5,8 +5,8 @@ use mathlib.Core.List.{List}
 use lib.ListN.{length}
 use Rattle.answer.specs.Refusal.{overwrite, afterwards}
 use Rattle.keccak.specs.Height.{MIN-ROWS}
-use Rattle.keccak.specs.Row.{opAt, coreRow, coreTable, keyWords}
-use Rattle.keccak.specs.Refusals.{opCount, coreRowRefusal, coreTraceRefusal, keysRefusal}
+use Rattle.keccak.specs.Row.{opAt, coreRow, coreRows, coreTable, keyWords}
+use Rattle.keccak.specs.Refusals.{opCount, coreRowRefusal, coreTraceRefusal, coreRowsRefusal, keysRefusal}
 
 -- `keccak_row`: the row of operation `index` of a list
 abbrev pub coreRowAfter : List ℕ → ℕ → List ℕ → List ℕ
@@ -18,6 +18,12 @@ abbrev pub coreTraceAfter : List ℕ → List ℕ → List ℕ
 coreTraceAfter ops table =
     afterwards (coreTraceRefusal (length table) ops)
     (overwrite (coreTable MIN-ROWS (opCount ops) (opAt ops)) table) table
+
+-- `keccak_rows`: the rows of a list, with no padding
+abbrev pub coreRowsAfter : List ℕ → List ℕ → List ℕ
+coreRowsAfter ops table =
+    afterwards (coreRowsRefusal (length table) ops)
+    (overwrite (coreRows (opCount ops) (opAt ops)) table) table
 
 -- `is_wh_keys`: the keys of a list
 abbrev pub keysAfter : List ℕ → List ℕ → List ℕ

@@ -1,7 +1,7 @@
 -- The refusals of a call that takes a list of operations: one definition for every such call.
 --     tooMany, notWhole, tooHigh             one check each, followed by the checks after it
 --     operationsRefusal                      the checks of a call that takes a list and a slice to write to
---     coreTraceRefusal, keysRefusal, coreRowRefusal   the checks of each call of the core table
+--     coreTraceRefusal, coreRowsRefusal, keysRefusal, coreRowRefusal   the checks of each call of the core table
 -- A call that takes an index too puts its check between `tooMany` and `notWhole`: "in number order, then argument
 -- order".
 use Prim.Native.Nat.{ℕ, _*_, _/_, _%_, _≤_, _<_}
@@ -63,6 +63,10 @@ pub record Acceptable (room needed : ℕ) (ops : List ℕ) : Type 0 where
 -- `generate_keccak_trace`: a table of `room` words is to hold the rows up to the height
 unfoldable pub coreTraceRefusal : ℕ → List ℕ → Option Refusal
 coreTraceRefusal room ops = operationsRefusal room (height MIN-ROWS (opCount ops) * NUM-COLUMNS) ops
+
+-- `keccak_rows`: the same without padding
+unfoldable pub coreRowsRefusal : ℕ → List ℕ → Option Refusal
+coreRowsRefusal room ops = operationsRefusal room (opCount ops * NUM-COLUMNS) ops
 
 -- `is_wh_keys`: a slice of `room` words is to hold the keys of the list
 unfoldable pub keysRefusal : ℕ → List ℕ → Option Refusal

@@ -14,9 +14,9 @@ use Rattle.keccak.specs.Height.{MIN-ROWS}
 use Rattle.keccak.specs.Row.{opAt}
 use Rattle.keccak.specs.Refusals.{opCount, Acceptable}
 use Rattle.keccak.proofs.Refusals.{accepted-is}
-use Rattle.keccak_rnd.specs.Row.{roundTable}
-use Rattle.keccak_rnd.specs.Refusals.{roundRowRefusal, roundTraceRefusal}
-use Rattle.keccak_rnd.proofs.Table.{length-round-table}
+use Rattle.keccak_rnd.specs.Row.{roundRows, roundTable}
+use Rattle.keccak_rnd.specs.Refusals.{roundRowRefusal, roundTraceRefusal, roundRowsRefusal}
+use Rattle.keccak_rnd.proofs.Table.{length-round-table, length-round-rows}
 
 module _ (round : ℕ) (start row : List ℕ) where
   pub row-accepted : (roundRowRefusal round start row ≡ accepted) ↔ ((round < 24) × (25 ≤ length start) × (1480 ≤ length row))
@@ -53,3 +53,11 @@ unfolding roundTraceRefusal
 trace-accepted room ops =
     subst (λ (n : ℕ). (roundTraceRefusal room ops ≡ accepted) ↔ Acceptable room n ops)
     (sym (length-round-table 24 (opCount ops) (opAt ops) MIN-ROWS)) (accepted-is room _ ops)
+
+-- and `keccak_rnd_rows`
+pub rows-accepted : (room : ℕ) (ops : List ℕ) →
+    (roundRowsRefusal room ops ≡ accepted) ↔ Acceptable room (length (roundRows 24 (opCount ops) (opAt ops))) ops
+unfolding roundRowsRefusal
+rows-accepted room ops =
+    subst (λ (n : ℕ). (roundRowsRefusal room ops ≡ accepted) ↔ Acceptable room n ops)
+    (sym (length-round-rows 24 (opCount ops) (opAt ops))) (accepted-is room _ ops)

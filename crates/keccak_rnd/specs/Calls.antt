@@ -9,8 +9,8 @@ use Rattle.answer.specs.Refusal.{overwrite, afterwards}
 use Rattle.keccak.specs.Height.{MIN-ROWS}
 use Rattle.keccak.specs.Row.{opAt}
 use Rattle.keccak.specs.Refusals.{opCount}
-use Rattle.keccak_rnd.specs.Row.{roundRow, roundTable}
-use Rattle.keccak_rnd.specs.Refusals.{roundRowRefusal, roundTraceRefusal}
+use Rattle.keccak_rnd.specs.Row.{roundRow, roundRows, roundTable}
+use Rattle.keccak_rnd.specs.Refusals.{roundRowRefusal, roundTraceRefusal, roundRowsRefusal}
 
 -- `keccak_rnd_row`: the row of a round, START being the first 25 words of `start`
 abbrev pub roundRowAfter : ℕ → List ℕ → ℕ → List ℕ → List ℕ
@@ -23,3 +23,9 @@ abbrev pub roundTraceAfter : List ℕ → List ℕ → List ℕ
 roundTraceAfter ops table =
     afterwards (roundTraceRefusal (length table) ops)
     (overwrite (roundTable 24 MIN-ROWS (opCount ops) (opAt ops)) table) table
+
+-- `keccak_rnd_rows`: the rows of a list, with no padding
+abbrev pub roundRowsAfter : List ℕ → List ℕ → List ℕ
+roundRowsAfter ops table =
+    afterwards (roundRowsRefusal (length table) ops)
+    (overwrite (roundRows 24 (opCount ops) (opAt ops)) table) table

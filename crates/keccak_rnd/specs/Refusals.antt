@@ -22,3 +22,7 @@ roundRowRefusal round start row =
 -- `generate_keccak_rnd_trace`: a table of `room` words is to hold the rows up to the height
 unfoldable pub roundTraceRefusal : ℕ → List ℕ → Option Refusal
 roundTraceRefusal room ops = operationsRefusal room (roundHeight 24 MIN-ROWS (opCount ops) * NUM-COLUMNS) ops
+
+-- `keccak_rnd_rows`: the same without padding
+unfoldable pub roundRowsRefusal : ℕ → List ℕ → Option Refusal
+roundRowsRefusal room ops = operationsRefusal room (opCount ops * 24 * NUM-COLUMNS) ops

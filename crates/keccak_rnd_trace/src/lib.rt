@@ -25,8 +25,8 @@ ghost use Rattle.keccak.specs.Height.{MIN-ROWS};
 ghost use Rattle.keccak.specs.Row.{OP-WORDS, opAt};
 ghost use Rattle.keccak_rnd.specs.Columns.{NUM-COLUMNS};
 ghost use Rattle.keccak_rnd.specs.Row.{opRow, roundRowAt, roundHeight, padding-are-bytes};
-ghost use Rattle.keccak_rnd.specs.Refusals.{roundTraceRefusal};
-ghost use Rattle.keccak_rnd.specs.Calls.{roundTraceAfter};
+ghost use Rattle.keccak_rnd.specs.Refusals.{roundTraceRefusal, roundRowsRefusal};
+ghost use Rattle.keccak_rnd.specs.Calls.{roundTraceAfter, roundRowsAfter};
 ghost use Rattle.keccak_rnd.specs.Parts.{rowAfter};
 
 // The 24 rows of an operation, from `at`: each starts from the state that the rounds before it left.
@@ -83,6 +83,23 @@ pub fn generate_keccak_rnd_trace(ops: &[u64], table: &mut [u64]) -> Answer
         return Answer::Refused(refusal);
     }
     put_round_rows(ops, n, h, table);
+    Answer::Done
+}
+
+// The rows of a list of operations, with no padding: parts of a list fill parts of one table.
+pub fn keccak_rnd_rows(ops: &[u64], table: &mut [u64]) -> Answer
+    ensures answer { λ r. ⌜ r ≡ answerOf (roundRowsRefusal (length (now (table .entry))) (now (ops .entry))) ⌝ }
+    ensures words { λ r. ⌜ now (table .exit) ≡ roundRowsAfter (now (ops .entry)) (now (table .entry)) ⌝ }
+{
+    let n = ops.len() / OP_WORDS;
+    if n as u64 > MAX_OPS {
+        return Answer::Refused(Refusal::PastEnd(MAX_OPS + 1));
+    }
+    let room = table.len();
+    if let Answer::Refused(refusal) = check_operations(ops, room, n * ROUNDS_WORDS) {
+        return Answer::Refused(refusal);
+    }
+    put_op_rounds(ops, n, table);
     Answer::Done
 }
 

@@ -1,4 +1,4 @@
-// The core table: a row, the table of a list of operations, the keys of its pointers, its height.
+// The core table: a row, the table of a list of operations, its rows alone, the keys of its pointers, its height.
 use flat::FlatAnswer;
 use flat::FlatNumber;
 use flat::flat_answer;
@@ -7,8 +7,8 @@ ghost use mathlib.Core.Path.{_≡_};
 ghost use lib.ListN.{length};
 ghost use Rattle.answer.specs.Refusal.{answerOf, numberOf, countRefusal};
 ghost use Rattle.keccak.specs.Height.{height, MIN-ROWS};
-ghost use Rattle.keccak.specs.Refusals.{coreRowRefusal, coreTraceRefusal, keysRefusal};
-ghost use Rattle.keccak.specs.Calls.{coreRowAfter, coreTraceAfter, keysAfter};
+ghost use Rattle.keccak.specs.Refusals.{coreRowRefusal, coreTraceRefusal, coreRowsRefusal, keysRefusal};
+ghost use Rattle.keccak.specs.Calls.{coreRowAfter, coreTraceAfter, coreRowsAfter, keysAfter};
 ghost use Rattle.flat.specs.Flat.{flatAnswer, flatNumber};
 
 #[no_mangle]
@@ -25,6 +25,14 @@ pub extern "C" fn keccak_tables_generate_keccak_trace(ops: &[u64], table: &mut [
     ensures words { λ _. ⌜ now (table .exit) ≡ coreTraceAfter (now (ops .entry)) (now (table .entry)) ⌝ }
 {
     flat_answer(keccak_trace::generate_keccak_trace(ops, table))
+}
+
+#[no_mangle]
+pub extern "C" fn keccak_tables_keccak_rows(ops: &[u64], table: &mut [u64]) -> FlatAnswer
+    ensures answer { λ r. ⌜ r ≡ flatAnswer (answerOf (coreRowsRefusal (length (now (table .entry))) (now (ops .entry)))) ⌝ }
+    ensures words { λ _. ⌜ now (table .exit) ≡ coreRowsAfter (now (ops .entry)) (now (table .entry)) ⌝ }
+{
+    flat_answer(keccak_trace::keccak_rows(ops, table))
 }
 
 #[no_mangle]

@@ -1,4 +1,4 @@
-// The round table: a row, the table of a list of operations, its height, its padding's lookups.
+// The round table: a row, the table of a list of operations, its rows alone, its height, its padding's lookups.
 use flat::FlatAnswer;
 use flat::FlatNumber;
 use flat::flat_answer;
@@ -8,8 +8,8 @@ ghost use lib.ListN.{length};
 ghost use Rattle.answer.specs.Refusal.{answerOf, numberOf, countRefusal};
 ghost use Rattle.keccak.specs.Height.{MIN-ROWS};
 ghost use Rattle.keccak_rnd.specs.Row.{roundHeight, padding-are-bytes};
-ghost use Rattle.keccak_rnd.specs.Refusals.{roundRowRefusal, roundTraceRefusal};
-ghost use Rattle.keccak_rnd.specs.Calls.{roundRowAfter, roundTraceAfter};
+ghost use Rattle.keccak_rnd.specs.Refusals.{roundRowRefusal, roundTraceRefusal, roundRowsRefusal};
+ghost use Rattle.keccak_rnd.specs.Calls.{roundRowAfter, roundTraceAfter, roundRowsAfter};
 ghost use Rattle.flat.specs.Flat.{flatAnswer, flatNumber};
 
 #[no_mangle]
@@ -34,6 +34,14 @@ pub extern "C" fn keccak_tables_generate_keccak_rnd_trace(
     ensures words { λ _. ⌜ now (table .exit) ≡ roundTraceAfter (now (ops .entry)) (now (table .entry)) ⌝ }
 {
     flat_answer(keccak_rnd_trace::generate_keccak_rnd_trace(ops, table))
+}
+
+#[no_mangle]
+pub extern "C" fn keccak_tables_keccak_rnd_rows(ops: &[u64], table: &mut [u64]) -> FlatAnswer
+    ensures answer { λ r. ⌜ r ≡ flatAnswer (answerOf (roundRowsRefusal (length (now (table .entry))) (now (ops .entry)))) ⌝ }
+    ensures words { λ _. ⌜ now (table .exit) ≡ roundRowsAfter (now (ops .entry)) (now (table .entry)) ⌝ }
+{
+    flat_answer(keccak_rnd_trace::keccak_rnd_rows(ops, table))
 }
 
 #[no_mangle]

@@ -23,8 +23,8 @@ ghost use Rattle.answer.specs.Refusal.{answerOf, numberOf, countRefusal};
 ghost use Rattle.keccak.specs.Columns.{NUM-COLUMNS};
 ghost use Rattle.keccak.specs.Height.{height, MIN-ROWS};
 ghost use Rattle.keccak.specs.Row.{OP-WORDS, coreRow, corePad, coreRowAt, opAt};
-ghost use Rattle.keccak.specs.Refusals.{highAt, coreTraceRefusal};
-ghost use Rattle.keccak.specs.Calls.{coreTraceAfter};
+ghost use Rattle.keccak.specs.Refusals.{highAt, coreTraceRefusal, coreRowsRefusal};
+ghost use Rattle.keccak.specs.Calls.{coreTraceAfter, coreRowsAfter};
 
 // The rows of n operations.
 fn put_op_rows(ops: &[u64], n: usize, table: &mut [u64])
@@ -75,6 +75,23 @@ pub fn generate_keccak_trace(ops: &[u64], table: &mut [u64]) -> Answer
         return Answer::Refused(refusal);
     }
     put_core_rows(ops, n, h, table);
+    Answer::Done
+}
+
+// The rows of a list of operations, with no padding: parts of a list fill parts of one table.
+pub fn keccak_rows(ops: &[u64], table: &mut [u64]) -> Answer
+    ensures answer { λ r. ⌜ r ≡ answerOf (coreRowsRefusal (length (now (table .entry))) (now (ops .entry))) ⌝ }
+    ensures words { λ r. ⌜ now (table .exit) ≡ coreRowsAfter (now (ops .entry)) (now (table .entry)) ⌝ }
+{
+    let n = ops.len() / OP_WORDS;
+    if n as u64 > MAX_OPS {
+        return Answer::Refused(Refusal::PastEnd(MAX_OPS + 1));
+    }
+    let room = table.len();
+    if let Answer::Refused(refusal) = check_operations(ops, room, n * NUM_COLUMNS) {
+        return Answer::Refused(refusal);
+    }
+    put_op_rows(ops, n, table);
     Answer::Done
 }
 

@@ -1,0 +1,88 @@
+-- `keccak_rnd_trace::keccak_rnd_rows` meets its contract: one check after the other, then the rows.
+use mathlib.Core.Path.{_≡_, refl, _∙_}
+use Prim.Native.Nat.{ℕ, _-_, _*_}
+use native.Mathlib.Omega.{arith}
+use lib.ListN.{length}
+use mathlib.Core.Option.{none}
+use mathlib.Core.List.{List}
+use borrow.Author.Needs.{needs}
+use Rattle.answer.proofs.Laws.{refused, done, sets-overwrite}
+use Rattle.keccak.specs.Refusals.{opCount, operationsRefusal}
+use Rattle.keccak.proofs.Checks.{Passed, too-many, told-refused, told-done}
+use Rattle.keccak.specs.Row.{opAt}
+use Rattle.keccak_rnd.specs.Row.{roundRows}
+use Rattle.keccak_rnd.specs.Refusals.{roundRowsRefusal}
+use Rattle.keccak_rnd.proofs.Table.{length-round-rows}
+use Rattle.keccak_rnd_trace.proofs.keccak_rnd_rows.Statement.{statement}
+use Rattle.keccak_rnd_trace.proofs.keccak_rnd_rows.Tie as tie
+
+-- the arguments, from the place after the checks
+abbrev Ops : tie.After-check-operations → List ℕ
+Ops k = k .before .before .before .before .args .ops .now
+
+abbrev Table : tie.After-check-operations → List ℕ
+Table k = k .before .before .before .before .args .table .now
+
+-- the words of n operations' rows
+words-of : (n : ℕ) → n * 35520 ≡ n * 24 * 1480
+words-of n = omega arith
+
+-- what an accepted call knows
+known : (c : tie.After-enum-told) → let k = c .before .before in (operationsRefusal (length (Table k)) (opCount (Ops k) * 24 * 1480) (Ops k) ≡ none) × Passed (length (Table k)) (opCount (Ops k) * 24 * 1480) (Ops k)
+known c = let k = c .before .before in told-done _ _ _ (k .before .if1 .left) (words-of _) (k .check-operations .ensures) (c .enum-told .given .1)
+
+add-t9 : tie.Need-add-t9
+add-t9 c = search needs
+
+returns : tie.Need-returns
+unfolding roundRowsRefusal
+returns c = refused _ _ (too-many _ _ _ (c .if1 .taken))
+
+mul-check-operations : tie.Need-mul-check-operations
+mul-check-operations c = omega arith
+
+check-operations-requires : tie.Need-check-operations-requires
+check-operations-requires c κs = search needs
+
+enum-known-refusal : tie.Need-enum-known-refusal
+enum-known-refusal c = search needs
+
+returns-2 : tie.Need-returns-2
+unfolding roundRowsRefusal
+returns-2 c = let k = c .before .before .before in refused _ _ (told-refused _ _ _ (k .before .if1 .left) (words-of _) (k .check-operations .ensures) (c .before .refusal .given .1))
+
+enum-told : tie.Need-enum-told
+enum-told c = search needs
+
+put-op-rounds-requires : tie.Need-put-op-rounds-requires
+put-op-rounds-requires c κs = (omega arith, omega (arith, known (c .before) .1 .fits))
+
+same-length : tie.Need-same-length
+same-length c = search needs
+
+returns-3 : tie.Need-returns-3
+unfolding roundRowsRefusal roundRows
+returns-3 c =
+    let put = c .before .before in
+    let told = put .before .before in
+    let k = told .before .before in
+    let n = opCount (Ops k) in
+    done _
+    (known told .0)
+    (put .put-op-rounds .ensures
+    ∙ sets-overwrite (Table k) (roundRows 24 n (opAt (Ops k))) (omega (arith, known told .1 .fits, length-round-rows 24 n (opAt (Ops k)))))
+
+pub keccak-rnd-rows-spec : {M : Type 1} → statement M
+keccak-rnd-rows-spec =
+    tie.close
+    (tie.spec
+    add-t9
+    returns
+    mul-check-operations
+    check-operations-requires
+    enum-known-refusal
+    returns-2
+    enum-told
+    put-op-rounds-requires
+    same-length
+    returns-3)
