@@ -32,7 +32,6 @@ pub mod keccak_rc;
 pub mod keccak_rnd;
 pub mod layout;
 pub mod operation_file;
-pub mod program;
 pub mod verdict;
 
 #[allow(unsafe_code)]

@@ -7,8 +7,8 @@ use std::path::Path;
 
 use super::progress::Progress;
 use super::{Failure, Outcome, Streams, files, refused};
-use crate::operation_file::{Sums, Tally};
-use crate::refusal::Refusal;
+use keccak_tables::Refusal;
+use keccak_tables::operation_file::{Sums, Tally};
 
 pub fn tally(arguments: &[OsString], streams: &mut Streams) -> Result<Outcome, Failure> {
     let answer = match arguments {

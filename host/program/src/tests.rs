@@ -7,8 +7,8 @@ use std::os::fd::AsRawFd;
 use std::path::PathBuf;
 
 use super::{Streams, run, run_judge};
-use crate::operation_file::{RECORD_BYTES, write_operations};
-use crate::{OP_WORDS, Operation, P, keccak, keccak_rnd};
+use keccak_tables::operation_file::{RECORD_BYTES, write_operations};
+use keccak_tables::{OP_WORDS, Operation, P, keccak, keccak_rnd};
 
 type Run = fn(&[OsString], &mut Streams) -> u8;
 

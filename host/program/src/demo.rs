@@ -4,11 +4,11 @@ use std::ffi::OsString;
 use std::io::{self, Write};
 
 use super::{Failure, Outcome, Streams, explain, refused_line};
-use crate::keccak::LAST_ADDRESS;
-use crate::layout::{self, Place};
-use crate::refusal::Refusal;
-use crate::verdict::{Table, Verdict, verdict};
-use crate::{OP_WORDS, Operation, keccak, keccak_rnd};
+use keccak_tables::Refusal;
+use keccak_tables::keccak::LAST_ADDRESS;
+use keccak_tables::layout::{self, Place};
+use keccak_tables::verdict::{Table, Verdict, verdict};
+use keccak_tables::{OP_WORDS, Operation, keccak, keccak_rnd};
 
 /// The calls.
 const CALLS: usize = 3;

@@ -12,8 +12,8 @@ use std::path::Path;
 use super::files::{self, WordFile};
 use super::progress::Progress;
 use super::{Failure, Outcome, Streams, refused, tally};
-use crate::operation_file::{RECORD_BYTES, Sums, read_operations};
-use crate::{OP_WORDS, keccak, keccak_rnd};
+use keccak_tables::operation_file::{RECORD_BYTES, Sums, read_operations};
+use keccak_tables::{OP_WORDS, keccak, keccak_rnd};
 
 /// How many records are read at once: 24 rows each, 18 megabytes.
 const PIECE_RECORDS: usize = 64;

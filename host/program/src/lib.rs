@@ -1,5 +1,8 @@
 //! The command-line program: what `keccak-tables` and `judge` run.
 
+#![deny(unsafe_code)]
+#![warn(missing_docs)]
+
 mod demo;
 mod explain;
 mod files;
@@ -15,7 +18,7 @@ use std::io::{self, Read, Write};
 use std::path::{Path, PathBuf};
 use std::process::ExitCode;
 
-use crate::refusal::Refusal;
+use keccak_tables::Refusal;
 
 const HELP: &str = "\
 The Keccak tables of a STARK prover, written and judged by proved code.

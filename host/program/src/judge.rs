@@ -4,7 +4,7 @@ use std::ffi::OsString;
 use std::path::Path;
 
 use super::{Failure, Outcome, Streams, files, progress, refused};
-use crate::verdict::verdict;
+use keccak_tables::verdict::verdict;
 
 pub fn judge(arguments: &[OsString], streams: &mut Streams) -> Result<Outcome, Failure> {
     let [core, round] = arguments else {
