@@ -194,6 +194,7 @@ fn what_cannot_be_written_leaves_the_tables_alone() {
     let (status, output, errors) = ran(run, &["write", &ops, &new, "/dev/full"], &[]);
     assert_eq!((status, output.as_str()), (2, ""));
     assert!(errors.starts_with("/dev/full: No space left"), "{errors}");
+    assert!(!fs::exists(&new).unwrap());
 
     // A pipe ends where it was read, so that a second reading finds nothing.
     let (reader, mut writer) = std::io::pipe().unwrap();
@@ -383,9 +384,31 @@ fn wrong_usage_has_status_2() {
         assert_eq!((status, output.as_str()), (2, ""), "{arguments:?}");
         assert!(errors.ends_with("`keccak-tables help` tells the commands\n"));
     }
+}
+
+#[test]
+fn every_command_has_its_help() {
     let (status, help, _) = ran(run, &["help"], &[]);
     assert_eq!(status, 0);
     for name in ["demo", "write", "judge", "tally", "explain"] {
-        assert!(help.contains(&format!("keccak-tables {name}")));
+        assert!(help.contains(&format!("\n  keccak-tables {name}")));
+        let told = ran(run, &["help", name], &[]);
+        assert!(told.0 == 0 && told.1.starts_with(&format!("usage: keccak-tables {name}")) && told.2.is_empty());
+        assert!(told.1.contains("\nExit status: 0"));
+        assert_eq!(ran(run, &[name, "--help"], &[]), told);
+    }
+    assert_eq!(ran(run_judge, &["--help"], &[]), ran(run, &["help", "judge"], &[]));
+    assert_eq!(ran(run, &["--help"], &[]).1, help);
+    let version = ran(run, &["--version"], &[]);
+    assert_eq!(
+        version,
+        (
+            0,
+            format!("keccak-tables {}\n", env!("CARGO_PKG_VERSION")),
+            String::new()
+        )
+    );
+    for arguments in [["help", "undo"], ["--version", "1"]] {
+        assert_eq!(ran(run, &arguments, &[]).0, 2);
     }
 }
