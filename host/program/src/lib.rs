@@ -152,10 +152,22 @@ fn status(outcome: Result<Outcome, Failure>, hint: &str, streams: &mut Streams) 
 }
 
 /// Prints a refusal: its line on standard output, its words on standard error.
-fn refused(refusal: Refusal, streams: &mut Streams) -> Result<Outcome, Failure> {
+fn refused(refusal: Refusal, words: &str, streams: &mut Streams) -> Result<Outcome, Failure> {
     writeln!(streams.output, "{}", refused_line(refusal))?;
-    let _ = writeln!(streams.errors, "{refusal}");
+    let _ = writeln!(streams.errors, "{words}");
     Ok(Outcome::DoesNotHold)
+}
+
+/// The refusal of an operation file, in words.
+fn file_refused(refusal: Refusal, streams: &mut Streams) -> Result<Outcome, Failure> {
+    let words = match refusal {
+        Refusal::PastEnd { limit } => format!(
+            "the file goes on after record {}, which is the last that it may have",
+            limit - 1
+        ),
+        other => other.to_string(),
+    };
+    refused(refusal, &words, streams)
 }
 
 fn refused_line(refusal: Refusal) -> String {

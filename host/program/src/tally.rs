@@ -6,7 +6,7 @@ use std::io::{self, Read};
 use std::path::Path;
 
 use super::progress::Progress;
-use super::{Failure, Outcome, Streams, files, refused};
+use super::{Failure, Outcome, Streams, file_refused, files};
 use keccak_tables::Refusal;
 use keccak_tables::operation_file::{Sums, Tally};
 
@@ -23,7 +23,7 @@ pub fn tally(arguments: &[OsString], streams: &mut Streams) -> Result<Outcome, F
     };
     match answer {
         Ok(sums) => print(&sums.lines(), streams),
-        Err(refusal) => refused(refusal, streams),
+        Err(refusal) => file_refused(refusal, streams),
     }
 }
 

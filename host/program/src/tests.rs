@@ -234,6 +234,25 @@ fn judged_files() {
         assert_eq!(ran(run_judge, &[core, round], &[]), answer);
         assert_eq!(answer.2.is_empty(), !line.starts_with("refused") && status < 2);
     }
+    let words = |core: &str, round: &str| ran(run, &["judge", core, round], &[]).2;
+    assert_eq!(
+        words(&none, &cut),
+        "ROUND has 485 words, which are not whole rows of 1480\n"
+    );
+    assert_eq!(
+        words(&cut, &none),
+        "CORE has 485 words, which are not whole rows of 486\n"
+    );
+    assert_eq!(
+        words(&large, &none),
+        format!("CORE, row 0, column 485 (MU): {P} is not below p\n")
+    );
+    let round = folder.put(
+        "round",
+        &bytes(&[vec![0; 1480 + 3], vec![P + 5], vec![0; 1476]].concat()),
+    );
+    let place = "ROUND, row 1, column 3 (START[0][0][0])";
+    assert_eq!(words(&honest, &round), format!("{place}: {} is not below p\n", P + 5));
 }
 
 #[test]

@@ -12,7 +12,7 @@ use std::path::Path;
 
 use super::files::{self, Target, WordFile};
 use super::progress::Progress;
-use super::{Failure, Outcome, Streams, refused, tally};
+use super::{Failure, Outcome, Streams, file_refused, tally};
 use keccak_tables::operation_file::{RECORD_BYTES, Sums, read_operations};
 use keccak_tables::{OP_WORDS, keccak, keccak_rnd};
 
@@ -43,7 +43,7 @@ pub fn write(arguments: &[OsString], streams: &mut Streams) -> Result<Outcome, F
             tables.write(ops, &sums)?;
             tally::print(&sums.lines()[..3], streams)
         }
-        Err(refusal) => refused(refusal, streams),
+        Err(refusal) => file_refused(refusal, streams),
     }
 }
 

@@ -99,7 +99,7 @@ fn counters(lookups: &[Lookup]) {
     let mut rust = Counters::new();
     let count = || {
         for at in black_box(lookups) {
-            bitwise::bump(&mut ours, at.kind, at.x, at.y, at.z).expect("a lookup");
+            bitwise::bump_numbered(&mut ours, at.kind, at.x, at.y, at.z).expect("a lookup");
         }
     };
     let rust = || black_box(lookups).iter().for_each(|&at| rust.bump(at));
