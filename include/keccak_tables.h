@@ -7,9 +7,9 @@
  * NULL, even where the length is 0, and is aligned; a slice that is written overlaps no other slice of the call. That is all
  * that a caller has to keep; every number and every word is allowed, and the call answers:
  *
- *   number 0   it did its work: the slice begins with what is asked for, and the words past that are as they were;
- *   number N   it is refused, and every word is as it was. Unless said below, the checks are made in the order of their
- *              numbers, those of one number in the order of the arguments, and the first that refuses is told:
+ *   refusal 0   it did its work: the slice begins with what is asked for, and the words past that are as they were;
+ *   refusal N   it is refused, and every word is as it was. Unless said below, the checks are made in the order of their
+ *               numbers, those of one number in the order of the arguments, and the first that refuses is told:
  *
  *   N  what is wrong                                                            detail
  *   1  an index, kind, Z, round or number of operations past its end            the least number refused
@@ -21,6 +21,15 @@
  *
  * A list of operations is flat, 52 words each: timestamp, address, 25 input lanes, 25 output lanes; lane (x, y) is at x + 5y.
  * A row may be lent longer than its columns; the rest is neither read nor written.
+ *
+ * A state has two orders. Columns, and lanes of operations, run by lane x + 5y: byte b of lane (x, y) is 8 (x + 5 y) + b columns
+ * after the state's first. A tuple on the Keccak bus has 203 values, the timestamp's two words, the round and 200 bytes, which run by
+ * lane 5x + y: byte b of lane (x, y) is value 3 + 8 (5 x + y) + b. So lane (1, 0) stands in columns 8 to 15 of a state, and in
+ * values 43 to 50 of a tuple. To turn one order into the other, in either direction:
+ *
+ *   for (int x = 0; x < 5; x++)
+ *       for (int y = 0; y < 5; y++)
+ *           memcpy(to + 8 * (5 * x + y), from + 8 * (x + 5 * y), 8 * sizeof *to);
  */
 #ifndef KECCAK_TABLES_H
 #define KECCAK_TABLES_H
@@ -31,6 +40,69 @@
 #ifdef __cplusplus
 extern "C" {
 #endif
+
+/* An answer that is not looked at may be a refusal. */
+#if defined(__GNUC__) || defined(__clang__)
+#define KECCAK_TABLES_MUST_USE __attribute__((warn_unused_result))
+#else
+#define KECCAK_TABLES_MUST_USE
+#endif
+
+/* Refusals, as in the list above; 0 is none. Of what is not whole, the detail says which. */
+#define KECCAK_TABLES_REFUSAL_NONE 0
+#define KECCAK_TABLES_REFUSAL_PAST_END 1
+#define KECCAK_TABLES_REFUSAL_NOT_WHOLE 2
+#define KECCAK_TABLES_REFUSAL_TOO_SHORT 3
+#define KECCAK_TABLES_REFUSAL_HIGH_ADDRESS 4
+#define KECCAK_TABLES_REFUSAL_NOT_ELEMENT 5
+#define KECCAK_TABLES_REFUSAL_BAD_RECORD 6
+#define KECCAK_TABLES_LENT_CORE 0
+#define KECCAK_TABLES_LENT_ROUND 1
+#define KECCAK_TABLES_LENT_LIST 2
+
+/* Buses and sides. On ByteAlu the first value is an operation. */
+#define KECCAK_TABLES_BUS_BYTE_ALU 0
+#define KECCAK_TABLES_BUS_ARE_BYTES 1
+#define KECCAK_TABLES_BUS_IS_HALFWORD 2
+#define KECCAK_TABLES_BUS_IS_WH 3
+#define KECCAK_TABLES_BUS_KECCAK_RC 4
+#define KECCAK_TABLES_BUS_KECCAK 5
+#define KECCAK_TABLES_BUS_MEMW 6
+#define KECCAK_TABLES_BUS_ECALL 7
+#define KECCAK_TABLES_BUS_MSB8 8
+#define KECCAK_TABLES_BUS_MSB16 9
+#define KECCAK_TABLES_BUS_ZERO 10
+#define KECCAK_TABLES_BUS_IS_B20 11
+#define KECCAK_TABLES_BUS_HWSL 12
+#define KECCAK_TABLES_SIDE_SENDER 0
+#define KECCAK_TABLES_SIDE_RECEIVER 1
+#define KECCAK_TABLES_ALU_AND 0
+#define KECCAK_TABLES_ALU_OR 1
+#define KECCAK_TABLES_ALU_XOR 2
+
+/* Kinds of lookup in the bitwise table. */
+#define KECCAK_TABLES_KIND_MSB8 0
+#define KECCAK_TABLES_KIND_MSB16 1
+#define KECCAK_TABLES_KIND_ZERO 2
+#define KECCAK_TABLES_KIND_ARE_BYTES 3
+#define KECCAK_TABLES_KIND_IS_HALF 4
+#define KECCAK_TABLES_KIND_IS_B20 5
+#define KECCAK_TABLES_KIND_HWSL 6
+#define KECCAK_TABLES_KIND_AND 7
+#define KECCAK_TABLES_KIND_OR 8
+#define KECCAK_TABLES_KIND_XOR 9
+
+/* Kinds of verdict: 1 to 6 are failures, in the order in which they are looked for; and the two tables. */
+#define KECCAK_TABLES_VERDICT_HOLDS 0
+#define KECCAK_TABLES_VERDICT_CORE_VALUE 1
+#define KECCAK_TABLES_VERDICT_CORE_LOOKUP 2
+#define KECCAK_TABLES_VERDICT_TIMESTAMP 3
+#define KECCAK_TABLES_VERDICT_ROUND_VALUE 4
+#define KECCAK_TABLES_VERDICT_ROUND_LOOKUP 5
+#define KECCAK_TABLES_VERDICT_BALANCE 6
+#define KECCAK_TABLES_VERDICT_REFUSED 7
+#define KECCAK_TABLES_TABLE_CORE 0
+#define KECCAK_TABLES_TABLE_ROUND 1
 
 /* p = 2^64 - 2^32 + 1: a field element is a word below it. */
 #define KECCAK_TABLES_P 0xFFFFFFFF00000001
@@ -72,29 +144,55 @@ extern "C" {
 #define KECCAK_TABLES_ROUND_TUPLES 1031
 #define KECCAK_TABLES_ROUND_TUPLE_WORDS 8211
 
+/* Columns of a core row: each group's first. */
+#define KECCAK_TABLES_CORE_TIMESTAMP_0 0
+#define KECCAK_TABLES_CORE_TIMESTAMP_1 1
+#define KECCAK_TABLES_CORE_ADDR 2
+#define KECCAK_TABLES_CORE_INPUT_STATE 10
+#define KECCAK_TABLES_CORE_OUTPUT_STATE 210
+#define KECCAK_TABLES_CORE_STATE_PTR 410
+#define KECCAK_TABLES_CORE_MU 485
+
+/* Columns of a round row, likewise. */
+#define KECCAK_TABLES_ROUND_TIMESTAMP_0 0
+#define KECCAK_TABLES_ROUND_TIMESTAMP_1 1
+#define KECCAK_TABLES_ROUND_ROUND 2
+#define KECCAK_TABLES_ROUND_START 3
+#define KECCAK_TABLES_ROUND_CXZ 203
+#define KECCAK_TABLES_ROUND_CXZ_LEFT 363
+#define KECCAK_TABLES_ROUND_CXZ_RIGHT 403
+#define KECCAK_TABLES_ROUND_DXZ 423
+#define KECCAK_TABLES_ROUND_THETA 463
+#define KECCAK_TABLES_ROUND_ROT_LEFT 663
+#define KECCAK_TABLES_ROUND_ROT_RIGHT 863
+#define KECCAK_TABLES_ROUND_CHI_ANDS 1063
+#define KECCAK_TABLES_ROUND_CHI 1263
+#define KECCAK_TABLES_ROUND_RC 1463
+#define KECCAK_TABLES_ROUND_IOTA 1471
+#define KECCAK_TABLES_ROUND_MU 1479
+
 /* The most values that a tuple of any row has. */
 #define KECCAK_TABLES_MAX_TUPLE_LENGTH 203
 
 /* The answer of a call that only writes. */
 typedef struct keccak_tables_answer {
-    uint64_t number;
+    uint64_t refusal;
     uint64_t detail;
 } keccak_tables_answer;
 
 /* The answer of a call that gives a number, 0 where it is refused. */
 typedef struct keccak_tables_number {
-    uint64_t number;
+    uint64_t refusal;
     uint64_t detail;
     uint64_t value;
 } keccak_tables_number;
 
 /*
- * The answer of a call that gives a tuple; its values are in the lent slice. Buses: 0 ByteAlu, 1 AreBytes, 2 IsHalfword,
- * 3 IsWh, 4 KeccakRc, 5 Keccak, 6 Memw, 7 Ecall, 8 Msb8, 9 Msb16, 10 Zero, 11 IsB20, 12 Hwsl. Sides: 0 sender, 1 receiver.
- * Where it is refused, these four are 0.
+ * The answer of a call that gives a tuple: bus, side, the number of its values, which are in the lent slice, and how often. Where it
+ * is refused, these four are 0.
  */
 typedef struct keccak_tables_tuple {
-    uint64_t number;
+    uint64_t refusal;
     uint64_t detail;
     uint64_t bus;
     uint64_t side;
@@ -109,25 +207,30 @@ typedef struct keccak_tables_key {
 } keccak_tables_key;
 
 /*
- * A verdict. Kinds 1 to 6 are failures, in the order in which they are looked for, and then `first` is the table (0 core,
- * 1 round), `second` the row and `third` the index of the value or tuple, all from 0:
- *   1 core value   2 core lookup   3 a timestamp that an earlier active core row has   4 round value   5 round lookup
- *   6 a Keccak tuple that is not sent as often as received
- * Kind 0: both tables hold, `first` is the number of active core rows. Kind 7: refused, `first` is number, `second` detail.
+ * A verdict. Where both tables hold: `active`, the number of active core rows. Of a failure: `table`, `row` and `index`, all from 0,
+ * the index being that of the value or tuple, and 0 of a timestamp that an earlier active core row has. Where it is refused:
+ * `refusal` and `detail`. What a kind does not have is 0.
  */
 typedef struct keccak_tables_judgement {
     uint64_t kind;
-    uint64_t first;
-    uint64_t second;
-    uint64_t third;
+    union {
+        uint64_t active;
+        uint64_t table;
+        uint64_t refusal;
+    };
+    union {
+        uint64_t row;
+        uint64_t detail;
+    };
+    uint64_t index;
 } keccak_tables_judgement;
 
 /*
- * Where a reader of an operation file stands: number and detail of the first fault, or 0 and 0 and then the whole records, the
+ * Where a reader of an operation file stands: refusal and detail of the first fault, or 0 and 0 and then the whole records, the
  * bytes of the next one, and what its address bytes so far make. Hand it from call to call as it is.
  */
 typedef struct keccak_tables_cursor {
-    uint64_t number;
+    uint64_t refusal;
     uint64_t detail;
     uint64_t records;
     size_t at;
@@ -136,7 +239,7 @@ typedef struct keccak_tables_cursor {
 
 /* What a file's tables would hold and send: operations, heights, and per bus the sum of multiplicities (Ecall: received). */
 typedef struct keccak_tables_sums {
-    uint64_t number;
+    uint64_t refusal;
     uint64_t detail;
     uint64_t ops;
     uint64_t core_rows;
@@ -153,46 +256,55 @@ typedef struct keccak_tables_sums {
 /* ---- bitwise rows and their counters ---- */
 
 /* Writes the 11 fixed columns of row `index` = x + 256 y + 65,536 z. 1 index >= 1,048,576; 3 row < 11. */
+KECCAK_TABLES_MUST_USE
 keccak_tables_answer keccak_tables_generate_bitwise_row(size_t index, uint64_t *row, size_t row_length);
 
 /* The index of the row of x, y and z. 1 z >= 16. */
+KECCAK_TABLES_MUST_USE
 keccak_tables_number keccak_tables_bitwise_row_index(uint8_t x, uint8_t y, uint8_t z);
 
 /*
- * Adds one, mod p, to the counter of a kind of lookup in the row of x, y and z, at row * 10 + kind. Kinds: 0 MSB8, 1 MSB16,
- * 2 ZERO, 3 ARE_BYTES, 4 IS_HALF, 5 IS_B20, 6 HWSL, 7 AND, 8 OR, 9 XOR.
+ * Adds one, mod p, to the counter of a kind of lookup (KECCAK_TABLES_KIND_..) in the row of x, y and z, at row * 10 + kind.
  * 1 kind >= 10, then z >= 16; 3 counters < 10,485,760; 5 that counter is p or more.
  * A row's counter of kind k belongs in column 11 + k of its 21 columns. ByteAlu (op, a, b, c) is looked up as kind 7 + op at x = a,
  * y = b, z = 0; AreBytes (a, b) as kind 3 likewise; IsHalfword (h) as kind 4 at x = h mod 256, y = h div 256, z = 0.
  */
+KECCAK_TABLES_MUST_USE
 keccak_tables_answer keccak_tables_bitwise_bump(uint64_t *counters, size_t counters_length, size_t kind, uint8_t x, uint8_t y,
                                                 uint8_t z);
 
 /* Tuple `index` of a row of 21 columns. 1 index >= 10; 3 row < 21, then out < the tuple's length; 5 a column. */
+KECCAK_TABLES_MUST_USE
 keccak_tables_tuple keccak_tables_bitwise_bus_interaction(const uint64_t *row, size_t row_length, size_t index, uint64_t *out,
                                                           size_t out_length);
 
 /* ---- round constants ---- */
 
 /* Writes the 9 fixed columns of a constant row: its number, then the constant's bytes. 1 round >= 32; 3 out < 9. */
+KECCAK_TABLES_MUST_USE
 keccak_tables_answer keccak_tables_keccak_rc_generate_row(size_t round, uint64_t *out, size_t out_length);
 
 /* Writes the 32 rows of 10 columns, every multiplicity 0. 3 table < 320. */
+KECCAK_TABLES_MUST_USE
 keccak_tables_answer keccak_tables_generate_keccak_rc_trace(uint64_t *table, size_t table_length);
 
 /* Sets the multiplicities of rounds 0 to 23 to n. 1 n > 89,478,485; 3 table < 320. */
+KECCAK_TABLES_MUST_USE
 keccak_tables_answer keccak_tables_keccak_rc_update_multiplicities(uint64_t *table, size_t table_length, uint64_t n);
 
 /* Tuple `index` of a row of 10 columns, of which it has one. 1 index >= 1; 3 row < 10, then out < 9; 5 a column. */
+KECCAK_TABLES_MUST_USE
 keccak_tables_tuple keccak_tables_keccak_rc_bus_interaction(const uint64_t *row, size_t row_length, size_t index, uint64_t *out,
                                                             size_t out_length);
 
 /* ---- keys of pointers ---- */
 
 /* The key of a number. Never refused. */
+KECCAK_TABLES_MUST_USE
 keccak_tables_key keccak_tables_is_wh_key(uint64_t value);
 
 /* Tuple `index` of a row of 4 columns. 1 index >= 5; 3 row < 4, then out < the tuple's length; 5 a column. */
+KECCAK_TABLES_MUST_USE
 keccak_tables_tuple keccak_tables_is_wh_bus_interaction(const uint64_t *row, size_t row_length, size_t index, uint64_t *out,
                                                         size_t out_length);
 
@@ -202,26 +314,32 @@ keccak_tables_tuple keccak_tables_is_wh_bus_interaction(const uint64_t *row, siz
  * Writes the core row of operation `index` of a list.
  * 1 more than 89,478,485 operations, then index >= their number; 2 the list; 3 row < 486; 4 the first high address of the list.
  */
+KECCAK_TABLES_MUST_USE
 keccak_tables_answer keccak_tables_keccak_row(const uint64_t *ops, size_t ops_length, size_t index, uint64_t *row,
                                               size_t row_length);
 
 /* Writes the core table of a list. 1 more than 89,478,485 operations; 2 the list; 3 table < height * 486; 4 a high address. */
+KECCAK_TABLES_MUST_USE
 keccak_tables_answer keccak_tables_generate_keccak_trace(const uint64_t *ops, size_t ops_length, uint64_t *table,
                                                          size_t table_length);
 
 /* Writes the keys of a list, 25 to an operation. 1 more than 89,478,485 operations; 2 the list; 3 out < 50 n; 4 a high address. */
+KECCAK_TABLES_MUST_USE
 keccak_tables_answer keccak_tables_is_wh_keys(const uint64_t *ops, size_t ops_length, uint64_t *out, size_t out_length);
 
 /* The height of the core table of n operations: the next power of two, at least 4. 1 n > 89,478,485. */
+KECCAK_TABLES_MUST_USE
 keccak_tables_number keccak_tables_keccak_height(size_t n);
 
 /* Writes the 52 constraint values of a core row. 3 row < 486, then out < 52; 5 a column. */
+KECCAK_TABLES_MUST_USE
 keccak_tables_answer keccak_tables_keccak_values(const uint64_t *row, size_t row_length, uint64_t *out, size_t out_length);
 
 /*
  * Tuple `index` of a core row; `syscall` is the number of the system call, which stands in tuple 0.
  * 1 index >= 84; 3 row < 486, then out < the tuple's length; 5 a column.
  */
+KECCAK_TABLES_MUST_USE
 keccak_tables_tuple keccak_tables_keccak_bus_interaction(const uint64_t *row, size_t row_length, size_t index, uint64_t syscall,
                                                          uint64_t *out, size_t out_length);
 
@@ -229,63 +347,78 @@ keccak_tables_tuple keccak_tables_keccak_bus_interaction(const uint64_t *row, si
  * Writes all 84 tuples of a core row, one after the other: for each bus, side, length and multiplicity, then its values.
  * 3 row < 486, then out < 1,457; 5 a column.
  */
+KECCAK_TABLES_MUST_USE
 keccak_tables_answer keccak_tables_keccak_bus_interactions(const uint64_t *row, size_t row_length, uint64_t syscall,
                                                            uint64_t *out, size_t out_length);
 
 /* ---- the round table ---- */
 
 /* Writes the row of a round from the 25 lanes of START. 1 round >= 24; 3 start < 25, then row < 1,480. */
+KECCAK_TABLES_MUST_USE
 keccak_tables_answer keccak_tables_keccak_rnd_row(uint64_t timestamp, const uint64_t *start, size_t start_length, size_t round,
                                                   uint64_t *row, size_t row_length);
 
 /* Writes the round table of a list. 1 more than 89,478,485 operations; 2 the list; 3 table < height * 1,480; 4 a high address. */
+KECCAK_TABLES_MUST_USE
 keccak_tables_answer keccak_tables_generate_keccak_rnd_trace(const uint64_t *ops, size_t ops_length, uint64_t *table,
                                                              size_t table_length);
 
 /* The height of the round table of n operations: the next power of two of 24 n, at least 4. 1 n > 89,478,485. */
+KECCAK_TABLES_MUST_USE
 keccak_tables_number keccak_tables_keccak_rnd_height(size_t n);
 
 /* How many AreBytes tuples the padding rows of that table send; 0 where n is 0. 1 n > 89,478,485. */
+KECCAK_TABLES_MUST_USE
 keccak_tables_number keccak_tables_padding_are_bytes(size_t n);
 
 /* Writes the 141 constraint values of a round row. 3 row < 1,480, then out < 141; 5 a column. */
+KECCAK_TABLES_MUST_USE
 keccak_tables_answer keccak_tables_keccak_rnd_values(const uint64_t *row, size_t row_length, uint64_t *out, size_t out_length);
 
 /* Tuple `index` of a round row. 1 index >= 1,031; 3 row < 1,480, then out < the tuple's length; 5 a column. */
+KECCAK_TABLES_MUST_USE
 keccak_tables_tuple keccak_tables_keccak_rnd_bus_interaction(const uint64_t *row, size_t row_length, size_t index, uint64_t *out,
                                                              size_t out_length);
 
 /* Writes all 1,031 tuples of a round row, likewise. 3 row < 1,480, then out < 8,211; 5 a column. */
+KECCAK_TABLES_MUST_USE
 keccak_tables_answer keccak_tables_keccak_rnd_bus_interactions(const uint64_t *row, size_t row_length, uint64_t *out,
                                                                size_t out_length);
 
 /* ---- the verdict ---- */
 
 /* Judges a core table and a round table, either possibly empty. 2 core, then round, is not whole rows; 5 a word, core first. */
+KECCAK_TABLES_MUST_USE
 keccak_tables_judgement keccak_tables_verdict(const uint64_t *core, size_t core_length, const uint64_t *round,
                                               size_t round_length);
 
 /* ---- operation files: records of 418 bytes, 4B 4F and then an operation's 52 words, lowest byte first ---- */
 
 /* A reader at the beginning of a file. Never refused. */
+KECCAK_TABLES_MUST_USE
 keccak_tables_cursor keccak_tables_tally_start(void);
 
 /*
  * Reads the next piece of the file, cut anywhere; a fault stays what it is. 1 a byte after record 89,478,485; 4 a record's
- * address, told when all 418 bytes of the record are read; 6 a wrong mark. A cursor number of 7 or more counts as 6.
+ * address, told when all 418 bytes of the record are read; 6 a wrong mark. A cursor whose refusal is none of 0 to
+ * 6 counts as 6.
  */
+KECCAK_TABLES_MUST_USE
 keccak_tables_cursor keccak_tables_tally_feed(keccak_tables_cursor cursor, const uint8_t *bytes, size_t bytes_length);
 
 /*
  * What the file says at its end: the reader's fault; 1 more than 89,478,485 records, or bytes after the last of them (only a reader
  * that no call made); 6 a cut record; or the sums.
  */
+KECCAK_TABLES_MUST_USE
 keccak_tables_sums keccak_tables_tally_finish(keccak_tables_cursor cursor);
 
 /* Writes the operations of a whole file. 1, 4 and 6 as a reader gives them, for the first faulty record; then 3 ops < 52 n. */
+KECCAK_TABLES_MUST_USE
 keccak_tables_answer keccak_tables_read_operations(const uint8_t *file, size_t file_length, uint64_t *ops, size_t ops_length);
 
 /* Writes the records of a list. 1 more than 89,478,485 operations; 2 the list; 3 file < 418 n; 4 a high address. */
+KECCAK_TABLES_MUST_USE
 keccak_tables_answer keccak_tables_write_operations(const uint64_t *ops, size_t ops_length, uint8_t *file, size_t file_length);
 
 #ifdef __cplusplus

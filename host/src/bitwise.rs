@@ -1,6 +1,7 @@
 //! The table of bitwise lookups: rows, counters and tuples.
 //!
 //! ```
+//! use keccak_tables::bitwise::BitwiseOperationType;
 //! use keccak_tables::{Refusal, bitwise};
 //!
 //! let index = bitwise::row_index(52, 18, 4)?;
@@ -10,8 +11,9 @@
 //!
 //! // The XOR in this row is looked up once more.
 //! let mut counters = vec![0; bitwise::NUM_COUNTERS];
-//! bitwise::bump(&mut counters, 9, 52, 18, 4)?;
-//! assert_eq!(counters[index * bitwise::NUM_LOOKUP_TYPES + 9], 1);
+//! let kind = BitwiseOperationType::ByteAluXor;
+//! bitwise::bump(&mut counters, kind, 52, 18, 4)?;
+//! assert_eq!(counters[index * bitwise::NUM_LOOKUP_TYPES + kind.number()], 1);
 //! # Ok::<(), Refusal>(())
 //! ```
 
@@ -28,28 +30,106 @@ pub const NUM_PRECOMPUTED_COLS: usize = 11;
 /// All columns: the fixed ones, then a multiplicity for each kind of lookup.
 pub const NUM_COLUMNS: usize = 21;
 
-/// The kinds of lookup: 0 MSB8, 1 MSB16, 2 ZERO, 3 ARE_BYTES, 4 IS_HALF, 5 IS_B20, 6 HWSL, 7 AND, 8 OR, 9 XOR.
-pub const NUM_LOOKUP_TYPES: usize = 10;
+/// The kinds of lookup: those of [`BitwiseOperationType`].
+pub const NUM_LOOKUP_TYPES: usize = BitwiseOperationType::ALL.len();
+
+/// A kind of lookup. Its number is its place in [`BitwiseOperationType::ALL`]; a row's multiplicity of kind k is its column 11 + k.
+#[derive(Debug, Clone, Copy, PartialEq, Eq, Hash)]
+#[repr(usize)]
+pub enum BitwiseOperationType {
+    /// The top bit of the byte X.
+    Msb8,
+    /// The top bit of the halfword X + 256 Y.
+    Msb16,
+    /// Whether X, Y and Z are 0.
+    Zero,
+    /// X and Y are bytes.
+    AreBytes,
+    /// X + 256 Y is a halfword.
+    IsHalf,
+    /// X + 256 Y + 65,536 Z is below 2^20.
+    IsB20,
+    /// The halfword X + 256 Y, shifted left by Z bits.
+    Hwsl,
+    /// X AND Y.
+    ByteAluAnd,
+    /// X OR Y.
+    ByteAluOr,
+    /// X XOR Y.
+    ByteAluXor,
+}
+
+impl BitwiseOperationType {
+    /// Every kind, at its number.
+    pub const ALL: [Self; 10] = [
+        Self::Msb8,
+        Self::Msb16,
+        Self::Zero,
+        Self::AreBytes,
+        Self::IsHalf,
+        Self::IsB20,
+        Self::Hwsl,
+        Self::ByteAluAnd,
+        Self::ByteAluOr,
+        Self::ByteAluXor,
+    ];
+
+    /// Its number, 0 to 9.
+    #[must_use]
+    pub const fn number(self) -> usize {
+        self as usize
+    }
+}
 
 /// The counters, one for each row and kind, at row × 10 + kind.
 pub const NUM_COUNTERS: usize = NUM_ROWS * NUM_LOOKUP_TYPES;
 
 /// Writes the eleven fixed columns of row `index` to the front of `row`.
+///
+/// # Errors
+///
+/// [`PastEnd`](Refusal::PastEnd): `index` is 1,048,576 or more; [`TooShort`](Refusal::TooShort): `row` has fewer than
+/// 11 words.
 pub fn generate_bitwise_row(index: usize, row: &mut [u64]) -> Result<(), Refusal> {
     ffi::generate_bitwise_row(index, row).into()
 }
 
 /// The index of the row of X, Y and Z: x + 256 y + 65,536 z, where z is below 16.
+///
+/// # Errors
+///
+/// [`PastEnd`](Refusal::PastEnd): `z` is 16 or more.
 pub fn row_index(x: u8, y: u8, z: u8) -> Result<usize, Refusal> {
     Result::from(ffi::bitwise_row_index(x, y, z)).map(|index| index as usize)
 }
 
 /// Adds one, mod p, to the counter of a kind of lookup in the row of X, Y and Z.
-pub fn bump(counters: &mut [u64], kind: usize, x: u8, y: u8, z: u8) -> Result<(), Refusal> {
+///
+/// # Errors
+///
+/// [`PastEnd`](Refusal::PastEnd): `z` is 16 or more; [`TooShort`](Refusal::TooShort): `counters` has fewer than
+/// 10,485,760 words; [`NotElement`](Refusal::NotElement): that counter is p or more.
+pub fn bump(counters: &mut [u64], kind: BitwiseOperationType, x: u8, y: u8, z: u8) -> Result<(), Refusal> {
+    bump_numbered(counters, kind.number(), x, y, z)
+}
+
+/// The same of a kind by its number.
+///
+/// # Errors
+///
+/// [`PastEnd`](Refusal::PastEnd): `kind` is 10 or more, then `z` is 16 or more; [`TooShort`](Refusal::TooShort):
+/// `counters` has fewer than 10,485,760 words; [`NotElement`](Refusal::NotElement): that counter is p or more.
+pub fn bump_numbered(counters: &mut [u64], kind: usize, x: u8, y: u8, z: u8) -> Result<(), Refusal> {
     ffi::bitwise_bump(counters, kind, x, y, z).into()
 }
 
 /// Tuple `index` of a row of 21 columns; its values go to the front of `out`.
+///
+/// # Errors
+///
+/// [`PastEnd`](Refusal::PastEnd): `index` is 10 or more; [`TooShort`](Refusal::TooShort): `row` has fewer than 21
+/// words, then `out` fewer than the tuple has values; [`NotElement`](Refusal::NotElement): a column of `row` is p or
+/// more.
 pub fn bus_interaction(row: &[u64], index: usize, out: &mut [u64]) -> Result<BusInteraction, Refusal> {
     BusInteraction::from_flat(ffi::bitwise_bus_interaction(row, index, out))
 }

@@ -39,6 +39,11 @@ impl IsWhKey {
 }
 
 /// Tuple `index` of a row of 4 columns; its values go to the front of `out`.
+///
+/// # Errors
+///
+/// [`PastEnd`](Refusal::PastEnd): `index` is 5 or more; [`TooShort`](Refusal::TooShort): `row` has fewer than 4 words,
+/// then `out` fewer than the tuple has values; [`NotElement`](Refusal::NotElement): a column of `row` is p or more.
 pub fn bus_interaction(row: &[u64], index: usize, out: &mut [u64]) -> Result<BusInteraction, Refusal> {
     BusInteraction::from_flat(ffi::is_wh_bus_interaction(row, index, out))
 }

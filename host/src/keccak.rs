@@ -17,12 +17,14 @@
 //! # Ok::<(), Refusal>(())
 //! ```
 
+pub mod cols;
+
 use crate::ffi;
 use crate::operation::OP_WORDS;
 use crate::refusal::Refusal;
 use crate::tuple::BusInteraction;
 
-/// The columns of a row: 2 timestamp words, 8 address bytes, 200 INPUT, 200 OUTPUT, 25 pointers of 3 limbs, MU.
+/// The columns of a row ([`cols`]): 2 timestamp words, 8 address bytes, 200 INPUT, 200 OUTPUT, 25 pointers of 3 limbs, MU.
 pub const NUM_COLUMNS: usize = 486;
 
 /// The constraint values of a row: two for each lane's pointer, then the last pointer's high carry, then MU.
@@ -44,16 +46,36 @@ pub const KEY_WORDS: usize = 50;
 pub const LAST_ADDRESS: u64 = u64::MAX - 192;
 
 /// Writes the row of operation `index` of a list to the front of `row`.
+///
+/// # Errors
+///
+/// [`PastEnd`](Refusal::PastEnd): more than [`MAX_OPS`](crate::MAX_OPS) operations, then `index` is not below their
+/// number; [`NotWhole`](Refusal::NotWhole): `ops` is not whole operations; [`TooShort`](Refusal::TooShort): `row` has
+/// fewer than 486 words; [`HighAddress`](Refusal::HighAddress): an operation's address is above
+/// [`LAST_ADDRESS`], in any operation of the list.
 pub fn keccak_row(ops: &[u64], index: usize, row: &mut [u64]) -> Result<(), Refusal> {
     ffi::keccak_row(ops, index, row).into()
 }
 
 /// Writes the core table of a list of operations to the front of `table`, which has room for [`keccak_height`] rows.
+///
+/// # Errors
+///
+/// [`PastEnd`](Refusal::PastEnd): more than [`MAX_OPS`](crate::MAX_OPS) operations; [`NotWhole`](Refusal::NotWhole):
+/// `ops` is not whole operations; [`TooShort`](Refusal::TooShort): `table` has fewer than 486 words for each row of
+/// [`keccak_height`]; [`HighAddress`](Refusal::HighAddress): an operation's address is above
+/// [`LAST_ADDRESS`].
 pub fn generate_keccak_trace(ops: &[u64], table: &mut [u64]) -> Result<(), Refusal> {
     ffi::generate_keccak_trace(ops, table).into()
 }
 
 /// The core table of a list of operations, in memory of its own.
+///
+/// # Errors
+///
+/// [`PastEnd`](Refusal::PastEnd): more than [`MAX_OPS`](crate::MAX_OPS) operations; [`NotWhole`](Refusal::NotWhole):
+/// `ops` is not whole operations; [`HighAddress`](Refusal::HighAddress): an operation's address is above
+/// [`LAST_ADDRESS`].
 pub fn keccak_table(ops: &[u64]) -> Result<Vec<u64>, Refusal> {
     let mut table = vec![0; keccak_height(ops.len() / OP_WORDS)? * NUM_COLUMNS];
     generate_keccak_trace(ops, &mut table)?;
@@ -61,28 +83,55 @@ pub fn keccak_table(ops: &[u64]) -> Result<Vec<u64>, Refusal> {
 }
 
 /// Writes the IS_WH keys of a list of operations: for each lane the pointer's upper 32 bits, then its bits 16 to 31.
+///
+/// # Errors
+///
+/// [`PastEnd`](Refusal::PastEnd): more than [`MAX_OPS`](crate::MAX_OPS) operations; [`NotWhole`](Refusal::NotWhole):
+/// `ops` is not whole operations; [`TooShort`](Refusal::TooShort): `out` has fewer than 50 words for each operation;
+/// [`HighAddress`](Refusal::HighAddress): an operation's address is above
+/// [`LAST_ADDRESS`].
 pub fn is_wh_keys(ops: &[u64], out: &mut [u64]) -> Result<(), Refusal> {
     ffi::is_wh_keys(ops, out).into()
 }
 
 /// The rows of the core table of `n` operations: a power of two, 4 or more.
+///
+/// # Errors
+///
+/// [`PastEnd`](Refusal::PastEnd): `n` is more than [`MAX_OPS`](crate::MAX_OPS).
 pub fn keccak_height(n: usize) -> Result<usize, Refusal> {
     Result::from(ffi::keccak_height(n)).map(|rows| rows as usize)
 }
 
 /// Writes the 52 constraint values of a row of 486 columns, mod p and in the order of the Rust's `eval`, to the front of
 /// `out`. All are 0 where the constraints hold.
+///
+/// # Errors
+///
+/// [`TooShort`](Refusal::TooShort): `row` has fewer than 486 words, then `out` fewer than 52;
+/// [`NotElement`](Refusal::NotElement): a column of `row` is p or more.
 pub fn core_values(row: &[u64], out: &mut [u64]) -> Result<(), Refusal> {
     ffi::keccak_values(row, out).into()
 }
 
 /// Tuple `index` of a row of 486 columns, in the order of the Rust's `bus_interactions`; its values go to the front of
 /// `out`. `syscall` is the number of the Keccak system call, whose halves stand in tuple 0.
+///
+/// # Errors
+///
+/// [`PastEnd`](Refusal::PastEnd): `index` is 84 or more; [`TooShort`](Refusal::TooShort): `row` has fewer than 486
+/// words, then `out` fewer than the tuple has values; [`NotElement`](Refusal::NotElement): a column of `row` is p or
+/// more.
 pub fn bus_interaction(row: &[u64], index: usize, syscall: u64, out: &mut [u64]) -> Result<BusInteraction, Refusal> {
     BusInteraction::from_flat(ffi::keccak_bus_interaction(row, index, syscall, out))
 }
 
 /// All 84 tuples of a row, one after the other, to the front of `out`: 1,457 words, which [`tuples`](crate::tuples) reads.
+///
+/// # Errors
+///
+/// [`TooShort`](Refusal::TooShort): `row` has fewer than 486 words, then `out` fewer than 1,457;
+/// [`NotElement`](Refusal::NotElement): a column of `row` is p or more.
 pub fn bus_interactions(row: &[u64], syscall: u64, out: &mut [u64]) -> Result<(), Refusal> {
     ffi::keccak_bus_interactions(row, syscall, out).into()
 }

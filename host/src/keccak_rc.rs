@@ -28,21 +28,39 @@ pub const NUM_COLUMNS: usize = 10;
 pub const TABLE_WORDS: usize = NUM_ROWS * NUM_COLUMNS;
 
 /// Writes the nine fixed columns of a row to the front of `out`.
+///
+/// # Errors
+///
+/// [`PastEnd`](Refusal::PastEnd): `round` is 32 or more; [`TooShort`](Refusal::TooShort): `out` has fewer than 9 words.
 pub fn generate_row(round: usize, out: &mut [u64]) -> Result<(), Refusal> {
     ffi::keccak_rc_generate_row(round, out).into()
 }
 
 /// Writes the whole table, every multiplicity being 0.
+///
+/// # Errors
+///
+/// [`TooShort`](Refusal::TooShort): `table` has fewer than 320 words.
 pub fn generate_keccak_rc_trace(table: &mut [u64]) -> Result<(), Refusal> {
     ffi::generate_keccak_rc_trace(table).into()
 }
 
 /// Sets the multiplicities of the rounds 0 to 23 to the number of operations.
+///
+/// # Errors
+///
+/// [`PastEnd`](Refusal::PastEnd): `n` is more than [`MAX_OPS`](crate::MAX_OPS); [`TooShort`](Refusal::TooShort):
+/// `table` has fewer than 320 words.
 pub fn update_multiplicities(table: &mut [u64], n: u64) -> Result<(), Refusal> {
     ffi::keccak_rc_update_multiplicities(table, n).into()
 }
 
 /// Tuple `index` of a row of ten columns, of which it has one; its values go to the front of `out`.
+///
+/// # Errors
+///
+/// [`PastEnd`](Refusal::PastEnd): `index` is 1 or more; [`TooShort`](Refusal::TooShort): `row` has fewer than 10 words,
+/// then `out` fewer than 9; [`NotElement`](Refusal::NotElement): a column of `row` is p or more.
 pub fn bus_interaction(row: &[u64], index: usize, out: &mut [u64]) -> Result<BusInteraction, Refusal> {
     BusInteraction::from_flat(ffi::keccak_rc_bus_interaction(row, index, out))
 }

@@ -14,12 +14,14 @@
 //! # Ok::<(), Refusal>(())
 //! ```
 
+pub mod cols;
+
 use crate::ffi;
 use crate::operation::OP_WORDS;
 use crate::refusal::Refusal;
 use crate::tuple::BusInteraction;
 
-/// The columns of a row.
+/// The columns of a row ([`cols`]).
 pub const NUM_COLUMNS: usize = 1480;
 
 /// The constraint values of a row: 20 carries of C, 20 halfwords of C shifted, 100 halfwords shifted by ρ, then MU.
@@ -38,17 +40,35 @@ pub const TUPLE_WORDS: usize = 8211;
 pub const ROUNDS: usize = 24;
 
 /// Writes the row of a round to the front of `row`: START is the first 25 words of `start`, lane x + 5y.
+///
+/// # Errors
+///
+/// [`PastEnd`](Refusal::PastEnd): `round` is 24 or more; [`TooShort`](Refusal::TooShort): `start` has fewer than 25
+/// words, then `row` fewer than 1,480.
 pub fn keccak_rnd_row(timestamp: u64, start: &[u64], round: usize, row: &mut [u64]) -> Result<(), Refusal> {
     ffi::keccak_rnd_row(timestamp, start, round, row).into()
 }
 
 /// Writes the round table of a list of operations to the front of `table`, which has room for [`keccak_rnd_height`] rows.
 /// The operations' outputs are not read.
+///
+/// # Errors
+///
+/// [`PastEnd`](Refusal::PastEnd): more than [`MAX_OPS`](crate::MAX_OPS) operations; [`NotWhole`](Refusal::NotWhole):
+/// `ops` is not whole operations; [`TooShort`](Refusal::TooShort): `table` has fewer than 1,480 words for each row of
+/// [`keccak_rnd_height`]; [`HighAddress`](Refusal::HighAddress): an operation's address is above
+/// [`LAST_ADDRESS`](crate::keccak::LAST_ADDRESS).
 pub fn generate_keccak_rnd_trace(ops: &[u64], table: &mut [u64]) -> Result<(), Refusal> {
     ffi::generate_keccak_rnd_trace(ops, table).into()
 }
 
 /// The round table of a list of operations, in memory of its own.
+///
+/// # Errors
+///
+/// [`PastEnd`](Refusal::PastEnd): more than [`MAX_OPS`](crate::MAX_OPS) operations; [`NotWhole`](Refusal::NotWhole):
+/// `ops` is not whole operations; [`HighAddress`](Refusal::HighAddress): an operation's address is above
+/// [`LAST_ADDRESS`](crate::keccak::LAST_ADDRESS).
 pub fn keccak_rnd_table(ops: &[u64]) -> Result<Vec<u64>, Refusal> {
     let mut table = vec![0; keccak_rnd_height(ops.len() / OP_WORDS)? * NUM_COLUMNS];
     generate_keccak_rnd_trace(ops, &mut table)?;
@@ -56,29 +76,53 @@ pub fn keccak_rnd_table(ops: &[u64]) -> Result<Vec<u64>, Refusal> {
 }
 
 /// The rows of the round table of `n` operations: a power of two, 4 or more.
+///
+/// # Errors
+///
+/// [`PastEnd`](Refusal::PastEnd): `n` is more than [`MAX_OPS`](crate::MAX_OPS).
 pub fn keccak_rnd_height(n: usize) -> Result<usize, Refusal> {
     Result::from(ffi::keccak_rnd_height(n)).map(|rows| rows as usize)
 }
 
 /// How many AreBytes tuples the padding rows of the round table of `n` operations send; 0 where `n` is 0.
+///
+/// # Errors
+///
+/// [`PastEnd`](Refusal::PastEnd): `n` is more than [`MAX_OPS`](crate::MAX_OPS).
 pub fn padding_are_bytes(n: usize) -> Result<u64, Refusal> {
     ffi::padding_are_bytes(n).into()
 }
 
 /// Writes the 141 constraint values of a row of 1,480 columns, mod p and in the order of the Rust's `eval`, to the front
 /// of `out`. All are 0 where the constraints hold.
+///
+/// # Errors
+///
+/// [`TooShort`](Refusal::TooShort): `row` has fewer than 1,480 words, then `out` fewer than 141;
+/// [`NotElement`](Refusal::NotElement): a column of `row` is p or more.
 pub fn round_values(row: &[u64], out: &mut [u64]) -> Result<(), Refusal> {
     ffi::keccak_rnd_values(row, out).into()
 }
 
 /// Tuple `index` of a row of 1,480 columns, in the order of the Rust's `bus_interactions`; its values go to the front of
 /// `out`.
+///
+/// # Errors
+///
+/// [`PastEnd`](Refusal::PastEnd): `index` is 1,031 or more; [`TooShort`](Refusal::TooShort): `row` has fewer than 1,480
+/// words, then `out` fewer than the tuple has values; [`NotElement`](Refusal::NotElement): a column of `row` is p or
+/// more.
 pub fn bus_interaction(row: &[u64], index: usize, out: &mut [u64]) -> Result<BusInteraction, Refusal> {
     BusInteraction::from_flat(ffi::keccak_rnd_bus_interaction(row, index, out))
 }
 
 /// All 1,031 tuples of a row, one after the other, to the front of `out`: 8,211 words, which [`tuples`](crate::tuples)
 /// reads. The row is checked once, so this is many times faster than a call for each tuple.
+///
+/// # Errors
+///
+/// [`TooShort`](Refusal::TooShort): `row` has fewer than 1,480 words, then `out` fewer than 8,211;
+/// [`NotElement`](Refusal::NotElement): a column of `row` is p or more.
 pub fn bus_interactions(row: &[u64], out: &mut [u64]) -> Result<(), Refusal> {
     ffi::keccak_rnd_bus_interactions(row, out).into()
 }

@@ -32,7 +32,6 @@ pub mod keccak_rc;
 pub mod keccak_rnd;
 pub mod layout;
 pub mod operation_file;
-pub mod program;
 pub mod verdict;
 
 #[allow(unsafe_code)]
@@ -43,7 +42,7 @@ mod tuple;
 
 pub use operation::{MAX_OPS, OP_WORDS, Operation};
 pub use refusal::{Lent, Refusal};
-pub use tuple::{Bus, BusInteraction, Side, tuples};
+pub use tuple::{Bus, BusInteraction, Side, transposed, tuples};
 
 /// The prime p = 2^64 - 2^32 + 1: a field element is a word below it.
 pub const P: u64 = 0xFFFF_FFFF_0000_0001;

@@ -31,6 +31,21 @@ impl Operation {
         words
     }
 
+    /// The flat list of some operations.
+    ///
+    /// ```
+    /// use keccak_tables::{Operation, Refusal, keccak};
+    ///
+    /// let operation = |timestamp| Operation { timestamp, address: 4096, input: [0; 25], output: [0; 25] };
+    /// let table = keccak::keccak_table(&Operation::list(&[operation(5), operation(6)]))?;
+    /// assert_eq!(table[keccak::NUM_COLUMNS], 6);
+    /// # Ok::<(), Refusal>(())
+    /// ```
+    #[must_use]
+    pub fn list(operations: &[Self]) -> Vec<u64> {
+        operations.iter().flat_map(Self::words).collect()
+    }
+
     /// The operation of 52 words of a flat list.
     ///
     /// ```

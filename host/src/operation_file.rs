@@ -93,6 +93,12 @@ impl Tally {
     }
 
     /// What the whole file says, now that it has ended.
+    ///
+    /// # Errors
+    ///
+    /// [`PastEnd`](Refusal::PastEnd): a byte after record 89,478,485; [`HighAddress`](Refusal::HighAddress): a record's
+    /// address is above [`LAST_ADDRESS`](crate::keccak::LAST_ADDRESS); [`BadRecord`](Refusal::BadRecord): a wrong mark
+    /// or a cut record. The first faulty record is told, and of it the mark before the address.
     pub fn finish(self) -> Result<Sums, Refusal> {
         ffi::tally_finish(self.0).into()
     }
@@ -105,11 +111,22 @@ impl Default for Tally {
 }
 
 /// Writes the operations of a file to the front of `ops`. A faulty file is refused as by [`Tally`], and then a short list.
+///
+/// # Errors
+///
+/// Those of [`Tally::finish`]; then [`TooShort`](Refusal::TooShort): `ops` has fewer than 52 words for each record.
 pub fn read_operations(file: &[u8], ops: &mut [u64]) -> Result<(), Refusal> {
     ffi::read_operations(file, ops).into()
 }
 
 /// Writes the records of a list of operations to the front of `file`.
+///
+/// # Errors
+///
+/// [`PastEnd`](Refusal::PastEnd): more than [`MAX_OPS`](crate::MAX_OPS) operations; [`NotWhole`](Refusal::NotWhole):
+/// `ops` is not whole operations; [`TooShort`](Refusal::TooShort): `file` has fewer than 418 bytes for each operation;
+/// [`HighAddress`](Refusal::HighAddress): an operation's address is above
+/// [`LAST_ADDRESS`](crate::keccak::LAST_ADDRESS).
 pub fn write_operations(ops: &[u64], file: &mut [u8]) -> Result<(), Refusal> {
     ffi::write_operations(ops, file).into()
 }

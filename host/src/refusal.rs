@@ -15,6 +15,9 @@ pub enum Lent {
 
 /// Why a call did nothing. A call's checks are made in this order, each over all its arguments; but a file is read before the
 /// slice that takes its words is looked at, record by record, and there 6 comes before 4.
+///
+/// Later versions may refuse for further reasons, so a `match` needs an arm for the rest.
+#[non_exhaustive]
 #[derive(Debug, Clone, Copy, PartialEq, Eq, Hash)]
 pub enum Refusal {
     /// 1: an index, kind, count or round past its end.
@@ -100,16 +103,19 @@ impl Refusal {
 impl fmt::Display for Refusal {
     fn fmt(&self, f: &mut fmt::Formatter<'_>) -> fmt::Result {
         match *self {
-            Self::PastEnd { limit } => write!(f, "a number is {limit} or more"),
+            Self::PastEnd { limit } => write!(
+                f,
+                "an index, a kind, a round or a number of operations is past its end: {limit} or more"
+            ),
             Self::NotWhole { which: Lent::Core } => write!(f, "the core table is not whole rows"),
             Self::NotWhole { which: Lent::Round } => write!(f, "the round table is not whole rows"),
             Self::NotWhole { which: Lent::List } => write!(f, "the list is not whole operations"),
-            Self::TooShort { needed } => write!(f, "a slice is shorter than the {needed} that are needed"),
+            Self::TooShort { needed } => write!(f, "a lent slice is shorter than the {needed} that are needed"),
             Self::HighAddress { address } => write!(
                 f,
                 "the last of the 25 lanes from address {address} would start past 2^64 - 1"
             ),
-            Self::NotElement { place } => write!(f, "the word at {place} is not below p"),
+            Self::NotElement { place } => write!(f, "word {place} of a lent slice is not below p"),
             Self::BadRecord { start } => write!(f, "the record that starts at byte {start} is cut or has a wrong mark"),
         }
     }
@@ -124,20 +130,25 @@ mod tests {
     #[test]
     fn each_refusal_has_its_number_its_detail_and_its_words() {
         let whole = |which| Refusal::NotWhole { which };
+        let past_end = "an index, a kind, a round or a number of operations is past its end: 16 or more";
         let last_lane = "the last of the 25 lanes from address 9 would start past 2^64 - 1";
         let bad_record = "the record that starts at byte 418 is cut or has a wrong mark";
         let cases = [
-            (Refusal::PastEnd { limit: 16 }, [1, 16], "a number is 16 or more"),
+            (Refusal::PastEnd { limit: 16 }, [1, 16], past_end),
             (whole(Lent::Core), [2, 0], "the core table is not whole rows"),
             (whole(Lent::Round), [2, 1], "the round table is not whole rows"),
             (whole(Lent::List), [2, 2], "the list is not whole operations"),
             (
                 Refusal::TooShort { needed: 486 },
                 [3, 486],
-                "a slice is shorter than the 486 that are needed",
+                "a lent slice is shorter than the 486 that are needed",
             ),
             (Refusal::HighAddress { address: 9 }, [4, 9], last_lane),
-            (Refusal::NotElement { place: 7 }, [5, 7], "the word at 7 is not below p"),
+            (
+                Refusal::NotElement { place: 7 },
+                [5, 7],
+                "word 7 of a lent slice is not below p",
+            ),
             (Refusal::BadRecord { start: 418 }, [6, 418], bad_record),
         ];
         for (refusal, [number, detail], words) in cases {

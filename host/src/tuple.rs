@@ -4,6 +4,7 @@ use crate::ffi::FlatTuple;
 use crate::refusal::Refusal;
 
 /// The buses of the Keccak tables and of the tables that they look up.
+#[non_exhaustive]
 #[derive(Debug, Clone, Copy, PartialEq, Eq, Hash)]
 #[repr(u64)]
 pub enum Bus {
@@ -17,7 +18,8 @@ pub enum Bus {
     IsWh,
     /// A round and its constant's bytes.
     KeccakRc,
-    /// A timestamp, a round and a state.
+    /// A timestamp's two words, a round and a state's 200 bytes. The bytes run by lane 5x + y, not by lane x + 5y as columns do:
+    /// byte b of lane (x, y) is value 3 + 8 (5x + y) + b. [`transposed`] turns the one order into the other.
     Keccak,
     /// A memory access.
     Memw,
@@ -138,6 +140,33 @@ pub fn tuples(words: &[u64]) -> impl Iterator<Item = (BusInteraction, &[u64])> {
         let (values, after) = after.split_at_checked(tuple.length)?;
         rest = after;
         Some((tuple, values))
+    })
+}
+
+/// A state's 200 bytes in the other of the two orders. A tuple on [`Bus::Keccak`] has byte b of lane (x, y) at 8 (5x + y) + b, a row's
+/// columns at 8 (x + 5y) + b; turning twice gives the state back.
+///
+/// ```
+/// use keccak_tables::keccak_rnd::{self, cols};
+/// use keccak_tables::{Refusal, transposed};
+///
+/// let start: [u64; 25] = std::array::from_fn(|lane| lane as u64);
+/// let mut row = [0; keccak_rnd::NUM_COLUMNS];
+/// keccak_rnd::keccak_rnd_row(5, &start, 0, &mut row)?;
+/// let mut values = [0; keccak_rnd::MAX_TUPLE_LENGTH];
+/// keccak_rnd::bus_interaction(&row, 0, &mut values)?;
+///
+/// // Lane (1, 0) is lane 1 of START and comes sixth in the tuple.
+/// assert_eq!((row[cols::start(1, 0, 0)], values[3 + 8 * 5]), (1, 1));
+/// let state = values[3..].first_chunk().expect("200 values");
+/// assert_eq!(transposed(state), row[cols::START..][..200]);
+/// # Ok::<(), Refusal>(())
+/// ```
+#[must_use]
+pub fn transposed(state: &[u64; 200]) -> [u64; 200] {
+    std::array::from_fn(|at| {
+        let (lane, byte) = (at / 8, at % 8);
+        state[8 * (lane % 5 * 5 + lane / 5) + byte]
     })
 }
 

@@ -18,6 +18,7 @@ pub enum Table {
 /// lookups, timestamps, round values, round lookups, balance, there the core table first. Of the first kind that there is,
 /// the lowest row is named, and in it the lowest index.
 #[must_use = "a failure is a verdict too, and not an error"]
+#[non_exhaustive]
 #[derive(Debug, Clone, Copy, PartialEq, Eq, Hash)]
 pub enum Verdict {
     /// Both tables hold.
@@ -85,6 +86,11 @@ impl Verdict {
 /// assert_eq!(answer.to_string(), "core row 0 balance 3");
 /// # Ok::<(), Refusal>(())
 /// ```
+///
+/// # Errors
+///
+/// [`NotWhole`](Refusal::NotWhole): `core`, then `round`, is not whole rows; [`NotElement`](Refusal::NotElement): a
+/// word of `core`, or else of `round`, is p or more.
 pub fn verdict(core: &[u64], round: &[u64]) -> Result<Verdict, Refusal> {
     from_flat(ffi::verdict(core, round))
 }

@@ -21,8 +21,8 @@
     } while (0)
 
 /* The answer is that of a call that did its work, or that of one that is refused. */
-#define DONE(answer) CHECK((answer).number == 0 && (answer).detail == 0)
-#define REFUSED(answer, n, d) CHECK((answer).number == (n) && (answer).detail == (d))
+#define DONE(answer) CHECK((answer).refusal == KECCAK_TABLES_REFUSAL_NONE && (answer).detail == 0)
+#define REFUSED(answer, n, d) CHECK((answer).refusal == (n) && (answer).detail == (d))
 
 /* Stands past every slice that is written. */
 #define GUARD 0xA5A5A5A5A5A5A5A5u
@@ -291,12 +291,24 @@ static void round_evaluations(void) {
     REFUSED(answer, 3, 1480);
 }
 
+/* The two orders of a state: START of the last round's row as columns, and as that row receives it. */
+static void state_orders(void) {
+    const uint64_t *row = rounds + 23 * 1480, *from = row + KECCAK_TABLES_ROUND_START;
+    uint64_t out[203], to[200];
+    keccak_tables_tuple tuple = keccak_tables_keccak_rnd_bus_interaction(row, 1480, 0, out, 203);
+    CHECK(tuple.bus == KECCAK_TABLES_BUS_KECCAK && tuple.side == KECCAK_TABLES_SIDE_RECEIVER);
+    for (int x = 0; x < 5; x++)
+        for (int y = 0; y < 5; y++)
+            memcpy(to + 8 * (5 * x + y), from + 8 * (x + 5 * y), 8 * sizeof *to);
+    CHECK(memcmp(to, out + 3, sizeof to) == 0 && memcmp(to, from, sizeof to) != 0);
+}
+
 /* The operation claims a zero output, which is wrong; then the output is put right by the last round's row. */
 static void verdict_calls(void) {
     uint64_t out[203];
     keccak_tables_judgement verdict = CALL(keccak_tables_verdict)(core, CORE, rounds, ROUND);
-    CHECK(verdict.kind == 6 && verdict.first == 0 && verdict.second == 0);
-    keccak_tables_tuple tuple = keccak_tables_keccak_bus_interaction(core, 486, (size_t)verdict.third, 0, out, 203);
+    CHECK(verdict.kind == KECCAK_TABLES_VERDICT_BALANCE && verdict.table == KECCAK_TABLES_TABLE_CORE && verdict.row == 0);
+    keccak_tables_tuple tuple = keccak_tables_keccak_bus_interaction(core, 486, (size_t)verdict.index, 0, out, 203);
     DONE(tuple);
     CHECK(tuple.bus == 5 && tuple.side == 1);
 
@@ -304,14 +316,14 @@ static void verdict_calls(void) {
     memcpy(core + 210, last + 1471, 8 * sizeof *core);
     memcpy(core + 218, last + 1271, 192 * sizeof *core);
     verdict = keccak_tables_verdict(core, CORE, rounds, ROUND);
-    CHECK(verdict.kind == 0 && verdict.first == 1 && verdict.second == 0 && verdict.third == 0);
+    CHECK(verdict.kind == KECCAK_TABLES_VERDICT_HOLDS && verdict.active == 1 && verdict.row == 0 && verdict.index == 0);
     verdict = keccak_tables_verdict(core, CORE - 1, rounds, ROUND - 1);
-    CHECK(verdict.kind == 7 && verdict.first == 2 && verdict.second == 0 && verdict.third == 0);
+    CHECK(verdict.kind == KECCAK_TABLES_VERDICT_REFUSED && verdict.refusal == 2 && verdict.detail == 0 && verdict.index == 0);
     verdict = keccak_tables_verdict(core, CORE, rounds, ROUND - 1);
-    CHECK(verdict.kind == 7 && verdict.first == 2 && verdict.second == 1 && verdict.third == 0);
+    CHECK(verdict.kind == KECCAK_TABLES_VERDICT_REFUSED && verdict.refusal == 2 && verdict.detail == 1 && verdict.index == 0);
     rounds[ROUND - 1] = UINT64_MAX;
     verdict = keccak_tables_verdict(core, CORE, rounds, ROUND);
-    CHECK(verdict.kind == 7 && verdict.first == 5 && verdict.second == ROUND - 1 && verdict.third == 0);
+    CHECK(verdict.kind == KECCAK_TABLES_VERDICT_REFUSED && verdict.refusal == 5 && verdict.detail == ROUND - 1 && verdict.index == 0);
 }
 
 static void file_lists(void) {
@@ -378,6 +390,7 @@ int main(void) {
     round_rows();
     round_numbers();
     round_evaluations();
+    state_orders();
     verdict_calls();
     file_lists();
     file_sums();

@@ -3,6 +3,7 @@
 #[allow(dead_code)]
 mod interface;
 
+use keccak_tables::bitwise::BitwiseOperationType;
 use keccak_tables::is_wh::IsWhKey;
 use keccak_tables::operation_file::Tally;
 use keccak_tables::verdict::{Table, Verdict};
@@ -47,10 +48,14 @@ fn bitwise_calls() {
 
     let mut counters = vec![0; bitwise::NUM_COUNTERS];
     counters[2_668_047] = P - 1;
-    assert_eq!(bitwise::bump(&mut counters, 9, 52, 18, 4), Ok(()));
-    assert_eq!(bitwise::bump(&mut counters, 7, 52, 18, 4), Ok(()));
+    assert_eq!(bitwise::bump_numbered(&mut counters, 9, 52, 18, 4), Ok(()));
+    assert_eq!(
+        bitwise::bump(&mut counters, BitwiseOperationType::ByteAluAnd, 52, 18, 4),
+        Ok(())
+    );
     assert_eq!(counters[2_668_045..2_668_051], [0, 0, 0, 0, 1, 0]);
-    let refused = bitwise::bump(&mut counters, 10, 52, 18, 16);
+    assert_eq!(BitwiseOperationType::ByteAluAnd.number(), 7);
+    let refused = bitwise::bump_numbered(&mut counters, 10, 52, 18, 16);
     assert_eq!(refused, Err(Refusal::PastEnd { limit: 10 }));
 
     let mut all = [7; bitwise::NUM_COLUMNS];
@@ -311,6 +316,7 @@ fn none_is_left_out() {
             }
         }
     }
-    // Those of the archive; two more that allocate a table, a verdict's `holds`, a reader's fault and the lines of its sums.
-    assert_eq!(functions, interface::exports().len() + 5);
+    // Those of the archive; two more that allocate a table, a verdict's `holds`, a reader's fault and the lines of its sums, a counter
+    // by its kind, and a kind's number.
+    assert_eq!(functions, interface::exports().len() + 7);
 }

@@ -7,7 +7,9 @@ use std::io::ErrorKind;
 use std::path::Path;
 use std::process::Command;
 
-use keccak_tables::{MAX_OPS, OP_WORDS, P, bitwise, is_wh, keccak, keccak_rc, keccak_rnd, operation_file};
+use keccak_tables::{
+    Bus, Lent, MAX_OPS, OP_WORDS, P, Refusal, Side, bitwise, is_wh, keccak, keccak_rc, keccak_rnd, operation_file,
+};
 
 #[test]
 fn the_header_and_the_bindings_have_the_functions_of_the_archive() {
@@ -65,9 +67,159 @@ fn the_header_and_the_bindings_have_the_same_numbers() {
         ("ROUND_TUPLE_WORDS", keccak_rnd::TUPLE_WORDS as u64),
         ("MAX_TUPLE_LENGTH", keccak_rnd::MAX_TUPLE_LENGTH as u64),
     ];
-    let numbers: BTreeMap<String, u64> = numbers.map(|(name, number)| (name.to_string(), number)).into();
-    assert_eq!(interface::header_numbers(), numbers);
+    let mut all: BTreeMap<String, u64> = numbers.map(|(name, number)| (name.to_string(), number)).into();
+    for (prefix, names) in [
+        ("REFUSAL_", refusals()),
+        (
+            "LENT_",
+            [("CORE", Lent::Core), ("ROUND", Lent::Round), ("LIST", Lent::List)]
+                .map(lent)
+                .to_vec(),
+        ),
+        (
+            "BUS_",
+            Bus::ALL
+                .map(|bus| (capitals(&format!("{bus:?}")), bus.number()))
+                .to_vec(),
+        ),
+        (
+            "SIDE_",
+            [Side::Sender, Side::Receiver]
+                .map(|side| (capitals(&format!("{side:?}")), side.number()))
+                .to_vec(),
+        ),
+        ("ALU_", numbered(&["AND", "OR", "XOR"])),
+        ("KIND_", kinds()),
+        ("VERDICT_", numbered(&VERDICTS)),
+        ("TABLE_", numbered(&["CORE", "ROUND"])),
+        ("CORE_", core_columns()),
+        ("ROUND_", round_columns()),
+    ] {
+        all.extend(
+            names
+                .into_iter()
+                .map(|(name, number)| (prefix.to_string() + &name, number)),
+        );
+    }
+    assert_eq!(interface::header_numbers(), all);
     assert_eq!(keccak::MAX_TUPLE_LENGTH, keccak_rnd::MAX_TUPLE_LENGTH);
+}
+
+/// The kinds of verdict, in the order of the definition's words (`verdictWords`); `verdict.rs` reads them by these numbers.
+const VERDICTS: [&str; 8] = [
+    "HOLDS",
+    "CORE_VALUE",
+    "CORE_LOOKUP",
+    "TIMESTAMP",
+    "ROUND_VALUE",
+    "ROUND_LOOKUP",
+    "BALANCE",
+    "REFUSED",
+];
+
+fn numbered(names: &[&str]) -> Vec<(String, u64)> {
+    names.iter().map(|name| name.to_string()).zip(0..).collect()
+}
+
+/// `IsB20` as `IS_B20`.
+fn capitals(name: &str) -> String {
+    let mut capitals = String::new();
+    for letter in name.chars() {
+        if letter.is_uppercase() && !capitals.is_empty() {
+            capitals.push('_');
+        }
+        capitals.push(letter.to_ascii_uppercase());
+    }
+    capitals
+}
+
+fn refusals() -> Vec<(String, u64)> {
+    let refusals = [
+        ("PAST_END", Refusal::PastEnd { limit: 0 }),
+        ("NOT_WHOLE", Refusal::NotWhole { which: Lent::Core }),
+        ("TOO_SHORT", Refusal::TooShort { needed: 0 }),
+        ("HIGH_ADDRESS", Refusal::HighAddress { address: 0 }),
+        ("NOT_ELEMENT", Refusal::NotElement { place: 0 }),
+        ("BAD_RECORD", Refusal::BadRecord { start: 0 }),
+    ];
+    let none = [("NONE".to_string(), 0)];
+    none.into_iter()
+        .chain(refusals.map(|(name, refusal)| (name.to_string(), refusal.number())))
+        .collect()
+}
+
+fn lent((name, which): (&str, Lent)) -> (String, u64) {
+    (name.to_string(), Refusal::NotWhole { which }.detail())
+}
+
+fn kinds() -> Vec<(String, u64)> {
+    let kinds = bitwise::BitwiseOperationType::ALL.map(|kind| (capitals(&format!("{kind:?}")), kind.number() as u64));
+    kinds
+        .map(|(name, number)| (name.trim_start_matches("BYTE_ALU_").to_string(), number))
+        .to_vec()
+}
+
+/// Columns by name.
+macro_rules! columns {
+    ($cols:path, $($name:ident)*) => {{
+        use $cols as cols;
+        vec![$((stringify!($name).to_string(), cols::$name as u64)),*]
+    }};
+}
+
+fn core_columns() -> Vec<(String, u64)> {
+    columns!(keccak::cols, TIMESTAMP_0 TIMESTAMP_1 ADDR INPUT_STATE OUTPUT_STATE STATE_PTR MU)
+}
+
+fn round_columns() -> Vec<(String, u64)> {
+    columns!(keccak_rnd::cols, TIMESTAMP_0 TIMESTAMP_1 ROUND START CXZ CXZ_LEFT CXZ_RIGHT DXZ THETA ROT_LEFT ROT_RIGHT CHI_ANDS CHI RC
+        IOTA MU)
+}
+
+/// A C compiler with the header's folder and a source; none where there is no such compiler.
+fn compiler(name: &str, standard: &str) -> Option<Command> {
+    let mut command = Command::new(name);
+    match command.arg("--version").output() {
+        Err(error) if error.kind() == ErrorKind::NotFound => {
+            eprintln!("there is no program {name} on the PATH: the header is not tried with it");
+            return None;
+        }
+        answer => assert!(answer.expect("a compiler can be run").status.success()),
+    }
+    let mut command = Command::new(name);
+    command.args([standard, "-O1", "-Wall", "-Wextra", "-Wpedantic", "-Werror", "-I"]);
+    command.arg(interface::root().join("include"));
+    Some(command)
+}
+
+/// An answer that is dropped is an error where warnings are; and C++ takes the header too.
+#[test]
+fn a_dropped_answer_is_told() {
+    let folder = Path::new(env!("CARGO_TARGET_TMPDIR"));
+    for (name, standard, language) in [("cc", "-std=c11", "c"), ("c++", "-std=c++17", "c++")] {
+        for (call, fine) in [
+            ("return keccak_tables_keccak_height(1).value != 4", true),
+            ("keccak_tables_keccak_height(1)", false),
+        ] {
+            let Some(mut compiler) = compiler(name, standard) else {
+                return;
+            };
+            let source = folder.join(format!("dropped-{name}-{fine}.c"));
+            std::fs::write(
+                &source,
+                format!("#include \"keccak_tables.h\"\nint main(void) {{ {call}; }}\n"),
+            )
+            .expect("a file");
+            let compiled = compiler
+                .args(["-x", language, "-c", "-o", "/dev/null"])
+                .arg(&source)
+                .output()
+                .expect("it can be run");
+            let said = String::from_utf8_lossy(&compiled.stderr);
+            assert_eq!(compiled.status.success(), fine, "{name}: {said}");
+            assert!(fine || said.contains("unused"), "{name}: {said}");
+        }
+    }
 }
 
 /// Compiles and runs `every_call.c`, which prints the name of each function that it calls, and fails where an answer is
@@ -75,21 +227,16 @@ fn the_header_and_the_bindings_have_the_same_numbers() {
 #[test]
 fn a_program_in_c_calls_every_function() {
     let program = Path::new(env!("CARGO_TARGET_TMPDIR")).join("every_call");
-    let compiled = Command::new("cc")
-        .args(["-std=c11", "-O1", "-Wall", "-Wextra", "-Wpedantic", "-Werror", "-I"])
-        .arg(interface::root().join("include"))
+    let Some(mut compiler) = compiler("cc", "-std=c11") else {
+        return;
+    };
+    let compiled = compiler
         .arg(interface::root().join("host/tests/every_call.c"))
         .arg(interface::archive())
         .arg("-o")
         .arg(&program)
-        .output();
-    let compiled = match compiled {
-        Err(error) if error.kind() == ErrorKind::NotFound => {
-            eprintln!("there is no program cc on the PATH: the header is not tried from C");
-            return;
-        }
-        compiled => compiled.expect("cc can be run"),
-    };
+        .output()
+        .expect("cc can be run");
     assert!(
         compiled.status.success(),
         "{}",

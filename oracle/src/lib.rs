@@ -13,6 +13,7 @@
 // The modules `tables` and `constraints`, as the published files name each other by `crate::`.
 include!(concat!(env!("OUT_DIR"), "/published.rs"));
 
+pub mod lanes;
 pub mod missing_types;
 pub mod sample;
 

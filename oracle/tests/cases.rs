@@ -2,13 +2,13 @@
 
 mod common;
 
-use common::{State, keccak_f, lanes_of, operation, previous, state_after};
+use common::{lanes_of, operation, state_after};
+use oracle::lanes::{State, input_of, keccak_f};
 use oracle::{Bus, CORE_COLUMNS, P, ROUND_COLUMNS, Side, Tuple};
 
 /// Row `round` of the round table of one operation whose state at that round is `start`.
 fn row_from(start: &State, round: usize) -> Vec<u64> {
-    let input = (0..round).rev().fold(*start, |a, earlier| previous(&a, earlier));
-    let table = oracle::round_table(&operation(1, 4096, &input));
+    let table = oracle::round_table(&operation(1, 4096, &input_of(start, round)));
     let row = table[round * ROUND_COLUMNS..][..ROUND_COLUMNS].to_vec();
     assert_eq!(lanes_of(&row[3..203]), *start);
     row

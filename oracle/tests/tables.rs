@@ -4,9 +4,10 @@ mod common;
 
 use std::collections::BTreeMap;
 
-use common::{CONSTANTS, State, keccak_f, lanes_of, next, offset, operation, state_after};
+use common::{lanes_of, operation, state_after};
 use oracle::Bus::*;
 use oracle::Side::{Receiver, Sender};
+use oracle::lanes::{CONSTANTS, State, keccak_f, next, offset};
 use oracle::sample::{self, Generator};
 use oracle::{Bus, CORE_COLUMNS, Lookup, P, ROUND_COLUMNS, Side, Tuple};
 

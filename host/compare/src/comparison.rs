@@ -3,6 +3,7 @@
 use std::collections::{BTreeMap, BTreeSet};
 use std::process::ExitCode;
 
+use crate::say;
 use keccak_tables::Refusal;
 
 /// A differential run.
@@ -60,7 +61,7 @@ impl Comparison {
         let place = (0..ours.len().max(theirs.len()))
             .find(|&place| ours.get(place) != theirs.get(place))
             .expect("the two differ");
-        println!(
+        say!(
             "DIFFERENCE in '{}': word {place} is {}, expected {}; {}",
             group.name,
             shown(ours.get(place)),
@@ -125,17 +126,20 @@ impl Comparison {
     }
 
     fn say_what_was_compared(&self) {
-        println!("tried {} calls", self.calls);
-        println!("compared {} words, {} differences", self.words, self.differences);
+        say!("tried {} calls", self.calls);
+        say!("compared {} words, {} differences", self.words, self.differences);
     }
 
     fn end_group(&mut self) {
         if let Some(group) = self.group.take() {
             self.calls += group.calls;
             self.words += group.words;
-            println!(
+            say!(
                 "{}: {} calls, {} comparisons, {} words",
-                group.name, group.calls, group.items, group.words
+                group.name,
+                group.calls,
+                group.items,
+                group.words
             );
         }
     }

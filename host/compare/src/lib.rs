@@ -19,6 +19,7 @@ pub mod list_calls;
 pub mod refusals;
 pub mod refused;
 pub mod rows;
+pub mod say;
 pub mod tally;
 pub mod tuple_list;
 pub mod tuples;

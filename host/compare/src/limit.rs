@@ -7,6 +7,7 @@ use crate::comparison::Comparison;
 use crate::inputs::Words;
 use crate::lent::Lent;
 use crate::list_calls::TOO_MANY;
+use crate::say;
 use crate::tally::{file_of, numbers};
 use crate::untouched::Repeated;
 
@@ -21,7 +22,7 @@ pub fn compare(comparison: &mut Comparison, seed: u64, _n: usize) {
     let mut words = Words::new(seed);
     let piece = file_of(&words.operations(RECORDS));
     let Some(file) = Repeated::new(&piece, MAX_OPS / RECORDS + 1) else {
-        println!("no addresses for a file of {MAX_OPS} records: files about the limit are not tried");
+        say!("no addresses for a file of {MAX_OPS} records: files about the limit are not tried");
         return;
     };
     let most = MAX_OPS * RECORD_BYTES;

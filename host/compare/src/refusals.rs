@@ -132,7 +132,7 @@ fn counters(comparison: &mut Comparison, words: &mut Words) {
                     (length < end, 3, end as u64),
                     (word >= P, 5, place as u64),
                 ]);
-                let answer = bitwise::bump(&mut counters.slice()[..length], kind, x, y, z);
+                let answer = bitwise::bump_numbered(&mut counters.slice()[..length], kind, x, y, z);
                 let input = || format!("bump of kind {kind} at {x}, {y}, {z} of {length} counters, which holds {word}");
                 comparison.answered("bitwise_bump", input, answer, expected);
                 if let Some(counter) = counters.slice().get_mut(place) {

@@ -6,6 +6,7 @@ use std::io::Write;
 use std::os::fd::{AsRawFd, FromRawFd};
 use std::ptr;
 
+use crate::say;
 use keccak_tables::OP_WORDS;
 
 /// Words that are 0 until they are set.
@@ -42,7 +43,7 @@ impl Untouched {
     pub fn operations(n: usize) -> Option<Self> {
         let list = Self::new(n * OP_WORDS);
         if list.is_none() {
-            println!("no addresses for a list of {n} operations: lists about the limit are not tried");
+            say!("no addresses for a list of {n} operations: lists about the limit are not tried");
         }
         list
     }

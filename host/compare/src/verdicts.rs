@@ -96,6 +96,7 @@ pub fn words(answer: Result<Verdict, Refusal>) -> [u64; 4] {
         Ok(Verdict::Lookup { table, row, index }) => judge::Verdict::Lookup(theirs(table), row, index),
         Ok(Verdict::Repeated { row }) => judge::Verdict::Timestamp(row),
         Ok(Verdict::Unbalanced { table, row, index }) => judge::Verdict::Balance(theirs(table), row, index),
+        Ok(other) => unreachable!("the scope has no verdict {other}"),
         Err(refusal) => judge::Verdict::Refused(refusal.number(), refusal.detail()),
     }
     .words()

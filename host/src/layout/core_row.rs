@@ -1,16 +1,9 @@
-//! The core row. Starts of the columns' groups and orders are those of the published keccak.rs.
+//! The core row. Orders are those of the published keccak.rs.
 
 use super::group::{Axis, Group, LANES, Make};
-use super::{AND, Operand, Sum, Tuple, Value, byte_alu, cells, constant, lane, receives, sends, state};
-use crate::keccak::NUM_COLUMNS;
+use super::{AND, Operand, Sum, Tuple, Value, byte_alu, cells, constant, receives, sends, state};
+use crate::keccak::cols::{self, ADDR, INPUT_STATE, MU, OUTPUT_STATE, TIMESTAMP_0, TIMESTAMP_1};
 use crate::tuple::Bus;
-
-pub(super) const TIMESTAMP: usize = 0;
-pub(super) const ADDRESS: usize = 2;
-pub(super) const INPUT: usize = ADDRESS + 8;
-pub(super) const OUTPUT: usize = INPUT + 200;
-pub(super) const POINTER: usize = OUTPUT + 200;
-pub(super) const MU: usize = NUM_COLUMNS - 1;
 
 pub static COLUMNS: [Group<()>; 6] = [
     Group::columns(
@@ -63,7 +56,7 @@ fn pointer_carry(at: &[usize]) -> Value {
 
 /// The low 32 bits of the pointer, from its limbs.
 fn pointer_low(lane: usize) -> Sum {
-    let start = POINTER + 3 * lane;
+    let start = cols::state_ptr(lane, 0);
     Sum {
         constant: 0,
         terms: vec![(1, start), (1 << 16, start + 1)],
@@ -71,16 +64,16 @@ fn pointer_low(lane: usize) -> Sum {
 }
 
 fn pointer_high(lane: usize) -> usize {
-    POINTER + 3 * lane + 2
+    cols::state_ptr(lane, 2)
 }
 
 fn low_difference(lane: usize) -> Sum {
     let offset = Sum::constant(8 * lane as i64);
-    Sum::bytes(ADDRESS, 4).plus(offset).minus(pointer_low(lane))
+    Sum::bytes(ADDR, 4).plus(offset).minus(pointer_low(lane))
 }
 
 fn high_difference(lane: usize) -> Sum {
-    Sum::bytes(ADDRESS + 4, 4).minus(Sum::column(pointer_high(lane)))
+    Sum::bytes(ADDR + 4, 4).minus(Sum::column(pointer_high(lane)))
 }
 
 pub static TUPLES: [Group<Make<Tuple>>; 8] = [
@@ -100,13 +93,13 @@ pub static TUPLES: [Group<Make<Tuple>>; 8] = [
         name: "state before",
         axes: &[],
         says: "INPUT is given to round 0",
-        make: |_| sends(Bus::Keccak, keccak(0, INPUT)),
+        make: |_| sends(Bus::Keccak, keccak(0, INPUT_STATE)),
     },
     Group {
         name: "state after",
         axes: &[],
         says: "OUTPUT is taken after round 23",
-        make: |_| receives(Bus::Keccak, keccak(24, OUTPUT)),
+        make: |_| receives(Bus::Keccak, keccak(24, OUTPUT_STATE)),
     },
     Group {
         name: "pointer's limbs",
@@ -118,13 +111,13 @@ pub static TUPLES: [Group<Make<Tuple>>; 8] = [
         name: "alignment",
         axes: &[],
         says: "the address is a multiple of 8",
-        make: |_| byte_alu(AND, Sum::column(ADDRESS), Sum::constant(7), Sum::constant(0)),
+        make: |_| byte_alu(AND, Sum::column(ADDR), Sum::constant(7), Sum::constant(0)),
     },
     Group {
         name: "address bytes",
         axes: &[(Axis::Pair, 4)],
         says: "the parts of the address are bytes",
-        make: |at| sends(Bus::AreBytes, cells([ADDRESS + 2 * at[0], ADDRESS + 2 * at[0] + 1])),
+        make: |at| sends(Bus::AreBytes, cells([ADDR + 2 * at[0], ADDR + 2 * at[0] + 1])),
     },
     Group {
         name: "lane in memory",
@@ -135,34 +128,31 @@ pub static TUPLES: [Group<Make<Tuple>>; 8] = [
 ];
 
 fn ecall() -> Tuple {
-    let mut values = cells([TIMESTAMP, TIMESTAMP + 1]);
+    let mut values = cells([TIMESTAMP_0, TIMESTAMP_1]);
     values.extend([Operand::Syscall(0), Operand::Syscall(1)]);
     receives(Bus::Ecall, values)
 }
 
 fn register() -> Tuple {
-    let mut address = vec![
-        Operand::Sum(Sum::bytes(ADDRESS, 4)),
-        Operand::Sum(Sum::bytes(ADDRESS + 4, 4)),
-    ];
+    let mut address = vec![Operand::Sum(Sum::bytes(ADDR, 4)), Operand::Sum(Sum::bytes(ADDR + 4, 4))];
     address.extend([0; 6].map(constant));
     let mut values = address.clone();
     values.extend([1, 20, 0].map(constant));
     values.extend(address);
-    values.extend(cells([TIMESTAMP, TIMESTAMP + 1]));
+    values.extend(cells([TIMESTAMP_0, TIMESTAMP_1]));
     values.extend([1, 0, 0].map(constant));
     sends(Bus::Memw, values)
 }
 
 fn keccak(round: u64, start: usize) -> Vec<Operand> {
-    let mut values = cells([TIMESTAMP, TIMESTAMP + 1]);
+    let mut values = cells([TIMESTAMP_0, TIMESTAMP_1]);
     values.push(constant(round));
     values.extend(cells(state(start)));
     values
 }
 
 fn limbs(at: &[usize]) -> Tuple {
-    let start = POINTER + 3 * at[0];
+    let start = cols::state_ptr(at[0], 0);
     match at[1] {
         0 => sends(Bus::IsWh, cells([start + 2, start + 1])),
         _ => sends(Bus::IsHalfword, cells([start])),
@@ -171,12 +161,12 @@ fn limbs(at: &[usize]) -> Tuple {
 
 fn memory(number: usize) -> Tuple {
     let (x, y) = (number % 5, number / 5);
-    let mut values = cells((0..8).map(|byte| lane(INPUT, x, y, byte)));
+    let mut values = cells((0..8).map(|byte| cols::input_state(x, y, byte)));
     values.push(constant(0));
     values.push(Operand::Sum(pointer_low(number)));
     values.extend(cells([pointer_high(number)]));
-    values.extend(cells((0..8).map(|byte| lane(OUTPUT, x, y, byte))));
-    values.extend(cells([TIMESTAMP, TIMESTAMP + 1]));
+    values.extend(cells((0..8).map(|byte| cols::output_state(x, y, byte))));
+    values.extend(cells([TIMESTAMP_0, TIMESTAMP_1]));
     values.extend([0, 0, 1].map(constant));
     sends(Bus::Memw, values)
 }

@@ -23,6 +23,7 @@ mod tests;
 pub use group::{Axis, Group, Place};
 pub use sum::Sum;
 
+use crate::keccak::cols::lane;
 use crate::tuple::{Bus, Side};
 use crate::verdict::Table;
 
@@ -171,11 +172,6 @@ fn cells(columns: impl IntoIterator<Item = usize>) -> Vec<Operand> {
         .into_iter()
         .map(|column| Operand::Sum(Sum::column(column)))
         .collect()
-}
-
-/// The column of byte `byte` of lane (x, y) in a group of lanes.
-const fn lane(start: usize, x: usize, y: usize, byte: usize) -> usize {
-    start + (x + 5 * y) * 8 + byte
 }
 
 /// A state's 200 bytes as the Keccak bus has them: x outermost, then y, then the byte.

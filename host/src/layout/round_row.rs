@@ -1,25 +1,9 @@
-//! The round row. Starts of the columns' groups and orders are those of the published keccak_rnd.rs.
+//! The round row. Orders are those of the published keccak_rnd.rs.
 
 use super::group::{Axes, Axis, Group, LANES, Make};
-use super::{AND, Operand, Sum, Tuple, Value, XOR, always_bytes, byte_alu, cells, lane, receives, sends, state};
-use crate::keccak_rnd::NUM_COLUMNS;
+use super::{AND, Operand, Sum, Tuple, Value, XOR, always_bytes, byte_alu, cells, receives, sends, state};
+use crate::keccak_rnd::cols::{self, CHI, IOTA, MU, RC, ROUND, START, TIMESTAMP_0, TIMESTAMP_1};
 use crate::tuple::Bus;
-
-pub(super) const TIMESTAMP: usize = 0;
-pub(super) const ROUND: usize = 2;
-pub(super) const START: usize = 3;
-pub(super) const CXZ: usize = START + 200;
-pub(super) const CXZ_LEFT: usize = CXZ + 160;
-pub(super) const CXZ_RIGHT: usize = CXZ_LEFT + 40;
-pub(super) const DXZ: usize = CXZ_RIGHT + 20;
-pub(super) const THETA: usize = DXZ + 40;
-pub(super) const ROT_LEFT: usize = THETA + 200;
-pub(super) const ROT_RIGHT: usize = ROT_LEFT + 200;
-pub(super) const CHI_ANDS: usize = ROT_RIGHT + 200;
-pub(super) const CHI: usize = CHI_ANDS + 200;
-pub(super) const RC: usize = CHI + 200;
-pub(super) const IOTA: usize = RC + 8;
-pub(super) const MU: usize = NUM_COLUMNS - 1;
 
 /// A state where x is slowest, as in the order of values and tuples.
 const BY_X: Axes = &[(Axis::X, 5), (Axis::Y, 5), (Axis::Byte, 8)];
@@ -70,7 +54,7 @@ pub static VALUES: [Group<Make<Value>>; 4] = [
         name: "carry of C",
         axes: HALVES,
         says: "CXZ_RIGHT is 0 or 1",
-        make: |at| Value::Bit(CXZ_RIGHT + 4 * at[0] + at[1]),
+        make: |at| Value::Bit(cols::cxz_right_bit(at[0], at[1])),
     },
     Group {
         name: "shift of C",
@@ -96,9 +80,9 @@ fn shift_of_c(at: &[usize]) -> Value {
     let (x, half) = (at[0], at[1]);
     Value::Shift {
         by: 1,
-        input: Sum::bytes(cxz(x, 3, 2 * half), 2),
-        left: Sum::bytes(CXZ_LEFT + 8 * x + 2 * half, 2),
-        right: Sum::column(CXZ_RIGHT + 4 * x + half),
+        input: Sum::bytes(cols::cxz(x, 3, 2 * half), 2),
+        left: Sum::bytes(cols::cxz_left(x, 2 * half), 2),
+        right: Sum::column(cols::cxz_right_bit(x, half)),
     }
 }
 
@@ -106,9 +90,9 @@ fn shift_by_rho(at: &[usize]) -> Value {
     let (x, y, half) = (at[0], at[1], at[2]);
     Value::Shift {
         by: rho(x, y) % 16,
-        input: Sum::bytes(lane(THETA, x, y, 2 * half), 2),
-        left: Sum::bytes(lane(ROT_LEFT, x, y, 2 * half), 2),
-        right: Sum::bytes(lane(ROT_RIGHT, x, y, 2 * half), 2),
+        input: Sum::bytes(cols::theta(x, y, 2 * half), 2),
+        left: Sum::bytes(cols::rot_left(x, y, 2 * half), 2),
+        right: Sum::bytes(cols::rot_right(x, y, 2 * half), 2),
     }
 }
 
@@ -147,7 +131,7 @@ pub static TUPLES: [Group<Make<Tuple>>; 12] = [
         name: "bytes of CXZ_LEFT",
         axes: &[(Axis::X, 5), (Axis::Pair, 4)],
         says: "two of CXZ_LEFT are bytes",
-        make: |at| always_bytes(CXZ_LEFT + 8 * at[0] + 2 * at[1], CXZ_LEFT + 8 * at[0] + 2 * at[1] + 1),
+        make: |at| always_bytes(cols::cxz_left(at[0], 2 * at[1]), cols::cxz_left(at[0], 2 * at[1] + 1)),
     },
     Group {
         name: "D",
@@ -167,8 +151,8 @@ pub static TUPLES: [Group<Make<Tuple>>; 12] = [
         says: "one of ROT_LEFT and one of ROT_RIGHT are bytes",
         make: |at| {
             always_bytes(
-                lane(ROT_LEFT, at[0], at[1], at[2]),
-                lane(ROT_RIGHT, at[0], at[1], at[2]),
+                cols::rot_left(at[0], at[1], at[2]),
+                cols::rot_right(at[0], at[1], at[2]),
             )
         },
     },
@@ -195,12 +179,12 @@ pub static TUPLES: [Group<Make<Tuple>>; 12] = [
 fn taken() -> Tuple {
     receives(
         Bus::Keccak,
-        cells([TIMESTAMP, TIMESTAMP + 1, ROUND].into_iter().chain(state(START))),
+        cells([TIMESTAMP_0, TIMESTAMP_1, ROUND].into_iter().chain(state(START))),
     )
 }
 
 fn given() -> Tuple {
-    let mut values = cells([TIMESTAMP, TIMESTAMP + 1]);
+    let mut values = cells([TIMESTAMP_0, TIMESTAMP_1]);
     values.push(Operand::Sum(Sum::column(ROUND).plus(Sum::constant(1))));
     values.extend(cells(after()));
     sends(Bus::Keccak, values)
@@ -215,10 +199,6 @@ fn round_constant() -> Tuple {
     sends(Bus::KeccakRc, cells([ROUND].into_iter().chain(RC..RC + 8)))
 }
 
-pub(super) const fn cxz(x: usize, stage: usize, byte: usize) -> usize {
-    CXZ + (4 * x + stage) * 8 + byte
-}
-
 fn xor(left: Sum, right: Sum, result: usize) -> Tuple {
     byte_alu(XOR, left, right, Sum::column(result))
 }
@@ -226,36 +206,40 @@ fn xor(left: Sum, right: Sum, result: usize) -> Tuple {
 fn first_stage(at: &[usize]) -> Tuple {
     let (x, byte) = (at[0], at[1]);
     xor(
-        Sum::column(lane(START, x, 0, byte)),
-        Sum::column(lane(START, x, 1, byte)),
-        cxz(x, 0, byte),
+        Sum::column(cols::start(x, 0, byte)),
+        Sum::column(cols::start(x, 1, byte)),
+        cols::cxz(x, 0, byte),
     )
 }
 
 fn later_stage(at: &[usize]) -> Tuple {
     let (x, stage, byte) = (at[0], at[1] + 1, at[2]);
-    let before = Sum::column(cxz(x, stage - 1, byte));
+    let before = Sum::column(cols::cxz(x, stage - 1, byte));
     xor(
         before,
-        Sum::column(lane(START, x, stage + 1, byte)),
-        cxz(x, stage, byte),
+        Sum::column(cols::start(x, stage + 1, byte)),
+        cols::cxz(x, stage, byte),
     )
 }
 
 fn d(at: &[usize]) -> Tuple {
     let (x, byte) = (at[0], at[1]);
     let next = (x + 1) % 5;
-    let mut rotated = Sum::column(CXZ_LEFT + 8 * next + byte);
+    let mut rotated = Sum::column(cols::cxz_left(next, byte));
     if byte % 2 == 0 {
-        rotated = rotated.plus(Sum::column(CXZ_RIGHT + 4 * next + (byte / 2 + 3) % 4));
+        rotated = rotated.plus(Sum::column(cols::cxz_right_bit(next, (byte / 2 + 3) % 4)));
     }
-    xor(Sum::column(cxz((x + 4) % 5, 3, byte)), rotated, DXZ + 8 * x + byte)
+    xor(
+        Sum::column(cols::cxz((x + 4) % 5, 3, byte)),
+        rotated,
+        cols::dxz(x, byte),
+    )
 }
 
 fn theta(at: &[usize]) -> Tuple {
     let (x, y, byte) = (at[0], at[1], at[2]);
-    let start = Sum::column(lane(START, x, y, byte));
-    xor(start, Sum::column(DXZ + 8 * x + byte), lane(THETA, x, y, byte))
+    let start = Sum::column(cols::start(x, y, byte));
+    xor(start, Sum::column(cols::dxz(x, byte)), cols::theta(x, y, byte))
 }
 
 fn chi_and(at: &[usize]) -> Tuple {
@@ -265,7 +249,7 @@ fn chi_and(at: &[usize]) -> Tuple {
         AND,
         not_next,
         pi((x + 2) % 5, y, byte),
-        Sum::column(lane(CHI_ANDS, x, y, byte)),
+        Sum::column(cols::chi_ands(x, y, byte)),
     )
 }
 
@@ -273,14 +257,14 @@ fn chi_xor(at: &[usize]) -> Tuple {
     let (x, y, byte) = (at[0], at[1], at[2]);
     xor(
         pi(x, y, byte),
-        Sum::column(lane(CHI_ANDS, x, y, byte)),
-        lane(CHI, x, y, byte),
+        Sum::column(cols::chi_ands(x, y, byte)),
+        cols::chi(x, y, byte),
     )
 }
 
 fn iota(at: &[usize]) -> Tuple {
     let byte = at[0];
-    xor(Sum::column(CHI + byte), Sum::column(RC + byte), IOTA + byte)
+    xor(Sum::column(CHI + byte), Sum::column(cols::rc(byte)), cols::iota(byte))
 }
 
 /// A byte of the state after rho and pi, which has no column of its own: the shifted halfword's byte, and what came out of
@@ -290,7 +274,7 @@ fn pi(x: usize, y: usize, byte: usize) -> Sum {
     let halves = rho(from_x, from_y) as usize / 16;
     let left = (byte + 8 - 2 * halves) % 8;
     let right = (left + 6) % 8;
-    Sum::column(lane(ROT_LEFT, from_x, from_y, left)).plus(Sum::column(lane(ROT_RIGHT, from_x, from_y, right)))
+    Sum::column(cols::rot_left(from_x, from_y, left)).plus(Sum::column(cols::rot_right(from_x, from_y, right)))
 }
 
 /// The offset of a lane mod 64, by the walk of FIPS 202, section 3.2.2.

@@ -146,42 +146,108 @@ fn groups_of_columns_fill_the_rows() {
     }
 }
 
+/// A group's name and the column of each of its places.
+type Named3 = (Table, &'static str, fn(usize, usize, usize) -> usize);
+
 #[test]
-fn names_go_with_the_columns_of_values_and_tuples() {
-    use super::{core_row, round_row};
+fn names_go_with_the_columns() {
+    use keccak::cols as core;
+    use keccak_rnd::cols as round;
     let first = |table, name: &str| named(table, name).unwrap_or_else(|| panic!("{name}"));
-    let core = [("INPUT", core_row::INPUT), ("OUTPUT", core_row::OUTPUT)];
-    let round = [
-        ("START", round_row::START),
-        ("THETA", round_row::THETA),
-        ("ROT_LEFT", round_row::ROT_LEFT),
-        ("ROT_RIGHT", round_row::ROT_RIGHT),
-        ("CHI_ANDS", round_row::CHI_ANDS),
-        ("CHI", round_row::CHI),
+    let states: [Named3; 8] = [
+        (Table::Core, "INPUT", core::input_state),
+        (Table::Core, "OUTPUT", core::output_state),
+        (Table::Round, "START", round::start),
+        (Table::Round, "THETA", round::theta),
+        (Table::Round, "ROT_LEFT", round::rot_left),
+        (Table::Round, "ROT_RIGHT", round::rot_right),
+        (Table::Round, "CHI_ANDS", round::chi_ands),
+        (Table::Round, "CHI", round::chi),
     ];
-    let groups = core.map(|group| (Table::Core, group)).into_iter();
-    for (table, (name, start)) in groups.chain(round.map(|group| (Table::Round, group))) {
+    for (table, name, column) in states {
         for (x, y, byte) in (0..200).map(|at| (at / 40, at / 8 % 5, at % 8)) {
-            assert_eq!(
-                first(table, &format!("{name}[{x}][{y}][{byte}]")),
-                lane(start, x, y, byte)
-            );
+            assert_eq!(first(table, &format!("{name}[{x}][{y}][{byte}]")), column(x, y, byte));
         }
     }
     for (x, stage, byte) in (0..160).map(|at| (at / 32, at / 8 % 4, at % 8)) {
         let name = format!("CXZ[{x}][{stage}][{byte}]");
-        assert_eq!(first(Table::Round, &name), round_row::cxz(x, stage, byte));
+        assert_eq!(first(Table::Round, &name), round::cxz(x, stage, byte));
     }
-    assert_eq!(first(Table::Core, "ADDRESS[3]"), core_row::ADDRESS + 3);
-    assert_eq!(first(Table::Core, "POINTER[24][2]"), core_row::POINTER + 74);
-    assert_eq!(first(Table::Core, "MU"), core_row::MU);
-    assert_eq!(first(Table::Round, "ROUND"), round_row::ROUND);
-    assert_eq!(first(Table::Round, "CXZ_LEFT[4][7]"), round_row::CXZ_LEFT + 39);
-    assert_eq!(first(Table::Round, "CXZ_RIGHT[4][3]"), round_row::CXZ_RIGHT + 19);
-    assert_eq!(first(Table::Round, "DXZ[1][2]"), round_row::DXZ + 10);
-    assert_eq!(first(Table::Round, "RC[7]"), round_row::RC + 7);
-    assert_eq!(first(Table::Round, "IOTA[7]"), round_row::IOTA + 7);
-    assert_eq!(first(Table::Round, "MU"), round_row::MU);
+    for (lane, limb) in (0..75).map(|at| (at / 3, at % 3)) {
+        assert_eq!(
+            first(Table::Core, &format!("POINTER[{lane}][{limb}]")),
+            core::state_ptr(lane, limb)
+        );
+    }
+    for (x, byte) in (0..40).map(|at| (at / 8, at % 8)) {
+        assert_eq!(
+            first(Table::Round, &format!("CXZ_LEFT[{x}][{byte}]")),
+            round::cxz_left(x, byte)
+        );
+        assert_eq!(first(Table::Round, &format!("DXZ[{x}][{byte}]")), round::dxz(x, byte));
+    }
+    for (x, half) in (0..20).map(|at| (at / 4, at % 4)) {
+        assert_eq!(
+            first(Table::Round, &format!("CXZ_RIGHT[{x}][{half}]")),
+            round::cxz_right_bit(x, half)
+        );
+    }
+    for byte in 0..8 {
+        assert_eq!(first(Table::Core, &format!("ADDRESS[{byte}]")), core::addr(byte));
+        assert_eq!(first(Table::Round, &format!("RC[{byte}]")), round::rc(byte));
+        assert_eq!(first(Table::Round, &format!("IOTA[{byte}]")), round::iota(byte));
+    }
+    assert_eq!(first(Table::Core, "MU"), core::MU);
+    assert_eq!(
+        (first(Table::Round, "ROUND"), first(Table::Round, "MU")),
+        (round::ROUND, round::MU)
+    );
+}
+
+/// The numbers of the definitions that the proofs are about, by name: lines `NAME = 123`.
+#[test]
+fn columns_are_those_of_the_definitions() {
+    use keccak::cols as core;
+    use keccak_rnd::cols as round;
+    let core = [
+        ("TIMESTAMP_0", core::TIMESTAMP_0),
+        ("TIMESTAMP_1", core::TIMESTAMP_1),
+        ("ADDR", core::ADDR),
+        ("INPUT_STATE", core::INPUT_STATE),
+        ("OUTPUT_STATE", core::OUTPUT_STATE),
+        ("STATE_PTR", core::STATE_PTR),
+        ("MU", core::MU),
+        ("NUM_COLUMNS", keccak::NUM_COLUMNS),
+    ];
+    let round = [
+        ("TIMESTAMP_0", round::TIMESTAMP_0),
+        ("TIMESTAMP_1", round::TIMESTAMP_1),
+        ("ROUND", round::ROUND),
+        ("START", round::START),
+        ("CXZ", round::CXZ),
+        ("CXZ_LEFT", round::CXZ_LEFT),
+        ("CXZ_RIGHT", round::CXZ_RIGHT),
+        ("DXZ", round::DXZ),
+        ("THETA", round::THETA),
+        ("ROT_LEFT", round::ROT_LEFT),
+        ("ROT_RIGHT", round::ROT_RIGHT),
+        ("CHI_ANDS", round::CHI_ANDS),
+        ("CHI", round::CHI),
+        ("RC", round::RC),
+        ("IOTA", round::IOTA),
+        ("MU", round::MU),
+        ("NUM_COLUMNS", keccak_rnd::NUM_COLUMNS),
+    ];
+    for (name, columns) in [("keccak", &core[..]), ("keccak_rnd", &round)] {
+        let path = format!("{}/../crates/{name}/specs/Columns.antt", env!("CARGO_MANIFEST_DIR"));
+        let text = std::fs::read_to_string(path).unwrap();
+        let numbers = text.lines().filter_map(|line| {
+            let (name, number) = line.split_once(" = ")?;
+            Some((name.replace('-', "_"), number.parse().ok()?))
+        });
+        let columns: Vec<(String, usize)> = columns.iter().map(|&(name, at)| (name.to_string(), at)).collect();
+        assert_eq!(columns, numbers.collect::<Vec<_>>(), "{name}");
+    }
 }
 
 #[test]

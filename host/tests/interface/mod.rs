@@ -156,14 +156,24 @@ pub fn bound() -> Functions {
     bindings.map(|binding| rust_function(after(binding, "="))).collect()
 }
 
-/// The header's prototypes.
+/// The header's declarations: what the preprocessor leaves of it.
+fn declarations() -> String {
+    header()
+        .lines()
+        .filter(|line| !line.starts_with('#'))
+        .map(|line| line.to_string() + "\n")
+        .collect()
+}
+
+/// The header's prototypes, each of which warns where its answer is not used.
 pub fn prototypes() -> Functions {
-    let header = header();
+    let header = declarations();
     let mut functions = Functions::new();
     for statement in header.split(';').filter(|statement| statement.contains('(')) {
         let (before, rest) = statement.split_once('(').expect("a prototype has parameters");
         let mut names = before.split_whitespace().rev();
         let (name, answers) = (names.next().expect("a name"), names.next().expect("an answer"));
+        assert_eq!(names.next(), Some("KECCAK_TABLES_MUST_USE"), "{name}");
         let (parameters, _) = parenthesis(rest);
         let takes = parts(parameters)
             .filter(|&parameter| parameter != "void")
@@ -205,15 +215,43 @@ fn of_c_type(name: &str) -> String {
         .to_string()
 }
 
-/// The header's structs.
+/// Fields of the header that have names of their own, and those of the archive's source: there, `number` is a refusal's, and a word
+/// of a verdict that means one thing or another has one name.
+const FIELDS: [(&str, &str); 4] = [
+    ("refusal", "number"),
+    ("active_or_table_or_refusal", "first"),
+    ("row_or_detail", "second"),
+    ("index", "third"),
+];
+
+/// The header's declarations, with one field `a_or_b` in the place of a union of a and b.
+fn without_unions() -> String {
+    let mut text = declarations();
+    while let Some(start) = text.find("union {") {
+        let length = text[start..].find('}').expect("a union ends") + 1;
+        let fields = text[start + 7..start + length - 1].split(';').map(str::trim);
+        let fields: Vec<(String, Passed)> = fields.filter(|field| !field.is_empty()).map(c_declaration).collect();
+        assert!(fields.iter().all(|(_, passed)| *passed == Passed::Word));
+        let names: Vec<String> = fields.into_iter().map(|(name, _)| name).collect();
+        text.replace_range(start..start + length, &format!("uint64_t {}", names.join("_or_")));
+    }
+    text
+}
+
+/// The header's structs, by the archive's names.
 pub fn header_structs() -> Structs {
-    let header = header();
+    let header = without_unions();
+    let field = |declaration| {
+        let (name, passed) = c_declaration(declaration);
+        let ours = FIELDS.iter().find(|(theirs, _)| *theirs == name);
+        (ours.map_or(name, |(_, name)| name.to_string()), passed)
+    };
     let structs = header.split("typedef struct ").skip(1).map(|text| {
         let (name, rest) = text.split_once('{').expect("a struct has fields");
         let (fields, rest) = rest.split_once('}').expect("a struct ends");
         assert_eq!(name.trim(), word(rest), "a struct and its type have one name");
         let fields = fields.split(';').map(str::trim).filter(|field| !field.is_empty());
-        (of_c_type(name.trim()), fields.map(c_declaration).collect())
+        (of_c_type(name.trim()), fields.map(field).collect())
     });
     structs.collect()
 }
@@ -256,7 +294,8 @@ pub fn header_numbers() -> BTreeMap<String, u64> {
     let header = header();
     let lines = header
         .lines()
-        .filter_map(|line| line.strip_prefix("#define KECCAK_TABLES_"));
+        .filter_map(|line| line.strip_prefix("#define KECCAK_TABLES_"))
+        .filter(|line| !line.starts_with("MUST_USE"));
     let numbers = lines.filter_map(|line| line.split_once(' ')).map(|(name, number)| {
         let value = match number.trim().strip_prefix("0x") {
             Some(digits) => u64::from_str_radix(digits, 16),

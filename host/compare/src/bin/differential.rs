@@ -5,7 +5,7 @@
 use std::process::ExitCode;
 
 use compare::comparison::Comparison;
-use compare::{limit, refusals, rows, tally, tuples, values, verdicts};
+use compare::{limit, refusals, rows, say, tally, tuples, values, verdicts};
 
 /// An area: it compares with a seed and a number of drawn inputs.
 type Area = fn(&mut Comparison, u64, usize);
@@ -33,6 +33,7 @@ usage: differential all [SEED [N]]       (each of these in turn)
 Seed 1 and 300 where none is given.";
 
 fn main() -> ExitCode {
+    say::begin();
     let arguments: Vec<String> = std::env::args().skip(1).collect();
     let arguments: Vec<&str> = arguments.iter().map(String::as_str).collect();
     let (area, numbers) = match arguments.split_first() {
@@ -52,7 +53,7 @@ fn main() -> ExitCode {
     if chosen.is_empty() {
         return usage();
     }
-    println!("differential {area} {seed} {n}");
+    say!("differential {area} {seed} {n}");
     let mut comparison = Comparison::to_the_first_difference();
     for (_, compare) in chosen {
         compare(&mut comparison, seed, n);

@@ -86,7 +86,7 @@ fn many_counts(comparison: &mut Comparison, words: &mut Words) {
     let lookups: Vec<Lookup> = (0..30_000).map(|_| lookup(words)).collect();
     let mut counters = vec![0; bitwise::NUM_COUNTERS + 5];
     for &Lookup { kind, x, y, z } in &lookups {
-        let answer = bitwise::bump(&mut counters, kind, x, y, z);
+        let answer = bitwise::bump_numbered(&mut counters, kind, x, y, z);
         comparison.done(|| format!("a lookup of kind {kind} at {x}, {y}, {z}"), answer);
     }
     let mut expected = vec![0; counters.len()];
@@ -110,7 +110,7 @@ fn single_counts(comparison: &mut Comparison, words: &mut Words) {
             let place = lookup.counter();
             counters[place] = before;
             let input = || format!("a lookup of kind {kind} at {x}, {y}, {z} on {before}");
-            comparison.done(input, bitwise::bump(&mut counters, kind, x, y, z));
+            comparison.done(input, bitwise::bump_numbered(&mut counters, kind, x, y, z));
             comparison.equal(
                 |_| input(),
                 &[counters[place]],

@@ -67,14 +67,14 @@ fn short_counters(comparison: &mut Comparison, words: &mut Words) {
                 };
                 let what = ("bitwise_bump", || format!("bump of kind {kind}, z = {z}"));
                 on_slice(comparison, words, what, length, Some(expected), |counters| {
-                    bitwise::bump(counters, kind, 3, 4, z)
+                    bitwise::bump_numbered(counters, kind, 3, 4, z)
                 });
             }
         }
     }
     let what = ("bitwise_bump", || "bump at 0".into());
     on_slice(comparison, words, what, end - 1, Some((3, end as u64)), |counters| {
-        bitwise::bump(counters, 0, 0, 0, 0)
+        bitwise::bump_numbered(counters, 0, 0, 0, 0)
     });
 }
 
@@ -86,7 +86,7 @@ fn counters_about_p(comparison: &mut Comparison, words: &mut Words) {
             let mut counters = vec![0; bitwise::NUM_COUNTERS];
             counters[place] = word;
             let mut counters = Lent::new(&counters, words);
-            let answer = bitwise::bump(counters.slice(), kind, x, y, z);
+            let answer = bitwise::bump_numbered(counters.slice(), kind, x, y, z);
             let input = || format!("bump of the counter at {place}, which holds {word}");
             let expected = refused.then_some((5, place as u64));
             comparison.answered("bitwise_bump", input, answer, expected);

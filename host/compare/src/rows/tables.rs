@@ -31,6 +31,15 @@ pub fn compare(comparison: &mut Comparison, words: &mut Words, n: usize) {
         let ops = words.operations(1);
         round_rows(comparison, words, &ops);
     }
+    comparison.group("single round rows, every round, START at every edge");
+    for states in states().chunks(8) {
+        rows_from(comparison, words, states);
+    }
+    comparison.group("single round rows, every round, START drawn");
+    for _ in 0..n.div_ceil(8) {
+        let states: [[u64; 25]; 8] = std::array::from_fn(|_| std::array::from_fn(|_| words.lane()));
+        rows_from(comparison, words, &states);
+    }
     comparison.group("heights and padding lookups");
     heights_of_tables(comparison);
     heights(comparison);
@@ -123,13 +132,47 @@ fn round_rows(comparison: &mut Comparison, words: &mut Words, ops: &[u64]) {
     let expected = oracle::round_table(ops);
     let rows = expected.chunks_exact(keccak_rnd::NUM_COLUMNS).take(keccak_rnd::ROUNDS);
     for (round, expected) in rows.enumerate() {
-        let mut start: Vec<u64> = expected[3..203].chunks_exact(8).map(number).collect();
-        start.extend(words.take(words_past(round)));
-        let mut row = Lent::drawn(keccak_rnd::NUM_COLUMNS + words.below(4) as usize, words);
-        let input = || format!("round {round} from {start:?}");
-        comparison.done(input, keccak_rnd::keccak_rnd_row(ops[0], &start, round, row.slice()));
-        row.holds(comparison, |_| input(), expected);
+        let start: Vec<u64> = expected[3..203].chunks_exact(8).map(number).collect();
+        round_row(comparison, words, ops[0], &start, round, expected);
     }
+}
+
+/// The rows of every round from each of some states. The Rust writes rows from round 0 on, so the rounds before are run
+/// backwards: its table of what they give has the wanted START in that round's row.
+fn rows_from(comparison: &mut Comparison, words: &mut Words, states: &[[u64; 25]]) {
+    let wanted: Vec<(&[u64; 25], usize)> = (0..keccak_rnd::ROUNDS)
+        .flat_map(|round| states.iter().map(move |start| (start, round)))
+        .collect();
+    let of = |words: &mut Words, start, round| Operation {
+        input: oracle::lanes::input_of(start, round),
+        ..words.operation()
+    };
+    let ops: Vec<u64> = wanted
+        .iter()
+        .flat_map(|&(start, round)| of(words, start, round).words())
+        .collect();
+    let expected = oracle::round_table(&ops);
+    for (at, (start, round)) in wanted.into_iter().enumerate() {
+        let row = at * keccak_rnd::ROUNDS + round;
+        let expected = &expected[row * keccak_rnd::NUM_COLUMNS..][..keccak_rnd::NUM_COLUMNS];
+        round_row(comparison, words, ops[at * OP_WORDS], start, round, expected);
+    }
+}
+
+/// One round row, from lanes that are lent a little longer than they have to be.
+fn round_row(
+    comparison: &mut Comparison,
+    words: &mut Words,
+    timestamp: u64,
+    start: &[u64],
+    round: usize,
+    expected: &[u64],
+) {
+    let start = [start, &words.take(words_past(round))].concat();
+    let mut row = Lent::drawn(keccak_rnd::NUM_COLUMNS + words.below(4) as usize, words);
+    let input = || format!("round {round} from {start:?}");
+    comparison.done(input, keccak_rnd::keccak_rnd_row(timestamp, &start, round, row.slice()));
+    row.holds(comparison, |_| input(), expected);
 }
 
 /// START may be lent longer than its 25 lanes.

@@ -4,6 +4,7 @@
 //! their caller inlines, without checks; ours are calls of the archive, with theirs. Both sides count the same lookups in
 //! an array of 80 MiB that they keep, so the best run finds it touched. Tuples are by index on our side, and on the Rust's as in `tuples.rs`.
 
+use compare::say;
 use std::hint::black_box;
 
 use compare::inputs::Words;
@@ -52,7 +53,7 @@ fn drawn(words: &mut Words) -> Lookup {
 
 /// Both times of `items` calls, keys or tuples, and their ratio.
 fn calls(name: &str, items: usize, ours: impl FnMut(), rust: impl FnMut()) {
-    println!("{name}: time of one");
+    say!("{name}: time of one");
     both(name, RUNS, items, ("ours", ours), ("the Rust", rust));
 }
 
@@ -98,7 +99,7 @@ fn counters(lookups: &[Lookup]) {
     let mut rust = Counters::new();
     let count = || {
         for at in black_box(lookups) {
-            bitwise::bump(&mut ours, at.kind, at.x, at.y, at.z).expect("a lookup");
+            bitwise::bump_numbered(&mut ours, at.kind, at.x, at.y, at.z).expect("a lookup");
         }
     };
     let rust = || black_box(lookups).iter().for_each(|&at| rust.bump(at));

@@ -18,16 +18,18 @@ use std::process::ExitCode;
 const USAGE: &str = "\
 usage: bench all | bench rows | bench lookups | bench values | bench tuples | bench verdict
        bench tally [BYTES]      (of the operation file; 1000000000 where none are given)
-       bench shuffled [CALLS]   (100 where none are given)";
+       bench shuffled [CALLS]   (100 where none are given)
+BYTES and CALLS are 1 or more.";
 
 fn main() -> ExitCode {
+    compare::say::begin();
     let arguments: Vec<String> = std::env::args().skip(1).collect();
     let arguments: Vec<&str> = arguments.iter().map(String::as_str).collect();
     let (area, number) = match arguments[..] {
         [area] => (area, None),
         [area, number] => match number.parse() {
-            Ok(number) => (area, Some(number)),
-            Err(_) => return usage(),
+            Ok(number) if number > 0 => (area, Some(number)),
+            _ => return usage(),
         },
         _ => return usage(),
     };

@@ -8,6 +8,7 @@
 //! megabytes, where memory has its part in the time. All are small enough (below 32 MB) for the allocator to hand out the
 //! same memory again and again, so no run pays for memory that was never touched.
 
+use compare::say;
 use std::hint::black_box;
 
 use compare::inputs::Words;
@@ -99,7 +100,7 @@ fn table<T>(
     let ops = flat(operations);
     let words = rows * columns;
     let mut kept = vec![1; words];
-    println!("{name}, {} operations, {rows} rows: time of a row", operations.len());
+    say!("{name}, {} operations, {rows} rows: time of a row", operations.len());
     let [allocating, lent, rust, zeros] = best(
         runs,
         [
@@ -119,7 +120,7 @@ fn table<T>(
 
 /// All 2^20 bitwise rows, one call each: ours into a lent row of 11 words, theirs a returned array.
 fn bitwise_rows() {
-    println!("bitwise rows, all 2^20: time of a row");
+    say!("bitwise rows, all 2^20: time of a row");
     let ours = || {
         let mut row = [0; bitwise::NUM_PRECOMPUTED_COLS];
         for index in 0..bitwise::NUM_ROWS {
@@ -139,7 +140,7 @@ fn bitwise_rows() {
 /// The constant table with its multiplicities, a thousand times; both allocate it.
 fn constant_table() {
     const TIMES: usize = 1000;
-    println!("the constant table: time of a table");
+    say!("the constant table: time of a table");
     let ours = || {
         for n in 0..TIMES as u64 {
             let mut table = vec![0; keccak_rc::TABLE_WORDS];

@@ -4,6 +4,7 @@
 //! `shuffled-calls` has the 24 round rows of each call together, the calls in a drawn order; `shuffled` has all round rows,
 //! padding among them, in a drawn order; `shuffled-dropped` is the same with one active row cleared, so that it fails.
 
+use compare::say;
 use std::hint::black_box;
 use std::time::Duration;
 
@@ -22,7 +23,7 @@ pub fn run(calls: usize) {
     let ordered = Tables::written(calls, &mut words);
     let [by_calls, by_rows, dropped] = &shuffled(&ordered, calls, &mut words);
     let rows = ordered.core.len() / keccak::NUM_COLUMNS + ordered.round.len() / keccak_rnd::NUM_COLUMNS;
-    println!("shuffled, {calls} calls, {rows} rows: time in all, and of a row");
+    say!("shuffled, {calls} calls, {rows} rows: time in all, and of a row");
 
     // Many calls take long enough for one run to tell.
     let runs = (1000 / calls.max(1)).clamp(1, 5);

@@ -8,6 +8,7 @@
 //! program with the file as its standard input, its start included, against the same Rust; it is left out where the
 //! program was not built. The memory is the most that this process held, the making of the file included, the program not.
 
+use compare::say;
 use std::fs::{self, File};
 use std::hint::black_box;
 use std::io::{self, BufRead, BufReader, Read, Seek, Write};
@@ -34,7 +35,7 @@ const PROGRAM: &str = concat!(env!("CARGO_MANIFEST_DIR"), "/../../target/bin/tal
 pub fn run(bytes: usize) {
     let records = (bytes / RECORD_BYTES).max(1);
     let file = &made(records).expect("there is room for the file in the temporary folder");
-    println!(
+    say!(
         "tally, {records} records, {} bytes: time of a record",
         records * RECORD_BYTES
     );
@@ -54,12 +55,12 @@ pub fn run(bytes: usize) {
         tally_program(file, records);
     }
     if let Some(memory) = peak_memory() {
-        println!("peak memory {memory}");
+        say!("peak memory {memory}");
     }
 }
 
 fn tally_program(file: &File, records: usize) {
-    println!("tally-program, the same file: time of a record");
+    say!("tally-program, the same file: time of a record");
     let ours = || counted(program(file), records);
     let rust = || counted(rust(file), records);
     both(

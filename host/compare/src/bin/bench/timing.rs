@@ -1,5 +1,6 @@
 //! Times, and how they are told.
 
+use compare::say;
 use std::hint::black_box;
 use std::sync::Mutex;
 use std::time::{Duration, Instant};
@@ -10,26 +11,26 @@ static RATIOS: Mutex<Vec<(String, f64)>> = Mutex::new(Vec::new());
 /// Our time over theirs.
 pub fn ratio(name: &str, ours: Duration, theirs: Duration) {
     let ratio = ours.as_secs_f64() / theirs.as_secs_f64();
-    println!("ratio {name} {ratio:.2}");
+    say!("ratio {name} {ratio:.2}");
     RATIOS.lock().expect("one thread").push((name.to_string(), ratio));
 }
 
 /// A table of every ratio of this run.
 pub fn table() {
-    println!("\n| name | ratio |\n|---|---|");
+    say!("\n| name | ratio |\n|---|---|");
     for (name, ratio) in RATIOS.lock().expect("one thread").iter() {
-        println!("| {name} | {ratio:.2} |");
+        say!("| {name} | {ratio:.2} |");
     }
 }
 
 /// The time of one of `items` items.
 pub fn line(what: &str, time: Duration, items: usize) {
-    println!("  {what:<34} {:>9.1} ns each", time.as_secs_f64() * 1e9 / items as f64);
+    say!("  {what:<34} {:>9.1} ns each", time.as_secs_f64() * 1e9 / items as f64);
 }
 
 /// The time of all.
 pub fn whole(what: &str, time: Duration) {
-    println!("  {what:<34} {:>9.1} ms in all", time.as_secs_f64() * 1e3);
+    say!("  {what:<34} {:>9.1} ms in all", time.as_secs_f64() * 1e3);
 }
 
 /// The time of a call; what it answers is dropped afterwards.

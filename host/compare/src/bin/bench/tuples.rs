@@ -7,6 +7,7 @@
 //! and it writes each tuple's header too. How the Rust's prover walks its list is not published (the crate
 //! `stark`): the walk is the oracle's, without its allocations. Its field is the oracle's stand-in.
 
+use compare::say;
 use std::hint::black_box;
 
 use compare::evaluated::{CORE, ROUND, Table};
@@ -29,7 +30,7 @@ pub fn run() {
 fn tuples(name: &str, table: &Table, interactions: &[BusInteraction]) {
     let words = &rows(table)[..ROWS * table.columns];
     let elements: Vec<FE> = words.iter().copied().map(FE::from).collect();
-    println!("{name}, {ROWS} rows: time of a row's {} tuples", table.num_tuples);
+    say!("{name}, {ROWS} rows: time of a row's {} tuples", table.num_tuples);
     let rust = || {
         let mut out = [FE::zero(); 256];
         for row in elements.chunks_exact(table.columns) {

@@ -6,6 +6,7 @@
 //! the oracle's stand-in, because the crate `math` is not published; a field that is faster than the stand-in would make
 //! the Rust's time shorter.
 
+use compare::say;
 use std::hint::black_box;
 
 use compare::evaluated::{CORE, ROUND, Table};
@@ -28,7 +29,7 @@ fn values(name: &str, table: &Table, constraints: &impl RowConstraints) {
     let words = rows(table);
     let elements: Vec<FE> = words.iter().copied().map(FE::from).collect();
     let rows = words.len() / table.columns;
-    println!("{name}, {rows} rows: time of a row's {} values", table.num_values);
+    say!("{name}, {rows} rows: time of a row's {} values", table.num_values);
 
     let ours = || {
         let mut out = [0; 256];

@@ -6,6 +6,7 @@
 //! tables of 100 calls with one OUTPUT byte changed, and with the round rows in the other order: there a judge that
 //! relies on the writer's order has to search.
 
+use compare::say;
 use std::hint::black_box;
 
 use compare::dishonest::Tables;
@@ -41,7 +42,7 @@ fn judges(name: &str, tables: &Tables, runs: usize) {
     let rows = core.len() / keccak::NUM_COLUMNS + round.len() / keccak_rnd::NUM_COLUMNS;
     let answer = judge::verdict(core, round);
     assert_eq!(words(verdict(core, round)), answer.words(), "{name}");
-    println!("{name}, {rows} rows, '{answer}': time of a row");
+    say!("{name}, {rows} rows, '{answer}': time of a row");
     let ours = || verdict(black_box(core), black_box(round));
     let other = || judge::verdict(black_box(core), black_box(round));
     both(name, runs, rows, ("ours", ours), ("the independent judge", other));

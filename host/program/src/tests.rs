@@ -7,8 +7,8 @@ use std::os::fd::AsRawFd;
 use std::path::PathBuf;
 
 use super::{Streams, run, run_judge};
-use crate::operation_file::{RECORD_BYTES, write_operations};
-use crate::{OP_WORDS, Operation, P, keccak, keccak_rnd};
+use keccak_tables::operation_file::{RECORD_BYTES, write_operations};
+use keccak_tables::{OP_WORDS, Operation, P, keccak, keccak_rnd};
 
 type Run = fn(&[OsString], &mut Streams) -> u8;
 
@@ -194,6 +194,7 @@ fn what_cannot_be_written_leaves_the_tables_alone() {
     let (status, output, errors) = ran(run, &["write", &ops, &new, "/dev/full"], &[]);
     assert_eq!((status, output.as_str()), (2, ""));
     assert!(errors.starts_with("/dev/full: No space left"), "{errors}");
+    assert!(!fs::exists(&new).unwrap());
 
     // A pipe ends where it was read, so that a second reading finds nothing.
     let (reader, mut writer) = std::io::pipe().unwrap();
@@ -233,6 +234,25 @@ fn judged_files() {
         assert_eq!(ran(run_judge, &[core, round], &[]), answer);
         assert_eq!(answer.2.is_empty(), !line.starts_with("refused") && status < 2);
     }
+    let words = |core: &str, round: &str| ran(run, &["judge", core, round], &[]).2;
+    assert_eq!(
+        words(&none, &cut),
+        "ROUND has 485 words, which are not whole rows of 1480\n"
+    );
+    assert_eq!(
+        words(&cut, &none),
+        "CORE has 485 words, which are not whole rows of 486\n"
+    );
+    assert_eq!(
+        words(&large, &none),
+        format!("CORE, row 0, column 485 (MU): {P} is not below p\n")
+    );
+    let round = folder.put(
+        "round",
+        &bytes(&[vec![0; 1480 + 3], vec![P + 5], vec![0; 1476]].concat()),
+    );
+    let place = "ROUND, row 1, column 3 (START[0][0][0])";
+    assert_eq!(words(&honest, &round), format!("{place}: {} is not below p\n", P + 5));
 }
 
 #[test]
@@ -383,9 +403,31 @@ fn wrong_usage_has_status_2() {
         assert_eq!((status, output.as_str()), (2, ""), "{arguments:?}");
         assert!(errors.ends_with("`keccak-tables help` tells the commands\n"));
     }
+}
+
+#[test]
+fn every_command_has_its_help() {
     let (status, help, _) = ran(run, &["help"], &[]);
     assert_eq!(status, 0);
     for name in ["demo", "write", "judge", "tally", "explain"] {
-        assert!(help.contains(&format!("keccak-tables {name}")));
+        assert!(help.contains(&format!("\n  keccak-tables {name}")));
+        let told = ran(run, &["help", name], &[]);
+        assert!(told.0 == 0 && told.1.starts_with(&format!("usage: keccak-tables {name}")) && told.2.is_empty());
+        assert!(told.1.contains("\nExit status: 0"));
+        assert_eq!(ran(run, &[name, "--help"], &[]), told);
+    }
+    assert_eq!(ran(run_judge, &["--help"], &[]), ran(run, &["help", "judge"], &[]));
+    assert_eq!(ran(run, &["--help"], &[]).1, help);
+    let version = ran(run, &["--version"], &[]);
+    assert_eq!(
+        version,
+        (
+            0,
+            format!("keccak-tables {}\n", env!("CARGO_PKG_VERSION")),
+            String::new()
+        )
+    );
+    for arguments in [["help", "undo"], ["--version", "1"]] {
+        assert_eq!(ran(run, &arguments, &[]).0, 2);
     }
 }

@@ -3,9 +3,9 @@
 use std::ffi::OsString;
 
 use super::{Failure, Outcome, Streams};
-use crate::layout::{self, Operand, Place, Sum, Tuple, Value};
-use crate::tuple::{Bus, Side};
-use crate::verdict::Table;
+use keccak_tables::layout::{self, Operand, Place, Sum, Tuple, Value};
+use keccak_tables::verdict::Table;
+use keccak_tables::{Bus, Side};
 
 pub fn explain(arguments: &[OsString], streams: &mut Streams) -> Result<Outcome, Failure> {
     let words: Option<Vec<&str>> = arguments.iter().map(|argument| argument.to_str()).collect();
@@ -52,7 +52,7 @@ fn number(table: Table, kind: &str, index: &str) -> Option<usize> {
 }
 
 fn count(table: Table, kind: &str) -> usize {
-    use crate::{keccak, keccak_rnd};
+    use keccak_tables::{keccak, keccak_rnd};
     match (table, kind) {
         (Table::Core, "column") => keccak::NUM_COLUMNS,
         (Table::Core, "value") => keccak::NUM_VALUES,

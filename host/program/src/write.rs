@@ -2,18 +2,19 @@
 //!
 //! The file is read twice: once to its end, for its sums and faults, then in pieces of a few records. The rows of an
 //! operation don't depend on the others, so each piece's tables are made on their own and their rows put behind those
-//! that are already there; what is held in memory does not grow with the file.
+//! that are already there; what is held in memory does not grow with the file. Both tables are written beside their names and take
+//! them when both are whole, so that a run that is cut short leaves what was there before.
 
 use std::ffi::OsString;
 use std::fs::File;
 use std::io::{self, Seek};
 use std::path::Path;
 
-use super::files::{self, WordFile};
+use super::files::{self, Target, WordFile};
 use super::progress::Progress;
-use super::{Failure, Outcome, Streams, refused, tally};
-use crate::operation_file::{RECORD_BYTES, Sums, read_operations};
-use crate::{OP_WORDS, keccak, keccak_rnd};
+use super::{Failure, Outcome, Streams, file_refused, tally};
+use keccak_tables::operation_file::{RECORD_BYTES, Sums, read_operations};
+use keccak_tables::{OP_WORDS, keccak, keccak_rnd};
 
 /// How many records are read at once: 24 rows each, 18 megabytes.
 const PIECE_RECORDS: usize = 64;
@@ -30,7 +31,7 @@ pub fn write(arguments: &[OsString], streams: &mut Streams) -> Result<Outcome, F
     match tally::sums_of_file(&mut ops).map_err(Failure::file(path))? {
         Ok(sums) => {
             ops.rewind().map_err(Failure::file(path))?;
-            let (core, round) = opened(path, &ops, core, round)?;
+            let [core, round] = opened(&ops, core, round)?;
             let progress = Progress::new("rows", sums.core_rows + sums.round_rows);
             let tables = Tables {
                 path,
@@ -42,7 +43,7 @@ pub fn write(arguments: &[OsString], streams: &mut Streams) -> Result<Outcome, F
             tables.write(ops, &sums)?;
             tally::print(&sums.lines()[..3], streams)
         }
-        Err(refusal) => refused(refusal, streams),
+        Err(refusal) => file_refused(refusal, streams),
     }
 }
 
@@ -50,33 +51,18 @@ fn not_three_files() -> Failure {
     Failure::Usage("OPS, CORE and ROUND must be three files".into())
 }
 
-/// The two table files, empty. Neither loses what it held before both are open and known to be files of their own; one that
-/// was made for nothing is removed.
-fn opened<'a>(
-    path: &Path,
-    ops: &File,
-    core: &'a Path,
-    round: &'a Path,
-) -> Result<(WordFile<'a>, WordFile<'a>), Failure> {
-    let core = WordFile::open(core)?;
-    let round = WordFile::open(round).inspect_err(|_| core.unmake())?;
-    are_three(path, [ops, core.file(), round.file()]).inspect_err(|_| {
-        core.unmake();
-        round.unmake();
-    })?;
-    core.clear()?;
-    round.clear()?;
-    Ok((core, round))
-}
-
-/// Refuses two names of one file, however they are written.
-fn are_three(path: &Path, [ops, core, round]: [&File; 3]) -> Result<(), Failure> {
-    for (left, right) in [(ops, core), (ops, round), (core, round)] {
-        if files::same(left, right).map_err(Failure::file(path))? {
-            return Err(not_three_files());
-        }
+/// The two table files, to be written. Nothing is made before the three names are known to lead to files of their own.
+fn opened<'a>(ops: &File, core: &'a Path, round: &'a Path) -> Result<[WordFile<'a>; 2], Failure> {
+    let [core, round] = [Target::of(core)?, Target::of(round)?];
+    if core.is(&round) || core.is_file(ops)? || round.is_file(ops)? {
+        return Err(not_three_files());
     }
-    Ok(())
+    if core.is_printed_to()? || round.is_printed_to()? {
+        return Err(Failure::Usage(
+            "CORE and ROUND can't be standard output or standard error, where this program prints".into(),
+        ));
+    }
+    Ok([WordFile::beside(&core)?, WordFile::beside(&round)?])
 }
 
 /// The two tables of the file at a path, of which some operations are written.
@@ -123,7 +109,7 @@ impl Tables<'_> {
         Ok(())
     }
 
-    /// Puts the padding: each row is as in the table of no operations.
+    /// Puts the padding, each row as in the table of no operations, and gives both files their names.
     fn close(mut self, sums: &Sums) -> Result<(), Failure> {
         let core = keccak::keccak_table(&[]).map_err(|_| self.changed())?;
         let round = keccak_rnd::keccak_rnd_table(&[]).map_err(|_| self.changed())?;
@@ -131,14 +117,17 @@ impl Tables<'_> {
             return Err(self.changed());
         }
         let rounds = self.written * keccak_rnd::ROUNDS as u64;
-        let mut pad = |mut table: WordFile, row: &[u64], times: u64| {
+        let mut pad = |table: &mut WordFile, row: &[u64], times: u64| {
             for _ in 0..times {
                 table.put(row)?;
                 self.progress.add(1);
             }
-            table.close()
+            table.flush()
         };
-        pad(self.core, &core[..keccak::NUM_COLUMNS], sums.core_rows - self.written)?;
-        pad(self.round, &round[..keccak_rnd::NUM_COLUMNS], sums.round_rows - rounds)
+        let (core_row, round_row) = (&core[..keccak::NUM_COLUMNS], &round[..keccak_rnd::NUM_COLUMNS]);
+        pad(&mut self.core, core_row, sums.core_rows - self.written)?;
+        pad(&mut self.round, round_row, sums.round_rows - rounds)?;
+        self.core.finish()?;
+        self.round.finish()
     }
 }

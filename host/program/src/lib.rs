@@ -1,8 +1,14 @@
 //! The command-line program: what `keccak-tables` and `judge` run.
 
+#![deny(unsafe_code)]
+#![warn(missing_docs)]
+
+#[allow(unsafe_code)]
+pub mod closed;
 mod demo;
 mod explain;
 mod files;
+mod help;
 mod judge;
 mod progress;
 mod tally;
@@ -15,27 +21,7 @@ use std::io::{self, Read, Write};
 use std::path::{Path, PathBuf};
 use std::process::ExitCode;
 
-use crate::refusal::Refusal;
-
-const HELP: &str = "\
-The Keccak tables of a STARK prover, written and judged by proved code.
-
-  keccak-tables demo                  writes tables of a few drawn calls, judges them, tampers with them, judges again
-  keccak-tables write OPS CORE ROUND  writes the core and the round table of an operation file
-  keccak-tables judge CORE ROUND      says whether two tables hold together, or names the first failure
-  keccak-tables tally [OPS]           counts the lookups of an operation file, or of standard input
-  keccak-tables explain core|round column|value|tuple INDEX
-                                      says what a column, a constraint value or a tuple of a row is; a column's name,
-                                      as in THETA[1][2][3] (x, y, byte), may stand for its index
-  keccak-tables help                  prints this
-
-An operation file has records of 418 bytes: 4B 4F (hexadecimal), then timestamp, address, 25 input and 25 output lanes.
-A table is a file of words, row after row: 486 to a core row, 1,480 to a round row. A word is 8 bytes, lowest first.
-
-`judge` prints `holds N`; or `core` or `round`, `row R`, and `value I`, `lookup I`, `timestamp 0` or `balance I`.
-What is refused gives the line `refused N D`.
-Exit status: 0 fine; 1 the tables do not hold, or refused; 2 wrong usage, or a file that can't be read or written.
-";
+use keccak_tables::Refusal;
 
 const HINT: &str = "`keccak-tables help` tells the commands";
 const JUDGE_HINT: &str = "usage: judge CORE ROUND";
@@ -92,20 +78,33 @@ pub fn run(arguments: &[OsString], streams: &mut Streams) -> u8 {
 
 /// Runs `judge` on its arguments and answers its exit status.
 pub fn run_judge(arguments: &[OsString], streams: &mut Streams) -> u8 {
-    let outcome = judge::judge(arguments, streams);
+    let outcome = named("judge", arguments, streams);
     status(outcome, JUDGE_HINT, streams)
 }
 
-/// Gives a run the arguments and streams of this process.
+/// Gives a run the arguments and streams of this process. Without a standard output nothing is begun.
 pub fn main(run: fn(&[OsString], &mut Streams) -> u8) -> ExitCode {
     let arguments: Vec<OsString> = std::env::args_os().skip(1).collect();
-    let mut output = io::stdout().lock();
+    if closed::output() {
+        let _ = writeln!(io::stderr(), "standard output is closed");
+        return ExitCode::from(2);
+    }
+    let (mut input, mut none) = (io::stdin().lock(), NoInput);
     let mut streams = Streams {
-        input: &mut io::stdin().lock(),
-        output: &mut output,
+        input: if closed::input() { &mut none } else { &mut input },
+        output: &mut io::stdout().lock(),
         errors: &mut io::stderr(),
     };
     ExitCode::from(run(&arguments, &mut streams))
+}
+
+/// A standard input that was closed.
+struct NoInput;
+
+impl Read for NoInput {
+    fn read(&mut self, _: &mut [u8]) -> io::Result<usize> {
+        Err(io::Error::other("standard input is closed"))
+    }
 }
 
 fn command(arguments: &[OsString], streams: &mut Streams) -> Result<Outcome, Failure> {
@@ -113,16 +112,26 @@ fn command(arguments: &[OsString], streams: &mut Streams) -> Result<Outcome, Fai
         return Err(Failure::Usage("a command is missing".into()));
     };
     match name.to_str() {
-        Some("demo") => demo::demo(rest, streams),
-        Some("write") => write::write(rest, streams),
-        Some("judge") => judge::judge(rest, streams),
-        Some("tally") => tally::tally(rest, streams),
-        Some("explain") => explain::explain(rest, streams),
-        Some("help" | "--help" | "-h") => {
-            streams.output.write_all(HELP.as_bytes())?;
-            Ok(Outcome::Fine)
-        }
+        Some("help" | "--help" | "-h") => help::help(rest, streams),
+        Some("--version" | "-V") => help::version(rest, streams),
+        Some(name) if help::COMMANDS.iter().any(|command| command.name == name) => named(name, rest, streams),
         _ => Err(Failure::Usage(format!("there is no command {}", name.display()))),
+    }
+}
+
+/// Runs the command of a name, or prints its help.
+fn named(name: &str, rest: &[OsString], streams: &mut Streams) -> Result<Outcome, Failure> {
+    if let [option] = rest
+        && ["--help", "-h"].iter().any(|help| option == help)
+    {
+        return help::help(&[name.into()], streams);
+    }
+    match name {
+        "demo" => demo::demo(rest, streams),
+        "write" => write::write(rest, streams),
+        "judge" => judge::judge(rest, streams),
+        "tally" => tally::tally(rest, streams),
+        _ => explain::explain(rest, streams),
     }
 }
 
@@ -143,10 +152,22 @@ fn status(outcome: Result<Outcome, Failure>, hint: &str, streams: &mut Streams) 
 }
 
 /// Prints a refusal: its line on standard output, its words on standard error.
-fn refused(refusal: Refusal, streams: &mut Streams) -> Result<Outcome, Failure> {
+fn refused(refusal: Refusal, words: &str, streams: &mut Streams) -> Result<Outcome, Failure> {
     writeln!(streams.output, "{}", refused_line(refusal))?;
-    let _ = writeln!(streams.errors, "{refusal}");
+    let _ = writeln!(streams.errors, "{words}");
     Ok(Outcome::DoesNotHold)
+}
+
+/// The refusal of an operation file, in words.
+fn file_refused(refusal: Refusal, streams: &mut Streams) -> Result<Outcome, Failure> {
+    let words = match refusal {
+        Refusal::PastEnd { limit } => format!(
+            "the file goes on after record {}, which is the last that it may have",
+            limit - 1
+        ),
+        other => other.to_string(),
+    };
+    refused(refusal, &words, streams)
 }
 
 fn refused_line(refusal: Refusal) -> String {

@@ -3,5 +3,5 @@
 use std::process::ExitCode;
 
 fn main() -> ExitCode {
-    keccak_tables::program::main(keccak_tables::program::run_judge)
+    program::main(program::run_judge)
 }

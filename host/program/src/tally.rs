@@ -6,9 +6,9 @@ use std::io::{self, Read};
 use std::path::Path;
 
 use super::progress::Progress;
-use super::{Failure, Outcome, Streams, files, refused};
-use crate::operation_file::{Sums, Tally};
-use crate::refusal::Refusal;
+use super::{Failure, Outcome, Streams, file_refused, files};
+use keccak_tables::Refusal;
+use keccak_tables::operation_file::{Sums, Tally};
 
 pub fn tally(arguments: &[OsString], streams: &mut Streams) -> Result<Outcome, Failure> {
     let answer = match arguments {
@@ -23,7 +23,7 @@ pub fn tally(arguments: &[OsString], streams: &mut Streams) -> Result<Outcome, F
     };
     match answer {
         Ok(sums) => print(&sums.lines(), streams),
-        Err(refusal) => refused(refusal, streams),
+        Err(refusal) => file_refused(refusal, streams),
     }
 }
 

@@ -4,11 +4,11 @@ use std::ffi::OsString;
 use std::io::{self, Write};
 
 use super::{Failure, Outcome, Streams, explain, refused_line};
-use crate::keccak::LAST_ADDRESS;
-use crate::layout::{self, Place};
-use crate::refusal::Refusal;
-use crate::verdict::{Table, Verdict, verdict};
-use crate::{OP_WORDS, Operation, keccak, keccak_rnd};
+use keccak_tables::Refusal;
+use keccak_tables::keccak::LAST_ADDRESS;
+use keccak_tables::layout::{self, Place};
+use keccak_tables::verdict::{Table, Verdict, verdict};
+use keccak_tables::{OP_WORDS, Operation, keccak, keccak_rnd, transposed};
 
 /// The calls.
 const CALLS: usize = 3;
@@ -98,7 +98,7 @@ pub fn demo(arguments: &[OsString], streams: &mut Streams) -> Result<Outcome, Fa
     }
     match honest() {
         Ok((ops, tables)) => show(&ops, &tables, streams),
-        Err(refusal) => super::refused(refusal, streams),
+        Err(refusal) => super::refused(refusal, &refusal.to_string(), streams),
     }
 }
 
@@ -186,7 +186,7 @@ fn named(answer: Result<Verdict, Refusal>) -> Option<Place> {
         Verdict::Lookup { table, index, .. } | Verdict::Unbalanced { table, index, .. } => {
             layout::tuple(table, index as usize).map(|(place, _)| place)
         }
-        Verdict::Holds { .. } | Verdict::Repeated { .. } => None,
+        _ => None,
     }
 }
 
@@ -219,12 +219,15 @@ fn drawn(call: u64) -> Operation {
     }
 }
 
-/// The state that a round row sends on: tuple 1, after the timestamp's two words and the round, x before y.
+/// The state that a round row sends on: tuple 1, after the timestamp's two words and the round.
 fn state_after(row: &[u64]) -> Result<[u64; 25], Refusal> {
     let mut values = [0; keccak_rnd::MAX_TUPLE_LENGTH];
     keccak_rnd::bus_interaction(row, 1, &mut values)?;
-    let byte = |x: usize, y: usize, byte: usize| values[3 + 40 * x + 8 * y + byte] << (8 * byte);
+    let bytes = transposed(values[3..].first_chunk().expect("a state has 200 bytes"));
     Ok(std::array::from_fn(|lane| {
-        (0..8).map(|at| byte(lane % 5, lane / 5, at)).sum()
+        bytes[8 * lane..][..8]
+            .iter()
+            .rev()
+            .fold(0, |number, byte| number << 8 | byte)
     }))
 }

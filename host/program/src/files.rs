@@ -1,0 +1,210 @@
+//! Files of words: 8 bytes each, lowest first.
+
+use std::fs::{self, File, Metadata};
+use std::io::{self, BufWriter, IsTerminal, Read, Write};
+use std::os::fd::AsFd;
+use std::os::unix::fs::{FileTypeExt, MetadataExt};
+use std::path::{Path, PathBuf};
+
+use super::Failure;
+use super::progress::Progress;
+
+/// How many bytes are read at once.
+pub const PIECE_BYTES: usize = 1 << 16;
+
+/// The words of a file.
+pub fn read_words(path: &Path) -> Result<Vec<u64>, Failure> {
+    words_of(path).map_err(Failure::file(path))
+}
+
+fn words_of(path: &Path) -> io::Result<Vec<u64>> {
+    let mut file = File::open(path)?;
+    let length = file.metadata()?.len();
+    let mut words = Vec::new();
+    words.try_reserve(length as usize / 8).map_err(io::Error::other)?;
+    let mut progress = Progress::new("bytes read", length);
+    let mut buffer = [0; PIECE_BYTES];
+    loop {
+        let got = fill(&mut file, &mut buffer)?;
+        progress.add(got as u64);
+        let (whole, rest) = buffer[..got].as_chunks::<8>();
+        // What comes without a length, or grows, may be longer than memory too.
+        words.try_reserve(whole.len()).map_err(io::Error::other)?;
+        words.extend(whole.iter().map(|&word| u64::from_le_bytes(word)));
+        if !rest.is_empty() {
+            let bytes = 8 * words.len() + rest.len();
+            return Err(io::Error::other(format!("{bytes} bytes are no whole words")));
+        }
+        if got < PIECE_BYTES {
+            return Ok(words);
+        }
+    }
+}
+
+/// Reads until the buffer is full or the input at its end, and says how much came.
+pub fn fill(input: &mut dyn Read, buffer: &mut [u8]) -> io::Result<usize> {
+    let mut filled = 0;
+    while filled < buffer.len() {
+        match input.read(&mut buffer[filled..]) {
+            Ok(0) => break,
+            Ok(got) => filled += got,
+            Err(error) if error.kind() == io::ErrorKind::Interrupted => {}
+            Err(error) => return Err(error),
+        }
+    }
+    Ok(filled)
+}
+
+/// What the name of a table file leads to, before anything is written.
+pub struct Target<'a> {
+    path: &'a Path,
+    /// What is there already.
+    about: Option<Metadata>,
+    /// The name without links, of a file or of what is not there yet.
+    full: Option<PathBuf>,
+}
+
+impl<'a> Target<'a> {
+    /// Looks where a name leads. What is there must be open to writing.
+    pub fn of(path: &'a Path) -> Result<Self, Failure> {
+        Self::found(path).map_err(Failure::file(path))
+    }
+
+    fn found(path: &'a Path) -> io::Result<Self> {
+        let there = match fs::metadata(path) {
+            // A link to nothing is there, and leads nowhere.
+            Err(error) if error.kind() == io::ErrorKind::NotFound && fs::symlink_metadata(path).is_err() => None,
+            about => Some(about?),
+        };
+        let full = match &there {
+            None => Some(new_name(path)?),
+            Some(about) if about.is_file() || about.is_dir() => {
+                File::options().write(true).open(path)?;
+                Some(fs::canonicalize(path)?)
+            }
+            Some(_) => None,
+        };
+        Ok(Self {
+            path,
+            about: there,
+            full,
+        })
+    }
+
+    /// Whether two names lead to one file, however they are written.
+    pub fn is(&self, other: &Self) -> bool {
+        match (&self.about, &other.about) {
+            (Some(left), Some(right)) => same(left, right),
+            _ => self.full == other.full,
+        }
+    }
+
+    /// Whether the name leads to a file that is open.
+    pub fn is_file(&self, file: &File) -> Result<bool, Failure> {
+        let about = file.metadata().map_err(Failure::file(self.path))?;
+        Ok(self.about.as_ref().is_some_and(|there| same(there, &about)))
+    }
+
+    /// Whether the name leads to where the program prints, which would mix with the table.
+    pub fn is_printed_to(&self) -> Result<bool, Failure> {
+        for (stream, terminal) in [
+            (io::stdout().as_fd(), io::stdout().is_terminal()),
+            (io::stderr().as_fd(), io::stderr().is_terminal()),
+        ] {
+            let stream = File::from(stream.try_clone_to_owned().map_err(Failure::file(self.path))?);
+            // A device that is no terminal takes everything and mixes nothing: /dev/null.
+            let device = self
+                .about
+                .as_ref()
+                .is_some_and(|there| there.file_type().is_char_device());
+            if self.is_file(&stream)? && (terminal || !device) {
+                return Ok(true);
+            }
+        }
+        Ok(false)
+    }
+}
+
+/// The full name of a file that is not there yet.
+fn new_name(path: &Path) -> io::Result<PathBuf> {
+    let name = match path.file_name() {
+        Some(name) if !path.as_os_str().as_encoded_bytes().ends_with(b"/") => name,
+        _ => return Err(io::ErrorKind::IsADirectory.into()),
+    };
+    let folder = path.parent().filter(|folder| !folder.as_os_str().is_empty());
+    Ok(fs::canonicalize(folder.unwrap_or(Path::new(".")))?.join(name))
+}
+
+fn same(left: &Metadata, right: &Metadata) -> bool {
+    (left.dev(), left.ino()) == (right.dev(), right.ino())
+}
+
+/// A file of words that is being written: beside its name, which it takes when it is whole. A device or a pipe has no such name, and is
+/// written as it is.
+pub struct WordFile<'a> {
+    path: &'a Path,
+    file: BufWriter<File>,
+    /// The name that it has and the name that it is to take.
+    names: Option<[PathBuf; 2]>,
+}
+
+impl<'a> WordFile<'a> {
+    /// Makes the file beside its name, with the rights of what is there already.
+    pub fn beside(target: &Target<'a>) -> Result<Self, Failure> {
+        let path = target.path;
+        let Some(full) = &target.full else {
+            let file = File::options().write(true).open(path).map_err(Failure::file(path))?;
+            return Ok(Self::new(path, file, None));
+        };
+        let mut part = full.clone().into_os_string();
+        part.push(format!(".{}.part", std::process::id()));
+        let part = PathBuf::from(part);
+        let file = File::options().write(true).create_new(true).open(&part);
+        let file = Self::new(path, file.map_err(Failure::file(&part))?, Some([part, full.clone()]));
+        if let Some(about) = &target.about {
+            let set = file.file.get_ref().set_permissions(about.permissions());
+            set.map_err(Failure::file(path))?;
+        }
+        Ok(file)
+    }
+
+    fn new(path: &'a Path, file: File, names: Option<[PathBuf; 2]>) -> Self {
+        Self {
+            path,
+            file: BufWriter::with_capacity(PIECE_BYTES, file),
+            names,
+        }
+    }
+
+    pub fn put(&mut self, words: &[u64]) -> Result<(), Failure> {
+        let mut put = || {
+            words
+                .iter()
+                .try_for_each(|word| self.file.write_all(&word.to_le_bytes()))
+        };
+        put().map_err(Failure::file(self.path))
+    }
+
+    /// Writes what is still held back.
+    pub fn flush(&mut self) -> Result<(), Failure> {
+        self.file.flush().map_err(Failure::file(self.path))
+    }
+
+    /// Gives the file its name.
+    pub fn finish(mut self) -> Result<(), Failure> {
+        match self.names.take() {
+            Some([part, full]) => fs::rename(part, full).map_err(Failure::file(self.path)),
+            None => Ok(()),
+        }
+    }
+}
+
+/// A file that did not come to its name is removed.
+impl Drop for WordFile<'_> {
+    fn drop(&mut self) {
+        if let Some([part, _]) = &self.names {
+            // What can't be removed stays, under a name that says so.
+            let _ = fs::remove_file(part);
+        }
+    }
+}

@@ -1,0 +1,194 @@
+//! The program as a process: what its standard streams are, and what it leaves where it is cut short.
+
+use std::fs::{self, File};
+use std::path::PathBuf;
+use std::process::{Command, Output, Stdio};
+
+use keccak_tables::Operation;
+use keccak_tables::operation_file::{RECORD_BYTES, write_operations};
+
+/// A folder for one test, with an operation file `ops` of some records.
+struct Folder(PathBuf);
+
+impl Folder {
+    fn new(name: &str, records: u64) -> Self {
+        let path = std::env::temp_dir().join(format!("keccak-tables-process-{name}-{}", std::process::id()));
+        fs::create_dir_all(&path).unwrap();
+        let operation = |at| Operation {
+            timestamp: at,
+            address: 4096,
+            input: [at; 25],
+            output: [0; 25],
+        };
+        let ops: Vec<u64> = (0..records).flat_map(|at| operation(at).words()).collect();
+        let mut file = vec![0; records as usize * RECORD_BYTES];
+        write_operations(&ops, &mut file).unwrap();
+        fs::write(path.join("ops"), file).unwrap();
+        Self(path)
+    }
+
+    /// The names of its files, in order.
+    fn names(&self) -> Vec<String> {
+        let entries = fs::read_dir(&self.0).unwrap().map(|entry| entry.unwrap().file_name());
+        let mut names: Vec<String> = entries.map(|name| name.into_string().unwrap()).collect();
+        names.sort();
+        names
+    }
+
+    /// The program, in this folder.
+    fn program(&self, arguments: &[&str]) -> Command {
+        let mut command = Command::new(env!("CARGO_BIN_EXE_keccak-tables"));
+        command.args(arguments).current_dir(&self.0);
+        command
+    }
+
+    /// The program behind words of the shell, as `exec "$@" >&-`.
+    fn shell(&self, words: &str, arguments: &[&str]) -> Output {
+        let program = env!("CARGO_BIN_EXE_keccak-tables");
+        let mut command = Command::new("sh");
+        command
+            .args(["-c", words, "sh", program])
+            .args(arguments)
+            .current_dir(&self.0);
+        command.output().unwrap()
+    }
+}
+
+impl Drop for Folder {
+    fn drop(&mut self) {
+        let _ = fs::remove_dir_all(&self.0);
+    }
+}
+
+fn text(bytes: &[u8]) -> &str {
+    std::str::from_utf8(bytes).unwrap()
+}
+
+#[test]
+fn a_table_is_not_written_where_the_program_prints() {
+    let folder = Folder::new("mixed", 1);
+    let out = || File::create(folder.0.join("out")).unwrap();
+    for stream in ["/dev/stdout", "/dev/stderr"] {
+        for arguments in [["write", "ops", stream, "table"], ["write", "ops", "table", stream]] {
+            // To a pipe, and to a file.
+            let piped = folder.program(&arguments).output().unwrap();
+            let filed = folder.program(&arguments).stdout(out()).stderr(out()).status().unwrap();
+            assert_eq!((piped.status.code(), filed.code()), (Some(2), Some(2)), "{arguments:?}");
+            assert!(piped.stdout.is_empty());
+            assert!(
+                text(&piped.stderr).starts_with("CORE and ROUND can't be standard output"),
+                "{arguments:?}"
+            );
+            assert_eq!(folder.names(), ["ops", "out"]);
+        }
+    }
+    // What takes everything mixes nothing.
+    let mut to_null = folder.program(&["write", "ops", "/dev/null", "table"]);
+    assert_eq!(to_null.stdout(Stdio::null()).status().unwrap().code(), Some(0));
+}
+
+#[test]
+fn a_run_that_is_cut_short_leaves_what_was_there() {
+    let folder = Folder::new("cut", 2000);
+    fs::write(folder.0.join("core"), b"before").unwrap();
+    // ROUND is a pipe that nobody reads, so the run stands still in the middle of its tables.
+    assert!(
+        Command::new("mkfifo")
+            .arg(folder.0.join("round"))
+            .status()
+            .unwrap()
+            .success()
+    );
+    let held = File::options()
+        .read(true)
+        .write(true)
+        .open(folder.0.join("round"))
+        .unwrap();
+    let mut run = folder
+        .program(&["write", "ops", "core", "round"])
+        .stdout(Stdio::null())
+        .spawn()
+        .unwrap();
+    let part = format!("core.{}.part", run.id());
+    while fs::metadata(folder.0.join(&part)).is_ok_and(|about| about.len() > 0) == false {
+        assert_eq!(run.try_wait().unwrap(), None);
+        std::thread::sleep(std::time::Duration::from_millis(1));
+    }
+    run.kill().unwrap();
+    run.wait().unwrap();
+    drop(held);
+    assert_eq!(fs::read(folder.0.join("core")).unwrap(), b"before");
+    // Nothing bears a table's name but what is one; what was begun says so by its name.
+    assert_eq!(folder.names(), ["core", part.as_str(), "ops", "round"]);
+}
+
+#[test]
+fn a_table_keeps_its_links_and_rights() {
+    use std::os::unix::fs::{PermissionsExt, symlink};
+    let folder = Folder::new("links", 1);
+    fs::write(folder.0.join("table"), b"before").unwrap();
+    fs::set_permissions(folder.0.join("table"), fs::Permissions::from_mode(0o640)).unwrap();
+    symlink("table", folder.0.join("link")).unwrap();
+    assert_eq!(
+        folder
+            .program(&["write", "ops", "link", "round"])
+            .output()
+            .unwrap()
+            .status
+            .code(),
+        Some(0)
+    );
+    assert_eq!(fs::read_link(folder.0.join("link")).unwrap(), PathBuf::from("table"));
+    let about = fs::metadata(folder.0.join("table")).unwrap();
+    assert_eq!((about.len(), about.permissions().mode() & 0o777), (4 * 486 * 8, 0o640));
+    assert_eq!(folder.names(), ["link", "ops", "round", "table"]);
+}
+
+#[test]
+fn a_closed_standard_output_is_an_error_in_every_command() {
+    let folder = Folder::new("closed-output", 1);
+    fs::write(folder.0.join("none"), b"").unwrap();
+    let commands: [&[&str]; 7] = [
+        &["demo"],
+        &["write", "ops", "core", "round"],
+        &["judge", "none", "none"],
+        &["tally", "ops"],
+        &["explain", "core", "column", "0"],
+        &["help"],
+        &["--version"],
+    ];
+    for arguments in commands {
+        let Output { status, stderr, .. } = folder.shell("exec \"$@\" >&-", arguments);
+        assert_eq!(
+            (status.code(), text(&stderr)),
+            (Some(2), "standard output is closed\n"),
+            "{arguments:?}"
+        );
+        assert_eq!(folder.names(), ["none", "ops"]);
+    }
+}
+
+#[test]
+fn a_closed_standard_input_is_an_error_where_it_is_read() {
+    let folder = Folder::new("closed-input", 1);
+    let Output { status, stdout, stderr } = folder.shell("exec \"$@\" <&-", &["tally"]);
+    assert_eq!((status.code(), text(&stdout)), (Some(2), ""));
+    assert_eq!(text(&stderr), "standard input or output: standard input is closed\n");
+    assert_eq!(
+        folder.shell("exec \"$@\" <&-", &["tally", "ops"]).status.code(),
+        Some(0)
+    );
+}
+
+#[test]
+fn a_pipe_that_is_not_read_to_its_end_is_no_panic() {
+    let folder = Folder::new("broken", 1);
+    for arguments in [&["demo"][..], &["help"], &["tally", "ops"]] {
+        let Output { stdout, stderr, .. } = folder.shell("(\"$@\"; echo $? >status) | true; cat status", arguments);
+        assert!(
+            ["0\n", "2\n"].contains(&text(&stdout)) && stderr.is_empty(),
+            "{arguments:?}: {}",
+            text(&stderr)
+        );
+    }
+}

@@ -1,0 +1,92 @@
+//! The program `tally` that the kit compiles: how it meets files that can't be read or written, and one of several reads.
+//! What it prints of files that can is compared by the gate.
+
+use std::fs::File;
+use std::io::Write;
+use std::path::{Path, PathBuf};
+use std::process::{Command, Output, Stdio};
+use std::sync::LazyLock;
+
+use keccak_tables::operation_file::{RECORD_BYTES, write_operations};
+use keccak_tables::{OP_WORDS, Operation};
+
+/// The program, proved and compiled from the crate as it stands.
+static PROGRAM: LazyLock<PathBuf> = LazyLock::new(|| {
+    let root = Path::new(env!("CARGO_MANIFEST_DIR")).parent().expect("the repository");
+    let proved = Command::new("rt")
+        .args(["check", "tally"])
+        .current_dir(root)
+        .output()
+        .expect("the Rattle kit's rt is on the PATH");
+    assert!(proved.status.success(), "{}", String::from_utf8_lossy(&proved.stdout));
+    root.join("target/bin/tally")
+});
+
+fn ran(input: impl Into<Stdio>, output: impl Into<Stdio>) -> Output {
+    let program = Command::new(&*PROGRAM)
+        .stdin(input)
+        .stdout(output)
+        .stderr(Stdio::piped())
+        .spawn();
+    program
+        .expect("rt check leaves target/bin/tally")
+        .wait_with_output()
+        .expect("it ends")
+}
+
+/// A file of so many records, to be read from its beginning.
+fn records(name: &str, count: u64) -> File {
+    let operation = |at| Operation {
+        timestamp: at,
+        address: 4096,
+        input: [at; 25],
+        output: [0; 25],
+    };
+    let ops: Vec<u64> = (0..count).flat_map(|at| operation(at).words()).collect();
+    let mut bytes = vec![0; ops.len() / OP_WORDS * RECORD_BYTES];
+    write_operations(&ops, &mut bytes).expect("the operations are accepted");
+    let path = std::env::temp_dir().join(format!("keccak-tables-{name}-{}", std::process::id()));
+    File::create(&path)
+        .and_then(|mut file| file.write_all(&bytes))
+        .expect("the file can be written");
+    let file = File::open(&path).expect("the file can be read");
+    std::fs::remove_file(&path).expect("the file can be removed");
+    file
+}
+
+/// A failed read prints no count of what was read before it.
+#[test]
+fn a_failed_read_is_told_on_standard_error_alone() {
+    let folder = File::open(env!("CARGO_MANIFEST_DIR")).expect("a folder can be opened");
+    let Output { stdout, stderr, .. } = ran(folder, Stdio::piped());
+    assert!(stdout.is_empty());
+    let said = String::from_utf8(stderr).expect("text");
+    assert!(
+        said.starts_with("standard input: ") && said.ends_with('\n') && said.lines().count() == 1,
+        "{said}"
+    );
+}
+
+/// No contract speaks of a write that fails: the program ends, and that is all that is promised.
+#[test]
+fn a_full_output_lets_the_program_end() {
+    let full = File::options()
+        .write(true)
+        .open("/dev/full")
+        .expect("/dev/full can be opened");
+    let Output { status, stdout, .. } = ran(records("full", 1), full);
+    assert!(status.code().is_some() && stdout.is_empty());
+}
+
+/// 250,800 bytes, which are more than one read takes. The sums are the scope's multiples of 600; 1,984 of the round rows are
+/// padding, whose 220 AreBytes each are sent too.
+#[test]
+fn a_file_of_several_reads_is_read_whole() {
+    let Output { stdout, stderr, .. } = ran(records("long", 600), Stdio::piped());
+    let lines = "ops 600\ncore-rows 1024\nround-rows 16384\nByteAlu 11635800\nAreBytes 3606880\nKeccakRc 14400\nIsHalfword 15000\n\
+                 IsWh 15000\nMemw 15600\nEcall 600\n";
+    assert_eq!(
+        (String::from_utf8(stdout).expect("text").as_str(), stderr.len()),
+        (lines, 0)
+    );
+}
