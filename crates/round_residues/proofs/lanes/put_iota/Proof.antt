@@ -1,4 +1,4 @@
--- `round_residues::permutation::lanes::put_iota` meets its contract: one lane.
+-- `round_residues::lanes::put_iota` meets its contract: one lane.
 use borrow.Author.Needs.{needs}
 use Rattle.round_groups.specs.Parts.{iotaTuples}
 use Rattle.residue.specs.Residue.{residues}
