@@ -48,9 +48,9 @@ use Rattle.keccak_rnd.proofs.Completeness.{round-written}
 use Rattle.keccak_rnd.proofs.Soundness.{round-unique}
 use Rattle.keccak_rnd.proofs.Step.{start-state, round-fips}
 use Rattle.keccak_rnd.proofs.Written.{table-start, table-step, table-fips}
-use Rattle.verdict.specs.Kind.{Active, SameTimestamp, row, actives}
+use Rattle.verdict.specs.Kind.{Active, SameTimestamp, row, rows, actives, Passes, DistinctTimestamps}
 use Rattle.verdict.specs.CoreAndRound.{coreLayout, roundLayout, coreKind, roundKind, verdictOf}
-use Rattle.verdict.specs.Claims.{Supposed, Claims, Answers, EachActive, Computed, operations, ourRounds}
+use Rattle.verdict.specs.Claims.{Supposed, Claims, Answers, EachActive, Computed, Addressed, operations, ourRounds}
 use Rattle.verdict.specs.Failures.{ToRepeat, ToCoreBalance, RepeatsAt, Says}
 use Rattle.verdict.specs.Honest.{witnessCore, witnessRound}
 use Rattle.verdict.specs.declared.Table.the-variants.{Core, Round}
@@ -60,6 +60,11 @@ use Rattle.verdict.proofs.Demand3.{demand3}
 use Rattle.verdict.proofs.Failures.{timestamp-twice, verdict-says}
 use Rattle.verdict.proofs.Honest.{witness-supposed, witness-holds}
 use Rattle.verdict.proofs.Late.{late-row}
+use Rattle.lookup.specs.declared.Bus.{Bus}
+use Rattle.templates.specs.Templates.{isBit}
+use Rattle.bus_sums.specs.Sums.{Fillings, SumsHold, InField, nobody, MANY-ROWS}
+use Rattle.bus_sums.proofs.Bit.{bit-is}
+use Rattle.bus_sums.proofs.Receipt.{sums-core, sums-answer, sums-computed, sums-exactly}
 use Rattle.op_file.specs.File.{isWhole, addressOf, faultOf, sumsOf, tallyOf}
 use Rattle.op_file.specs.Reader.{fileStart, feedOf, finishOf}
 use Rattle.op_file.proofs.Cases as file
@@ -256,6 +261,25 @@ pub case-late : (core round : List ℕ) → ToCoreBalance (coreKind 24) roundKin
     24 ≤ word (row roundLayout round q) ROUND →
     (r i : ℕ) × ((verdictOf core round ≡ Unbalanced Core r i) ⊎ (verdictOf core round ≡ Unbalanced Round r i))
 case-late = late-row 24
+
+-- ---- beyond the demands: the buses as a prover checks them, by sums of multiplicities mod p (bus_sums/specs/Sums.antt)
+-- where the sums agree, whatever was written into the tables that are looked up, both tables pass their lookups and the
+-- Keccak bus balances, and every active core row is computed, at its addresses
+module _ (core round : List ℕ) (w : Fillings) (others : Bus → List ℕ → ℕ) (h : SumsHold 24 core round w others) where
+  pub sums-pass : Passes (coreKind 24) core × Answers 24 core round
+  sums-pass = (sums-core 24 core round w others h, sums-answer 24 core round w others h)
+
+  pub sums-right : DistinctTimestamps coreLayout core → EachActive (λ x. Computed 24 x × Addressed x) core
+  sums-right apart = sums-computed 24 core round w others h apart (omega arith) (omega arith)
+
+-- and for tables that pass and balance there are words to write there with which they agree
+pub sums-made : (core round : List ℕ) → rows coreLayout core ≤ MANY-ROWS → rows roundLayout round ≤ MANY-ROWS →
+    ((w : Fillings) × InField w × SumsHold 24 core round w nobody) ↔ (Passes (coreKind 24) core × Answers 24 core round)
+sums-made = sums-exactly 24
+
+-- MU is a bit where its value (51 of a core row, 140 of a round row) is 0, though p is nowhere known to be prime
+pub mu-bit : (r : ℕ) → r < p → isBit r ≡ 0 → r < 2
+mu-bit = bit-is
 
 -- ---- the code's tie to demand 3 (judge/proofs/Tied.antt): `Answered` and `Wrote` are calls, known by their contracts
 -- "Exactly for such a round table the verdict on both tables is 'holds' with the number of active core rows": of what
