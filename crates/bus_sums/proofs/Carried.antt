@@ -19,7 +19,7 @@ use Rattle.lookup.proofs.Buses.{bus-decides}
 use Rattle.verdict.specs.Kind.{Kind, rows, row, isActive, onKeccak, keccakTest, carries, carried, OnBus}
 use Rattle.verdict.proofs.Tuples.{place, at-place}
 use Rattle.bus_sums.specs.Sums.{share, shares, tupleAt, tableShare}
-use Rattle.bus_sums.proofs.Shares.{share-le, share-none}
+use Rattle.bus_sums.proofs.Shares.{share-most, share-none}
 
 side-turn : (a b : Side) → sameSide a b ≡ sameSide b a
 side-turn Sender Sender = refl
@@ -54,7 +54,7 @@ module _ (s : Side) (v : List ℕ) (t : Tuple) where
     where
       go : (b : Bool) → onKeccak t ≡ b → (k : ℕ) → m ≡ k → share s Keccak v t ≡ pick (eqb m 1 && keccakTest s v t) 1 0
       go false e k q = off-share e ∙ ap (λ (x : Bool). pick x 1 0) (sym (false-and (eqb m 1) (keccakTest s v t) (λ a. ap (λ (x : Bool). x && (sameSide (t .side) s && wordsTest v (t .values))) e)))
-      go true e zero q = (let a = share-le s Keccak v t in omega (arith, a, h e)) ∙ ap (λ (n : ℕ). pick (eqb n 1 && keccakTest s v t) 1 0) (sym q)
+      go true e zero q = (let a = share-most s Keccak v t in omega (arith, a, h e)) ∙ ap (λ (n : ℕ). pick (eqb n 1 && keccakTest s v t) 1 0) (sym q)
       go true e (suc zero) q = on-share e (h e ∙ q) ∙ ap (λ (n : ℕ). pick (eqb n 1 && keccakTest s v t) 1 0) (sym q)
       go true e (suc (suc k)) q = absurd (omega arith)
 

@@ -23,7 +23,7 @@ use Rattle.keccak_rc.specs.Row.{rcRow}
 use Rattle.keccak_rc.specs.Tuples.{rcTuple}
 use Rattle.keccak_rc.specs.Found.{RcFound}
 use Rattle.keccak_rc.proofs.Found.{rc-values, rc-round, rc-tuple}
-use Rattle.bus_sums.specs.Sums.{share, shares, bitwiseAt, constantAt}
+use Rattle.bus_sums.specs.Sums.{share, shares, bitwiseAt, bitwiseShare, constantAt, constantsShare}
 use Rattle.bus_sums.proofs.Shares.{On, share-none, share-is, shares-zero, sum-place, sum-zero}
 use Rattle.bus_sums.proofs.Rows.{fixed}
 use Rattle.bus_sums.proofs.Places.{placeRow, placeKind, Placed}
@@ -97,7 +97,7 @@ module _ (times : Bus → List ℕ → ℕ) where
           (sym (fixed charged (placeRow b v) [] (kindAt (placeKind b v))) ∙ ap (λ (t : Tuple). t .values) (at .tuple []))
           ∙ pick-on (chargedAt (placeRow b v) (placeKind b v) b v) (times b v) at-place
 
-      received-at : shares Receiver b v 1048576 10 (bitwiseAt charged) ≡ times b v
+      received-at : bitwiseShare Receiver b v charged ≡ times b v
       unfolding shares
       received-at =
           sum-place 1048576 (placeRow b v) (λ r. sum 10 (λ i. share Receiver b v (bitwiseAt charged r i))) (at .row-lt)
@@ -106,10 +106,10 @@ module _ (times : Bus → List ℕ → ℕ) where
           (λ i m n. share-none Receiver b v (bitwiseAt charged (placeRow b v) i) (λ o. n (at-kind (placeRow b v) i (charge-some (placeRow b v) i m o .0))))
           ∙ whole
 
-    pub charged-received : (1 ≤ times b v → Placed b v) → shares Receiver b v 1048576 10 (bitwiseAt charged) ≡ times b v
+    pub charged-received : (1 ≤ times b v → Placed b v) → bitwiseShare Receiver b v charged ≡ times b v
     charged-received found = go (times b v) refl
       where
-        go : (n : ℕ) → times b v ≡ n → shares Receiver b v 1048576 10 (bitwiseAt charged) ≡ times b v
+        go : (n : ℕ) → times b v ≡ n → bitwiseShare Receiver b v charged ≡ times b v
         go zero e = shares-zero Receiver b v 1048576 10 (bitwiseAt charged) (λ r i lr li o. let c = charge-some r i li o .1 in omega (arith, c, e)) ∙ sym e
         go (suc n) e = received-at (found (omega arith))
 
@@ -128,7 +128,7 @@ module _ (times : Bus → List ℕ → ℕ) where
         let e : v ≡ rcRow r = o .values ∙ ap (λ (t : Tuple). t .values) (constant-at r j) in
         (e, subst (λ (u : List ℕ). 1 ≤ times KeccakRc u) (sym e) (subst (λ (n : ℕ). 1 ≤ n) (ap (λ (t : Tuple). t .multiplicity) (constant-at r j)) (o .some)))
 
-    constant-in : RcFound v → shares Receiver KeccakRc v 32 1 (constantAt chargedConstant) ≡ times KeccakRc v
+    constant-in : RcFound v → constantsShare Receiver KeccakRc v chargedConstant ≡ times KeccakRc v
     unfolding shares sum chargedConstant
     constant-in f =
         sum-place 32 (f .index) (λ r. sum 1 (λ j. share Receiver KeccakRc v (constantAt chargedConstant r j))) (f .index-lt)
@@ -142,9 +142,9 @@ module _ (times : Bus → List ℕ → ℕ) where
         is : rcRow (f .index) ≡ v
         is = sym (rc-values (f .index) 0) ∙ f .values
 
-    pub constant-received : (1 ≤ times KeccakRc v → RcFound v) → shares Receiver KeccakRc v 32 1 (constantAt chargedConstant) ≡ times KeccakRc v
+    pub constant-received : (1 ≤ times KeccakRc v → RcFound v) → constantsShare Receiver KeccakRc v chargedConstant ≡ times KeccakRc v
     constant-received found = go (times KeccakRc v) refl
       where
-        go : (n : ℕ) → times KeccakRc v ≡ n → shares Receiver KeccakRc v 32 1 (constantAt chargedConstant) ≡ times KeccakRc v
+        go : (n : ℕ) → times KeccakRc v ≡ n → constantsShare Receiver KeccakRc v chargedConstant ≡ times KeccakRc v
         go zero e = shares-zero Receiver KeccakRc v 32 1 (constantAt chargedConstant) (λ r i lr li o. let c = constant-some r i o .1 in omega (arith, c, e)) ∙ sym e
         go (suc n) e = constant-in (found (omega arith))

@@ -19,7 +19,7 @@ use Rattle.is_wh.specs.Found.{IsWhFound}
 use Rattle.is_wh.specs.Tuples.{isWhTuple}
 use Rattle.is_wh.proofs.Tuples.{mu-sent, half-sent, pair-received}
 use Rattle.verdict.specs.Kind.{rows, row}
-use Rattle.bus_sums.specs.Sums.{share, shares, pairLayout, pairAt}
+use Rattle.bus_sums.specs.Sums.{share, shares, isWhLayout, isWhKind, tupleAt, tableShare}
 use Rattle.bus_sums.proofs.Shares.{share-none, sum-place}
 use Rattle.bus_sums.proofs.Rows.{sides-differ, pair-early}
 
@@ -33,7 +33,7 @@ forged =
     ∷ 0 ∷ 0 ∷ 0 ∷ 2
     ∷ 0 ∷ 5 ∷ 0 ∷ (p - 1) ∷ []
 
-pub forged-rows : rows pairLayout forged ≡ 6
+pub forged-rows : rows isWhLayout forged ≡ 6
 forged-rows = refl
 
 -- it is no pair of a word and a half
@@ -49,17 +49,17 @@ row-received v x w h m e =
     (λ j g n. share-none Receiver IsWh v (isWhTuple x j) (λ o. sides-differ (o .side ∙ pair-early x j (omega arith))))
     ∙ ap (share Receiver IsWh v) e
 
-pub forged-received : (v : List ℕ) → shares Receiver IsWh v 6 5 (pairAt forged) % p ≡ pick (wordsTest v ((p - 5) ∷ 0 ∷ [])) 1 0
-unfolding shares pairAt sum rowAt tab tabFrom
+pub forged-received : (v : List ℕ) → shares Receiver IsWh v 6 5 (tupleAt isWhKind forged) % p ≡ pick (wordsTest v ((p - 5) ∷ 0 ∷ [])) 1 0
+unfolding shares tupleAt sum rowAt tab tabFrom
 forged-received v =
     ap₂ (λ (a b : ℕ). (a + b) % p)
     (ap₂ _+_ (ap₂ _+_ (ap₂ _+_ (ap₂ _+_ (ap (λ (n : ℕ). 0 + n)
-    (row-received v (row pairLayout forged 0) (p - 5) 0 1 (pair-received (row pairLayout forged 0) 4 (omega arith))))
-    (row-received v (row pairLayout forged 1) 0 0 (p - 1) (pair-received (row pairLayout forged 1) 4 (omega arith))))
-    (row-received v (row pairLayout forged 2) 5 0 1 (pair-received (row pairLayout forged 2) 4 (omega arith))))
-    (row-received v (row pairLayout forged 3) 0 0 (p - 1) (pair-received (row pairLayout forged 3) 4 (omega arith))))
-    (row-received v (row pairLayout forged 4) 0 0 2 (pair-received (row pairLayout forged 4) 4 (omega arith))))
-    (row-received v (row pairLayout forged 5) 5 0 (p - 1) (pair-received (row pairLayout forged 5) 4 (omega arith)))
+    (row-received v (row isWhLayout forged 0) (p - 5) 0 1 (pair-received (row isWhLayout forged 0) 4 (omega arith))))
+    (row-received v (row isWhLayout forged 1) 0 0 (p - 1) (pair-received (row isWhLayout forged 1) 4 (omega arith))))
+    (row-received v (row isWhLayout forged 2) 5 0 1 (pair-received (row isWhLayout forged 2) 4 (omega arith))))
+    (row-received v (row isWhLayout forged 3) 0 0 (p - 1) (pair-received (row isWhLayout forged 3) 4 (omega arith))))
+    (row-received v (row isWhLayout forged 4) 0 0 2 (pair-received (row isWhLayout forged 4) 4 (omega arith))))
+    (row-received v (row isWhLayout forged 5) 5 0 (p - 1) (pair-received (row isWhLayout forged 5) 4 (omega arith)))
     ∙ cases (wordsTest v ((p - 5) ∷ 0 ∷ [])) (wordsTest v (0 ∷ 0 ∷ [])) (wordsTest v (5 ∷ 0 ∷ []))
   where
     cases : (a b c : Bool) → (0 + pick a 1 0 + pick b (p - 1) 0 + pick c 1 0 + pick b (p - 1) 0 + pick b 2 0 + pick c (p - 1) 0) % p ≡ pick a 1 0
@@ -109,8 +109,8 @@ not-small : (n y : ℕ) → 65536 ≤ n → y < 65536 → is n y ≡ false
 unfolding is
 not-small n y l g = not-true (wordsTest (n ∷ []) (y ∷ [])) (λ e. let q : n ∷ [] ≡ y ∷ [] = words-sound (n ∷ []) (y ∷ []) (T-of _ e) in let r : n ≡ y = ap (λ (l : List ℕ). word l 0) q in omega arith)
 
-pub forged-sent : (n : ℕ) → 65536 ≤ n → shares Sender IsHalfword (n ∷ []) 6 5 (pairAt forged) % p ≡ 0
-unfolding shares pairAt sum rowAt tab tabFrom
+pub forged-sent : (n : ℕ) → 65536 ≤ n → shares Sender IsHalfword (n ∷ []) 6 5 (tupleAt isWhKind forged) % p ≡ 0
+unfolding shares tupleAt sum rowAt tab tabFrom
 forged-sent n l =
     ap₂ (λ (a b : ℕ). (a + b) % p)
     (ap₂ _+_ (ap₂ _+_ (ap₂ _+_ (ap₂ _+_ (ap (λ (k : ℕ). 0 + k)

@@ -2,7 +2,7 @@
 -- IsWh bus is what the core table sends there; and what it sends is found, where the core table passes.
 use mathlib.Core.Path.{_≡_, refl, sym, ap, ap₂, subst, _∙_}
 use mathlib.Core.Bool.{Bool, true, false, _&&_}
-use mathlib.Core.Logic.{_⊎_, inl, inr, ⊎-elim}
+use mathlib.Core.Logic.{_⊎_, inl, inr}
 use mathlib.Core.List.{List, [], _∷_}
 use Prim.Native.Nat.{ℕ, zero, suc, _+_, _-_, _*_, _/_, _%_, _^_, _≤_, _<_}
 use native.Mathlib.Nat.{mod-eq-of-lt}
@@ -30,10 +30,10 @@ use Rattle.keccak.proofs.Places.{tuple-at}
 use Rattle.verdict.specs.Kind.{rows, row, Lookups, Whole, Elements}
 use Rattle.verdict.specs.CoreAndRound.{coreLayout, coreKind}
 use Rattle.verdict.proofs.Tables.{table-rows, table-whole}
-use Rattle.bus_sums.specs.Sums.{share, shares, pairLayout, pairAt, tupleAt, tableShare}
-use Rattle.bus_sums.proofs.Shares.{On, share-none, share-le, shares-le, shares-find, sum-place, sum-flat, sum-zero}
+use Rattle.bus_sums.specs.Sums.{share, shares, isWhLayout, isWhKind, tupleAt, tableShare}
+use Rattle.bus_sums.proofs.Shares.{On, share-none, shares-find, sum-place, sum-flat, sum-zero}
 use Rattle.bus_sums.proofs.Constrained.{row-below}
-use Rattle.bus_sums.proofs.Rows.{sides-differ, pair-early, pair-few}
+use Rattle.bus_sums.proofs.Rows.{sides-differ, pair-early}
 
 -- the row of pointer i of a core row x
 unfoldable pub pairOf : List ℕ → ℕ → List ℕ
@@ -106,25 +106,25 @@ module _ (core : List ℕ) where
   abbrev pairAtPlace : ℕ → List ℕ
   pairAtPlace k = pairOf (row coreLayout core (k / 25)) (k % 25)
 
-  pub pairs-rows : rows pairLayout (pairsOf core) ≡ rows coreLayout core * 25
+  pub pairs-rows : rows isWhLayout (pairsOf core) ≡ rows coreLayout core * 25
   unfolding pairsOf
-  pairs-rows = table-rows pairLayout (omega arith) height pairAtPlace
+  pairs-rows = table-rows isWhLayout (omega arith) height pairAtPlace
 
-  pub pairs-row : (k : ℕ) → k < rows coreLayout core * 25 → row pairLayout (pairsOf core) k ≡ pairOf (row coreLayout core (k / 25)) (k % 25)
+  pub pairs-row : (k : ℕ) → k < rows coreLayout core * 25 → row isWhLayout (pairsOf core) k ≡ pairOf (row coreLayout core (k / 25)) (k % 25)
   unfolding pairsOf pairOf
   pairs-row k l = rowAt-table height 4 pairAtPlace k l refl
 
   pairs-shares : (s : Side) (b : Bus) (v : List ℕ)
-      → shares s b v (rows pairLayout (pairsOf core)) 5 (pairAt (pairsOf core)) ≡ sum (rows coreLayout core) (λ r. sum 25 (λ i. sum 5 (λ j. share s b v (isWhTuple (pairOf (row coreLayout core r) i) j))))
-  unfolding shares pairAt
+      → tableShare s b v isWhKind (pairsOf core) ≡ sum (rows coreLayout core) (λ r. sum 25 (λ i. sum 5 (λ j. share s b v (isWhTuple (pairOf (row coreLayout core r) i) j))))
+  unfolding shares tupleAt
   pairs-shares s b v =
-      ap (λ (m : ℕ). sum m (λ r. sum 5 (λ i. share s b v (pairAt (pairsOf core) r i)))) pairs-rows
-      ∙ sum-same height (λ r. sum 5 (λ i. share s b v (pairAt (pairsOf core) r i))) (λ k. sum 5 (λ j. share s b v (isWhTuple (pairAtPlace k) j)))
+      ap (λ (m : ℕ). sum m (λ r. sum 5 (λ i. share s b v (tupleAt isWhKind (pairsOf core) r i)))) pairs-rows
+      ∙ sum-same height (λ r. sum 5 (λ i. share s b v (tupleAt isWhKind (pairsOf core) r i))) (λ k. sum 5 (λ j. share s b v (isWhTuple (pairAtPlace k) j)))
       (λ k l. ap (λ (y : List ℕ). sum 5 (λ j. share s b v (isWhTuple y j))) (pairs-row k l))
       ∙ sum-flat (rows coreLayout core) 25 (λ r i. sum 5 (λ j. share s b v (isWhTuple (pairOf (row coreLayout core r) i) j)))
 
   pub pairs-received : Elements core → (nr : ℕ) (v : List ℕ)
-      → shares Receiver IsWh v (rows pairLayout (pairsOf core)) 5 (pairAt (pairsOf core)) ≡ tableShare Sender IsWh v (coreKind nr) core
+      → tableShare Receiver IsWh v isWhKind (pairsOf core) ≡ tableShare Sender IsWh v (coreKind nr) core
   unfolding shares tupleAt
   pairs-received below nr v =
       pairs-shares Receiver IsWh v
@@ -135,9 +135,9 @@ module _ (core : List ℕ) where
       ∙ sym (core-sends nr v (row coreLayout core r)))
 
   -- whole rows of words below p
-  pub pairs-whole : Whole pairLayout (pairsOf core)
+  pub pairs-whole : Whole isWhLayout (pairsOf core)
   unfolding pairsOf
-  pairs-whole = table-whole pairLayout (omega arith) height pairAtPlace
+  pairs-whole = table-whole isWhLayout (omega arith) height pairAtPlace
 
   pair-below : (x : List ℕ) (i : ℕ) → i < 25 → ((k : ℕ) → k < 486 → word x k < p) → (m : ℕ) → word (pairOf x i) m < p
   unfolding pairOf
@@ -154,24 +154,11 @@ module _ (core : List ℕ) where
       subst (λ (n : ℕ). n < p) (sym (getD-tab (height * 4) (cellsOf 4 pairAtPlace) k 0 g))
       (pair-below (row coreLayout core (k / 4 / 25)) (k / 4 % 25) (omega arith) (λ m c. row-below (coreKind nr) core below (k / 4 / 25) m (omega arith) c) (k % 4))
 
-  -- ---- what it sends: each tuple at most once, and found
+  -- ---- what it sends is found
   module _ (bits : (r : ℕ) → r < rows coreLayout core → word (row coreLayout core r) 485 < 2) where
     mu-at : (x : List ℕ) (i : ℕ) → word (pairOf x i) 3 ≡ word x 485
     unfolding pairOf
     mu-at x i = refl
-
-    pub pairs-few : (s : Side) (b : Bus) (v : List ℕ) → shares s b v (rows pairLayout (pairsOf core)) 5 (pairAt (pairsOf core)) ≤ rows coreLayout core * 25 * 5
-    unfolding pairAt
-    pairs-few s b v =
-        let a = shares-le s b v (rows pairLayout (pairsOf core)) 5 (pairAt (pairsOf core)) 1 few in
-        omega (arith, a, pairs-rows)
-      where
-        few : (k i : ℕ) → k < rows pairLayout (pairsOf core) → i < 5 → share s b v (isWhTuple (row pairLayout (pairsOf core) k) i) ≤ 1
-        few k i l g =
-            let q : k < height = subst (λ (n : ℕ). k < n) pairs-rows l in
-            let y = row pairLayout (pairsOf core) k in
-            let m : word y 3 ≡ word (row coreLayout core (k / 25)) 485 = ap (λ (z : List ℕ). word z 3) (pairs-row k q) ∙ mu-at (row coreLayout core (k / 25)) (k % 25) in
-            ⊎-elim (λ e. omega (arith, share-le s b v (isWhTuple y i), e)) (λ e. omega (arith, share-le s b v (isWhTuple y i), e, m, bits (k / 25) (omega arith))) (pair-few y i)
 
     -- the two limbs of an active row's pointer that make a pair
     limbs : (nr : ℕ) → Lookups (coreKind nr) core → (r i : ℕ) → r < rows coreLayout core → i < 25 → 1 ≤ word (row coreLayout core r) 485
@@ -200,10 +187,10 @@ module _ (core : List ℕ) where
       pub values : v ≡ number ∷ []
       pub range : ((b ≡ IsB20) × (number < 2 ^ 20)) ⊎ ((b ≡ IsHalfword) × (number < 2 ^ 16))
 
-    pub pairs-found : (nr : ℕ) → Lookups (coreKind nr) core → (b : Bus) (v : List ℕ) → 1 ≤ shares Sender b v (rows pairLayout (pairsOf core)) 5 (pairAt (pairsOf core)) → PairSent b v
-    unfolding pairAt
+    pub pairs-found : (nr : ℕ) → Lookups (coreKind nr) core → (b : Bus) (v : List ℕ) → 1 ≤ tableShare Sender b v isWhKind (pairsOf core) → PairSent b v
+    unfolding tupleAt
     pairs-found nr ok b v some =
-        let f = shares-find Sender b v (rows pairLayout (pairsOf core)) 5 (pairAt (pairsOf core)) some in
+        let f = shares-find Sender b v (rows isWhLayout (pairsOf core)) 5 (tupleAt isWhKind (pairsOf core)) some in
         let q : f .0 < height = subst (λ (n : ℕ). f .0 < n) pairs-rows (f .2) in
         go (f .0) q (f .1) (f .3) (subst (λ (y : List ℕ). On Sender b v (isWhTuple y (f .1))) (pairs-row (f .0) q) (f .4))
       where

@@ -3,10 +3,11 @@
 --                               its own and balances the Keccak bus
 --     sums-verdict, sums-computed   so with timestamps that differ the verdict holds, and every active core row is
 --                               computed, at its addresses
---     sums-supposed             with short timestamps and few active rows all that demand 3 claims is claimed
+--     sums-claims               with short timestamps and few active rows all that demand 3 claims is so
 --     sums-exactly              there are fillings for which the sums agree exactly where both tables pass and balance
---     holds-sums, witness-sums  so there are where the verdict holds, as it does for the written tables of an operation
+--     sums-holds                so exactly where the verdict holds, if timestamps differ
 --     sums-demand               and there are a round table and fillings exactly where every active core row is computed
+--     witness-sums              the tables that are written for one operation have fillings
 use mathlib.Core.Path.{_≡_, refl, sym, subst}
 use mathlib.Core.Logic.{_↔_}
 use mathlib.Core.List.{List}
@@ -22,17 +23,18 @@ use Rattle.keccak.proofs.Height.{height-le}
 use Rattle.keccak_rnd.specs.Row.{roundTable, roundHeight, roundRowAt}
 use Rattle.verdict.specs.Kind.{rows, Passes, Lookups, actives, DistinctTimestamps}
 use Rattle.verdict.specs.CoreAndRound.{coreLayout, roundLayout, coreKind, verdictAt}
-use Rattle.verdict.specs.Claims.{EachActive, ShortTimestamp, Addressed, Computed, Answers, SupposedAt, operations, ourRounds}
+use Rattle.verdict.specs.Claims.{EachActive, ShortTimestamp, Addressed, Computed, Answers, ClaimsAt, operations, ourRounds}
 use Rattle.verdict.specs.declared.Verdict.the-variants.{Holds}
 use Rattle.verdict.specs.Honest.{witness, witnessCore, witnessRound}
 use Rattle.verdict.proofs.Failures.{verdict-says}
 use Rattle.verdict.proofs.Honest.{witness-holds}
 use Rattle.verdict.proofs.Tables.{table-rows}
 use Rattle.verdict.proofs.Demand3.{holds-computed, demand3-at}
-use Rattle.bus_sums.specs.Sums.{Fillings, Constrained, SumsHold, InField, nobody, MANY-ROWS}
+use Rattle.bus_sums.specs.Sums.{Fillings, Constrained, SumsHold, Filled, nobody, MANY-ROWS}
 use Rattle.bus_sums.proofs.Sound.{core-lookups, round-lookups, balanced}
-use Rattle.bus_sums.proofs.Complete.{fillings, complete, in-field}
+use Rattle.bus_sums.proofs.Complete.{complete}
 
+-- ---- soundness
 module _ (nr : ℕ) (core round : List ℕ) (w : Fillings) (others : Bus → List ℕ → ℕ) (h : SumsHold nr core round w others) where
   -- the core table passes its lookups too, and the round table is one that answers it: it passes, and the bus balances
   pub sums-core : Passes (coreKind nr) core
@@ -53,32 +55,37 @@ module _ (nr : ℕ) (core round : List ℕ) (w : Fillings) (others : Bus → Lis
     pub sums-verdict : verdictAt nr core round ≡ Holds (actives coreLayout core)
     sums-verdict = verdict-says nr core round (Holds (actives coreLayout core)) .1 (sums-core, apart, sums-answer .passes, sums-answer .balanced, refl)
 
-    pub sums-computed : 1 ≤ nr → nr ≤ 24 → EachActive (λ x. Computed nr x × Addressed x) core
-    sums-computed some most = holds-computed nr some most core round (actives coreLayout core) sums-verdict
+    module _ (some : 1 ≤ nr) (most : nr ≤ 24) where
+      pub sums-computed : EachActive (λ x. Computed nr x × Addressed x) core
+      sums-computed = holds-computed nr some most core round (actives coreLayout core) sums-verdict
 
-    -- what demand 3 supposes, so that it claims all it claims
-    pub sums-supposed : actives coreLayout core ≤ MAX-OPS → EachActive ShortTimestamp core → SupposedAt nr core
-    sums-supposed few stamps = record { passes = sums-core; few = few; apart = apart; stamps = stamps }
+      -- all that demand 3 claims, for any floor of the round table's height
+      pub sums-claims : actives coreLayout core ≤ MAX-OPS → EachActive ShortTimestamp core → (floor : ℕ) → ClaimsAt nr floor core
+      sums-claims few stamps floor = demand3-at nr floor some most core (record { passes = sums-core; few = few; apart = apart; stamps = stamps })
 
 -- ---- exactly
 module _ (nr : ℕ) (core round : List ℕ) (few-core : rows coreLayout core ≤ MANY-ROWS) (few-round : rows roundLayout round ≤ MANY-ROWS) where
-  pub sums-exactly : ((w : Fillings) × InField w × SumsHold nr core round w nobody) ↔ (Passes (coreKind nr) core × Answers nr core round)
+  pub sums-exactly : Filled nr core round ↔ (Passes (coreKind nr) core × Answers nr core round)
   sums-exactly = (
     (λ (w, f, h). (sums-core nr core round w nobody h, sums-answer nr core round w nobody h)),
-    (λ (c, a). (fillings nr core round c a few-core few-round, in-field nr core round c a few-core few-round, complete nr core round c a few-core few-round)),
+    (λ (c, a). complete nr core round c a few-core few-round),
   )
 
-  -- so where the verdict holds
-  pub holds-sums : (n : ℕ) → verdictAt nr core round ≡ Holds n → (w : Fillings) × InField w × SumsHold nr core round w nobody
-  holds-sums n e = let g = verdict-says nr core round (Holds n) .0 e in sums-exactly .1 (g .0, record { passes = g .2; balanced = g .3 })
+  -- the verdict holds where there are fillings and the timestamps differ; whatever number it holds with
+  pub sums-holds : (Filled nr core round × DistinctTimestamps coreLayout core) ↔ (verdictAt nr core round ≡ Holds (actives coreLayout core))
+  sums-holds = (
+    (λ ((w, f, h), apart). sums-verdict nr core round w nobody h apart),
+    (λ e. let g = verdict-says nr core round (Holds (actives coreLayout core)) .0 e in (sums-exactly .1 (g .0, record { passes = g .2; balanced = g .3 }), g .1)),
+  )
 
 -- the tables that are written for one operation: what is supposed above can be met
-pub witness-sums : (w : Fillings) × InField w × SumsHold 24 witnessCore witnessRound w nobody
+pub witness-sums : Filled 24 witnessCore witnessRound
 unfolding coreTable roundTable
 witness-sums =
     let a = table-rows coreLayout (omega arith) (height 4 1) (coreRowAt 1 (λ i. witness)) in
     let b = table-rows roundLayout (omega arith) (roundHeight 24 4 1) (roundRowAt 24 1 (λ i. witness)) in
-    holds-sums 24 witnessCore witnessRound (omega (arith, a, height-le 4 1)) (omega (arith, b, height-le 4 (1 * 24))) 1 witness-holds
+    let g = verdict-says 24 witnessCore witnessRound (Holds 1) .0 witness-holds in
+    sums-exactly 24 witnessCore witnessRound (omega (arith, a, height-le 4 1)) (omega (arith, b, height-le 4 (1 * 24))) .1 (g .0, record { passes = g .2; balanced = g .3 })
 
 -- a core table that meets its constraints, with at most 89,478,485 active rows whose timestamps differ, both words of
 -- each below 2^32: nothing is supposed of its lookups
@@ -94,15 +101,11 @@ module _ (nr : ℕ) (some : 1 ≤ nr) (most : nr ≤ 24) (core : List ℕ) (cons
       let c : n * nr ≤ MAX-OPS * 24 = mul-le-mul (subst (λ (m : ℕ). m ≤ MAX-OPS) (sym e) few) most in
       omega (arith, a, b, c)
 
-  pub sums-demand :
-      ((round : List ℕ) × (w : Fillings) × InField w × SumsHold nr core round w nobody)
-      ↔ (Lookups (coreKind nr) core × EachActive (Computed nr) core)
+  pub sums-demand : ((round : List ℕ) × Filled nr core round) ↔ (Lookups (coreKind nr) core × EachActive (Computed nr) core)
   sums-demand = (
-    (λ (round, w, f, h). (sums-core nr core round w nobody h .lookups, λ r a. sums-computed nr core round w nobody h apart some most r a .0)),
+    (λ (round, (w, f, h)). (sums-core nr core round w nobody h .lookups, λ r a. sums-computed nr core round w nobody h apart some most r a .0)),
     (λ (ok, right).
         let c : Passes (coreKind nr) core = record { whole = constrained .whole; below = constrained .below; values = constrained .values; lookups = ok } in
         let d = demand3-at nr 4 some most core (record { passes = c; few = few; apart = apart; stamps = stamps }) in
-        let a = d .ours right in
-        let l = ours-few (d .operations-count) in
-        (ourRounds nr 4 core, fillings nr core (ourRounds nr 4 core) c a (constrained .few) l, in-field nr core (ourRounds nr 4 core) c a (constrained .few) l, complete nr core (ourRounds nr 4 core) c a (constrained .few) l)),
+        (ourRounds nr 4 core, complete nr core (ourRounds nr 4 core) c (d .ours right) (constrained .few) (ours-few (d .operations-count)))),
   )

@@ -1,13 +1,13 @@
 -- Laws of what tuples and tables add to the sums of a bus.
---     share-le, share-self     a tuple adds at most its multiplicity; for its own values, all of it
---     share-on                 a tuple that adds something is on that side of that bus, with those values
---     shares-find, shares-hit  a table that adds something has a tuple that does; and adds at least what a tuple does
---     shares-le, shares-zero   the most that a table adds; a table none of whose tuples adds anything
+--     share-le, share-is       a tuple adds at most what it has on that bus; for its own values, its multiplicity
+--     share-on, share-none     a tuple that adds something is on that side of that bus, with those values
+--     shares-find, shares-own  a table that adds something has a tuple that does; and adds at least what a tuple has
+--     shares-line, no-line     a table adds at most what its rows have on that bus; where they have nothing, nothing
 use mathlib.Core.Path.{_≡_, refl, sym, ap, ap₂, _∙_}
 use mathlib.Core.Bool.{Bool, true, false, _&&_}
 use mathlib.Core.List.{List}
 use Prim.Native.Nat.{ℕ, zero, suc, _+_, _*_, _/_, _%_, _≤_, _<_}
-use native.Mathlib.Nat.{eq-or-lt-of-le, le-of-suc-le-suc, suc-mul, zero-mul}
+use native.Mathlib.Nat.{eq-or-lt-of-le, le-of-suc-le-suc, suc-mul, zero-mul, mul-zero}
 use mathlib.Core.Logic.{inl, inr}
 use native.Mathlib.Omega.{arith}
 use lib.Arith.{digits-div, digits-mod}
@@ -15,11 +15,12 @@ use Rattle.lists.specs.Tab.{pick}
 use Rattle.lists.specs.Sum.{sum}
 use Rattle.lists.specs.Select.{wordsTest}
 use Rattle.lists.proofs.Count.{sum-find}
-use Rattle.lists.proofs.Sum.{sum-add, sum-same}
+use Rattle.lists.proofs.Sum.{sum-add, sum-same, sum-const}
 use Rattle.lists.proofs.Select.{words-sound, words-same}
 use Rattle.lists.proofs.Tests.{T-of, and-true, true-not-false}
 use Rattle.lists.proofs.Then.{T-true}
-use Rattle.lookup.specs.Tuple.{Tuple, onBus, sameSide, sameBus}
+use Rattle.field.specs.Field.{p}
+use Rattle.lookup.specs.Tuple.{Tuple, onBus, busSum, sameSide, sameBus}
 use Rattle.lookup.specs.declared.Bus.{Bus}
 use Rattle.lookup.specs.declared.Side.{Side}
 use Rattle.lookup.specs.declared.Side.the-variants.{Sender, Receiver}
@@ -35,13 +36,13 @@ sum-hit (suc n) f k l = elim (eq-or-lt-of-le (le-of-suc-le-suc l)) [
   | inr g ↦ omega (arith, sum-hit n f k g)
 ]
 
-pub sum-le : (n c : ℕ) (f : ℕ → ℕ) → ((k : ℕ) → k < n → f k ≤ c) → sum n f ≤ n * c
+pub sum-le : (n : ℕ) (f g : ℕ → ℕ) → ((k : ℕ) → k < n → f k ≤ g k) → sum n f ≤ sum n g
 unfolding sum
-sum-le zero c f h = omega arith
-sum-le (suc n) c f h = let s = sum-le n c f (λ k l. h k (omega arith)) in omega (arith, s, h n (omega arith), suc-mul n c)
+sum-le zero f g h = omega arith
+sum-le (suc n) f g h = omega (arith, sum-le n f g (λ k l. h k (omega arith)), h n (omega arith))
 
 pub sum-zero : (n : ℕ) (f : ℕ → ℕ) → ((k : ℕ) → k < n → f k ≡ 0) → sum n f ≡ 0
-sum-zero n f h = let a = sum-le n 0 f (λ k l. omega (arith, h k l)) in omega (arith, a)
+sum-zero n f h = sum-same n f (λ k. 0) h ∙ sum-const n 0 ∙ mul-zero n
 
 -- where f is 0 but at one index
 pub sum-place : (n k : ℕ) (f : ℕ → ℕ) → k < n → ((j : ℕ) → j < n → (j ≡ k → ⊥) → f j ≡ 0) → sum n f ≡ f k
@@ -61,8 +62,13 @@ sum-flat (suc n) m f =
     ∙ sum-add (n * m) m (λ k. f (k / m) (k % m))
     ∙ ap₂ _+_ (sum-flat n m f) (sum-same m (λ k. f ((n * m + k) / m) ((n * m + k) % m)) (f n) (λ k l. ap₂ f (digits-div n l) (digits-mod n l)))
 
+-- a number that is not 0 mod p is not 0
+pub not-zero : (n : ℕ) → 1 ≤ n % p → 1 ≤ n
+not-zero zero l = absurd (omega arith)
+not-zero (suc n) l = omega arith
+
 -- ---- a tuple
-pick-le : (t : Bool) (m : ℕ) → pick t m 0 ≤ m
+pub pick-le : (t : Bool) (m : ℕ) → pick t m 0 ≤ m
 pick-le true m = omega arith
 pick-le false m = omega arith
 
@@ -87,9 +93,12 @@ pub record On (s : Side) (b : Bus) (v : List ℕ) (t : Tuple) : Type 0 where
   pub some : 1 ≤ t .multiplicity
 
 module _ (s : Side) (b : Bus) (v : List ℕ) where
-  pub share-le : (t : Tuple) → share s b v t ≤ t .multiplicity
+  pub share-le : (t : Tuple) → share s b v t ≤ onBus s b t
   unfolding share
-  share-le t = omega (arith, pick-le (wordsTest v (t .values)) (onBus s b t), pick-le (sameSide s (t .side) && sameBus b (t .bus)) (t .multiplicity))
+  share-le t = pick-le (wordsTest v (t .values)) (onBus s b t)
+
+  pub share-most : (t : Tuple) → share s b v t ≤ t .multiplicity
+  share-most t = let a = share-le t in omega (arith, a, pick-le (sameSide s (t .side) && sameBus b (t .bus)) (t .multiplicity))
 
   pub share-on : (t : Tuple) → 1 ≤ share s b v t → On s b v t
   unfolding share
@@ -147,9 +156,16 @@ module _ (s : Side) (b : Bus) (v : List ℕ) (n m : ℕ) (t : ℕ → ℕ → Tu
       ∙ ap (λ (x : List ℕ). share (t r i .side) (t r i .bus) x (t r i)) (sym ev) ∙ share-self (t r i) in
       omega (arith, shares-hit r i hr hi, c)
 
-  pub shares-le : (c : ℕ) → ((r i : ℕ) → r < n → i < m → share s b v (t r i) ≤ c) → shares s b v n m t ≤ n * (m * c)
-  unfolding shares
-  shares-le c h = sum-le n (m * c) (λ r. sum m (λ i. share s b v (t r i))) (λ r hr. sum-le m c (λ i. share s b v (t r i)) (λ i hi. h r i hr hi))
+  -- by what the tuples of each row have on that side of that bus
+  pub shares-line : (c : ℕ) → ((r : ℕ) → r < n → busSum s b m (t r) ≤ c) → shares s b v n m t ≤ n * c
+  unfolding shares busSum
+  shares-line c h =
+      let rows : (r : ℕ) → r < n → sum m (λ i. share s b v (t r i)) ≤ c =
+      λ r l. omega (arith, sum-le m (λ i. share s b v (t r i)) (λ i. onBus s b (t r i)) (λ i g. share-le s b v (t r i)), h r l) in
+      omega (arith, sum-le n (λ r. sum m (λ i. share s b v (t r i))) (λ r. c) rows, sum-const n c)
+
+  pub no-line : ((r : ℕ) → r < n → busSum s b m (t r) ≡ 0) → shares s b v n m t ≡ 0
+  no-line h = let a = shares-line 0 (λ r l. omega (arith, h r l)) in omega (arith, a)
 
   pub shares-zero : ((r i : ℕ) → r < n → i < m → On s b v (t r i) → ⊥) → shares s b v n m t ≡ 0
   shares-zero h = go (shares s b v n m t) refl

@@ -6,8 +6,9 @@
 --     Agree             the sums of a bus agree for given values
 --     SumsHold          what is supposed: constraints, sums, and few rows
 --     InField           what is written there is words below p
--- proofs/Receipt.antt: then both tables pass their lookups and the Keccak bus balances; and where they do, there are such
--- fillings. proofs/Forged.antt: why the bus IsB20 is among those whose sums must agree.
+-- Who sends and receives on which bus: Buses.antt. What follows: proofs/Receipt.antt (both tables pass their lookups
+-- and the Keccak bus balances; and where they do, there are such fillings). Why each condition is there:
+-- proofs/Forged.antt (IsB20), proofs/Cancel.antt (MU a bit; fewer than p rows).
 use mathlib.Core.Path.{_≡_}
 use mathlib.Core.List.{List, [], _∷_, _++_}
 use Prim.Native.Nat.{ℕ, _+_, _%_, _^_, _≤_, _<_}
@@ -41,35 +42,41 @@ share s b v t = pick (wordsTest v (t .values)) (onBus s b t) 0
 unfoldable pub shares : Side → Bus → List ℕ → ℕ → ℕ → (ℕ → ℕ → Tuple) → ℕ
 shares s b v n m t = sum n (λ r. sum m (λ i. share s b v (t r i)))
 
+-- tuple i of row r of a table of some kind, and what the table adds
+unfoldable pub tupleAt : Kind → List ℕ → ℕ → ℕ → Tuple
+tupleAt K ws r i = K .tuple (row (K .layout) ws r) i
+
+abbrev pub tableShare : Side → Bus → List ℕ → Kind → List ℕ → ℕ
+tableShare s b v K ws = shares s b v (rows (K .layout) ws) (K .tuples) (tupleAt K ws)
+
 -- ---- the tables that are looked up
 -- What a prover writes there: the ten multiplicities of each bitwise row, that of each row of constants, and the whole
--- IS_WH table. Nothing is asked of them.
+-- IS_WH table. Nothing is asked of them. (The other columns of the first two are fixed beforehand.)
 pub record Fillings : Type 0 where
   pub bitwise : ℕ → ℕ → ℕ
   pub constants : ℕ → ℕ
-  pub pairs : List ℕ
+  pub is-wh : List ℕ
 
--- tuple j of bitwise row i, which has 11 fixed columns and these multiplicities; and of row r of the constants
+-- tuple j of bitwise row i, which has 11 fixed columns and these multiplicities, and what the table adds
 unfoldable pub bitwiseAt : (ℕ → ℕ → ℕ) → ℕ → ℕ → Tuple
 bitwiseAt mu i j = bitwiseTuple (bitwiseRow i ++ tab NUM-LOOKUP-TYPES (mu i)) j
 
+abbrev pub bitwiseShare : Side → Bus → List ℕ → (ℕ → ℕ → ℕ) → ℕ
+bitwiseShare s b v mu = shares s b v NUM-ROWS NUM-LOOKUP-TYPES (bitwiseAt mu)
+
+-- the tuple of row r of the constants, which has 9 fixed columns and this multiplicity, and what the table adds
 unfoldable pub constantAt : (ℕ → ℕ) → ℕ → ℕ → Tuple
 constantAt mu r j = rcTuple (rcRow r ++ (mu r ∷ [])) j
 
--- a row of the IS_WH table is four words
-abbrev pub pairLayout : Layout
-pairLayout = record { width = NUM-COLUMNS; mu = MU }
+abbrev pub constantsShare : Side → Bus → List ℕ → (ℕ → ℕ) → ℕ
+constantsShare s b v mu = shares s b v RC-ROWS RC-TUPLES (constantAt mu)
 
--- tuple j of row r of an IS_WH table, and of a table of some kind
-unfoldable pub pairAt : List ℕ → ℕ → ℕ → Tuple
-pairAt ws r j = isWhTuple (row pairLayout ws r) j
+-- the IS_WH table: rows of four words, none of whose values has to be 0
+abbrev pub isWhLayout : Layout
+isWhLayout = record { width = NUM-COLUMNS; mu = MU }
 
-unfoldable pub tupleAt : Kind → List ℕ → ℕ → ℕ → Tuple
-tupleAt K ws r j = K .tuple (row (K .layout) ws r) j
-
--- what a table of some kind adds
-abbrev pub tableShare : Side → Bus → List ℕ → Kind → List ℕ → ℕ
-tableShare s b v K ws = shares s b v (rows (K .layout) ws) (K .tuples) (tupleAt K ws)
+abbrev pub isWhKind : Kind
+isWhKind = record { layout = isWhLayout; values = 0; value = λ x i. 0; tuples = IS-WH-TUPLES; tuple = isWhTuple }
 
 -- ---- all tables
 -- the sum of one side of a bus over the five tables
@@ -77,12 +84,12 @@ unfoldable pub busTotal : ℕ → List ℕ → List ℕ → Fillings → Side �
 busTotal nr core round w s b v =
     tableShare s b v (coreKind nr) core
     + tableShare s b v roundKind round
-    + shares s b v (rows pairLayout (w .pairs)) IS-WH-TUPLES (pairAt (w .pairs))
-    + shares s b v NUM-ROWS NUM-LOOKUP-TYPES (bitwiseAt (w .bitwise))
-    + shares s b v RC-ROWS RC-TUPLES (constantAt (w .constants))
+    + tableShare s b v isWhKind (w .is-wh)
+    + bitwiseShare s b v (w .bitwise)
+    + constantsShare s b v (w .constants)
 
 -- v is sent as often as received on b, mod p. Other tables of a prover may send too: `others b v` is how often they send
--- v on b, as a whole number.
+-- v on b, their multiplicities, words below p, added up as whole numbers.
 abbrev pub Agree : ℕ → List ℕ → List ℕ → Fillings → (Bus → List ℕ → ℕ) → Bus → List ℕ → Type 0
 Agree nr core round w others b v =
     (busTotal nr core round w Sender b v + others b v) % p ≡ busTotal nr core round w Receiver b v % p
@@ -105,8 +112,9 @@ Ours Zero = ⊥
 Ours Hwsl = ⊥
 
 -- ---- what is supposed
--- most rows of a core table or a round table, most rows of an IS_WH table (a core row needs at most 25 of them), and
--- most sends of other tables for one list of values
+-- Most rows of a core table or a round table, most rows of an IS_WH table, and most sends of other tables for one list
+-- of values. (The field has "FFT up to 2^32 rows", so these are eight full tables of a kind, and 256; a core row needs at
+-- most 25 rows of the IS_WH table.)
 abbrev pub MANY-ROWS : ℕ
 MANY-ROWS = 2 ^ 35
 
@@ -126,7 +134,7 @@ pub record Constrained (K : Kind) (ws : List ℕ) : Type 0 where
 pub record SumsHold (nr : ℕ) (core round : List ℕ) (w : Fillings) (others : Bus → List ℕ → ℕ) : Type 0 where
   pub core-constrained : Constrained (coreKind nr) core
   pub round-constrained : Constrained roundKind round
-  pub few-pairs : rows pairLayout (w .pairs) ≤ MANY-PAIRS
+  pub few-pairs : rows isWhLayout (w .is-wh) ≤ MANY-PAIRS
   pub few-others : (b : Bus) (v : List ℕ) → others b v ≤ MANY-SENDS
   -- the Keccak bus is between these two tables alone
   pub no-others : (v : List ℕ) → others Keccak v ≡ 0
@@ -137,9 +145,13 @@ pub record SumsHold (nr : ℕ) (core round : List ℕ) (w : Fillings) (others : 
 pub record InField (w : Fillings) : Type 0 where
   pub bitwise-below : (i j : ℕ) → w .bitwise i j < p
   pub constants-below : (r : ℕ) → w .constants r < p
-  pub pairs-whole : Whole pairLayout (w .pairs)
-  pub pairs-below : Elements (w .pairs)
+  pub is-wh-whole : Whole isWhLayout (w .is-wh)
+  pub is-wh-below : Elements (w .is-wh)
 
 -- no other table sends
 abbrev pub nobody : Bus → List ℕ → ℕ
 nobody b v = 0
+
+-- what `Filled` says of two tables: there are such words to write, for which the sums agree
+abbrev pub Filled : ℕ → List ℕ → List ℕ → Type 0
+Filled nr core round = (w : Fillings) × InField w × SumsHold nr core round w nobody

@@ -62,7 +62,7 @@ use Rattle.verdict.proofs.Honest.{witness-supposed, witness-holds}
 use Rattle.verdict.proofs.Late.{late-row}
 use Rattle.lookup.specs.declared.Bus.{Bus}
 use Rattle.templates.specs.Templates.{isBit}
-use Rattle.bus_sums.specs.Sums.{Fillings, SumsHold, InField, nobody, MANY-ROWS}
+use Rattle.bus_sums.specs.Sums.{Fillings, SumsHold, Filled, MANY-ROWS}
 use Rattle.bus_sums.proofs.Bit.{bit-is}
 use Rattle.bus_sums.proofs.Receipt.{sums-core, sums-answer, sums-computed, sums-exactly}
 use Rattle.op_file.specs.File.{isWhole, addressOf, faultOf, sumsOf, tallyOf}
@@ -274,7 +274,7 @@ module _ (core round : List ℕ) (w : Fillings) (others : Bus → List ℕ → �
 
 -- and for tables that pass and balance there are words to write there with which they agree
 pub sums-made : (core round : List ℕ) → rows coreLayout core ≤ MANY-ROWS → rows roundLayout round ≤ MANY-ROWS →
-    ((w : Fillings) × InField w × SumsHold 24 core round w nobody) ↔ (Passes (coreKind 24) core × Answers 24 core round)
+    Filled 24 core round ↔ (Passes (coreKind 24) core × Answers 24 core round)
 sums-made = sums-exactly 24
 
 -- MU is a bit where its value (51 of a core row, 140 of a round row) is 0, though p is nowhere known to be prime
