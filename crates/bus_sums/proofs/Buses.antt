@@ -1,6 +1,6 @@
 -- The lines of specs/Buses.antt are what the tuples of a row have on a side of a bus, and which tables they leave in a sum.
 --     core-line .. constant-line       a line is the sum over the tuples of a row
---     core-most, round-most, is-wh-most   and its most, by MU
+--     core-most, round-most, is-wh-most   and its most, by MU; bitwise-none, constant-none   nothing where nothing is looked up
 --     no-core, no-round, no-is-wh, no-bitwise, no-constants   a table whose line is 0 adds nothing
 use mathlib.Core.Path.{_≡_, refl, ap, _∙_}
 use mathlib.Core.Bool.{_&&_}
@@ -12,7 +12,7 @@ use Rattle.lists.specs.Sum.{sum}
 use Rattle.lists.proofs.Sum.{sum-part, sum-const}
 use Rattle.lookup.specs.Tuple.{Tuple, onBus, busSum, sameSide, sameBus}
 use Rattle.lookup.specs.declared.Bus.{Bus}
-use Rattle.lookup.specs.declared.Bus.the-variants.{ByteAlu, AreBytes, IsHalfword, IsWh, KeccakRc, Keccak, Memw, Ecall, IsB20}
+use Rattle.lookup.specs.declared.Bus.the-variants.{ByteAlu, AreBytes, IsHalfword, IsWh, KeccakRc, Keccak, Memw, Ecall, Msb8, Msb16, Zero, IsB20, Hwsl}
 use Rattle.lookup.specs.declared.Side.{Side}
 use Rattle.lookup.specs.declared.Side.the-variants.{Sender, Receiver}
 use Rattle.bitwise.specs.Row.{bitwiseRow, rowOfXYZ}
@@ -69,6 +69,12 @@ module _ (s : Side) (b : Bus) where
 
   pub is-wh-most : (m c : ℕ) → m ≤ c → isWhLine s b m ≤ 1 + 4 * c
   is-wh-most m c l = omega (arith, sends-le IsB20 1, sends-le IsHalfword m, receives-le IsWh m)
+
+  pub bitwise-none : bitwiseLine s b (λ k. 0) ≡ 0
+  bitwise-none = omega (arith, receives-le Msb8 0, receives-le Msb16 0, receives-le Zero 0, receives-le AreBytes 0, receives-le IsHalfword 0, receives-le IsB20 0, receives-le Hwsl 0, receives-le ByteAlu 0)
+
+  pub constant-none : constantLine s b 0 ≡ 0
+  constant-none = let a = receives-le KeccakRc 0 in omega (arith, a)
 
   -- ---- tables that add nothing
   module _ (v : List ℕ) where

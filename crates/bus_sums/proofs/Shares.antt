@@ -76,7 +76,7 @@ pick-true : (t : Bool) (m : ℕ) → 1 ≤ pick t m 0 → (t ≡ true) × (1 ≤
 pick-true true m h = (refl, h)
 pick-true false m h = absurd (omega arith)
 
-same-side : (a b : Side) → sameSide a b ≡ true → a ≡ b
+pub same-side : (a b : Side) → sameSide a b ≡ true → a ≡ b
 same-side Sender Sender e = refl
 same-side Receiver Receiver e = refl
 same-side Sender Receiver e = absurd (true-not-false (sym e))
