@@ -75,7 +75,7 @@ low-off v x i zero n = absurd (n refl)
 low-off v x i (suc j) n = off Sender IsWh v _ refl
 
 -- what a core row sends on that bus is what its pointers send
-core-sends : (nr : ℕ) (v x : List ℕ) → sum 84 (λ j. share Sender IsWh v (coreTuple nr 0 x j)) ≡ sum 25 (λ i. share Sender IsWh v (pointerTuple x i 0))
+pub core-sends : (nr : ℕ) (v x : List ℕ) → sum 84 (λ j. share Sender IsWh v (coreTuple nr 0 x j)) ≡ sum 25 (λ i. share Sender IsWh v (pointerTuple x i 0))
 unfolding coreTuple ecallTuple addrMemw laneMemw alignTuple addrBytesTuple
 core-sends nr v x =
     sum-part H 1 83 0 _ _ _ (λ i. off Sender IsWh v _ refl)
