@@ -1,8 +1,8 @@
 -- r (1 - r) = 0 mod p has no solution below p but 0 and 1. It is proved with no law of primes: were r another, then
 -- the numbers r x + (1 - r) y, for x and y among the 2^32 powers of a root of order 2^32, would be 2^64 different ones
 -- below p.
-use mathlib.Core.Path.{_≡_, refl, sym, ap, _∙_, subst}
 use mathlib.Core.Logic.{_⊎_, inl, inr, ⊎-elim}
+use mathlib.Core.Path.{_≡_, refl, sym, ap, _∙_, subst}
 use Prim.Native.Nat.{ℕ, zero, suc, _+_, _-_, _*_, _/_, _%_, _^_, _<_}
 use native.Mathlib.Decide.{ℕ-discrete}
 use native.Mathlib.Nat.{add-suc, add-zero, mul-comm, mul-assoc, one-mul, mul-one, mul-add, mod-mod, mod-eq-of-lt, div-add-mod', pow-suc, pow-zero, mul-mod-left, mul-add-mod-self-right}

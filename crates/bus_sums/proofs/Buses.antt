@@ -2,9 +2,9 @@
 --     core-line .. constant-line       a line is the sum over the tuples of a row
 --     core-most, round-most, is-wh-most   and its most, by MU; bitwise-none, constant-none   nothing where nothing is looked up
 --     no-core, no-round, no-is-wh, no-bitwise, no-constants   a table whose line is 0 adds nothing
-use mathlib.Core.Path.{_≡_, refl, ap, _∙_}
 use mathlib.Core.Bool.{_&&_}
-use mathlib.Core.List.{List, [], _∷_, _++_}
+use mathlib.Core.List.{List}
+use mathlib.Core.Path.{_≡_, refl, ap, _∙_}
 use Prim.Native.Nat.{ℕ, _+_, _*_, _≤_, _<_}
 use native.Mathlib.Omega.{arith}
 use Rattle.lists.specs.Tab.{word, tab, tabFrom}
@@ -15,20 +15,19 @@ use Rattle.lookup.specs.declared.Bus.{Bus}
 use Rattle.lookup.specs.declared.Bus.the-variants.{ByteAlu, AreBytes, IsHalfword, IsWh, KeccakRc, Keccak, Memw, Ecall, Msb8, Msb16, Zero, IsB20, Hwsl}
 use Rattle.lookup.specs.declared.Side.{Side}
 use Rattle.lookup.specs.declared.Side.the-variants.{Sender, Receiver}
+use Rattle.is_wh.specs.Tuples.{isWhTuple}
 use Rattle.bitwise.specs.Row.{bitwiseRow, rowOfXYZ}
 use Rattle.bitwise.specs.Tuples.{kindAt}
 use Rattle.keccak_rc.specs.Tuples.{rcTuple}
 use Rattle.keccak_rc.proofs.Found.{rc-tuple}
-use Rattle.is_wh.specs.Tuples.{isWhTuple}
 use Rattle.keccak.specs.Tuples.{coreTuple}
 use Rattle.keccak.proofs.Sums.{row-sum as core-sum}
 use Rattle.keccak_rnd.specs.Tuples.{roundTuple}
 use Rattle.keccak_rnd.proofs.Sums.{row-sum as round-sum}
-use Rattle.verdict.specs.Kind.{Kind, rows, row}
 use Rattle.verdict.specs.CoreAndRound.{coreKind, roundKind}
 use Rattle.bus_sums.specs.Buses.{sends, receives, coreLine, roundLine, isWhLine, bitwiseLine, constantLine}
-use Rattle.bus_sums.specs.Sums.{shares, tupleAt, tableShare, bitwiseAt, bitwiseShare, constantAt, constantsShare, isWhKind}
-use Rattle.bus_sums.proofs.Shares.{pick-le, shares-line, no-line}
+use Rattle.bus_sums.specs.Sums.{tupleAt, tableShare, bitwiseAt, bitwiseShare, constantAt, constantsShare, isWhKind}
+use Rattle.bus_sums.proofs.Shares.{pick-le, no-line}
 
 module _ (s : Side) (b : Bus) where
   -- ---- the lines

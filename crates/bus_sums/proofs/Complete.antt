@@ -1,8 +1,8 @@
 -- The other way: where both tables pass and the Keccak bus balances, the tables that are looked up can be filled so that
 -- the sums of every bus agree, with words below p.
-use mathlib.Core.Path.{_≡_, refl, sym, ap, subst}
-use mathlib.Core.Logic.{⊎-elim}
 use mathlib.Core.List.{List}
+use mathlib.Core.Logic.{⊎-elim}
+use mathlib.Core.Path.{_≡_, refl, sym, ap, subst}
 use Prim.Native.Nat.{ℕ, _%_, _≤_}
 use native.Mathlib.Omega.{arith}
 use Rattle.field.specs.Field.{p}

@@ -1,7 +1,7 @@
 -- What the constraints alone say of a core table and a round table: MU is 0 or 1, so each tuple adds 0 or 1 to a sum,
 -- and on the Keccak bus the sums are what the verdict counts.
-use mathlib.Core.Path.{_≡_, sym, subst, _∙_}
 use mathlib.Core.List.{List}
+use mathlib.Core.Path.{_≡_, sym, subst, _∙_}
 use Prim.Native.Nat.{ℕ, _+_, _*_, _^_, _≤_, _<_}
 use native.Mathlib.Nat.{div-mul-le-self, le-trans}
 use native.Mathlib.Omega.{arith}

@@ -4,9 +4,9 @@
 --     half-agree, twenty-agree                  and what the IS_WH table sends there
 --     is-wh-agree                               where the IS_WH table receives what the core table sends
 --     keccak-agree                              where the bus balances by counting
-use mathlib.Core.Path.{_≡_, refl, sym, ap, subst, _∙_}
-use mathlib.Core.Logic.{_⊎_, inl, inr, ⊎-elim}
 use mathlib.Core.List.{List}
+use mathlib.Core.Logic.{_⊎_, inl, inr, ⊎-elim}
+use mathlib.Core.Path.{_≡_, refl, sym, ap, subst, _∙_}
 use Prim.Native.Nat.{ℕ, _+_, _-_, _%_, _≤_, _<_}
 use native.Mathlib.Nat.{add-zero, mod-mod}
 use native.Mathlib.Omega.{arith}
@@ -19,9 +19,8 @@ use Rattle.lookup.specs.declared.Bus.the-variants.{ByteAlu, AreBytes, IsHalfwor
 use Rattle.lookup.specs.declared.Side.{Side}
 use Rattle.lookup.specs.declared.Side.the-variants.{Sender, Receiver}
 use Rattle.bitwise.specs.Found.{BitwiseFound}
-use Rattle.keccak_rc.specs.Found.{RcFound}
 use Rattle.matching.specs.Matching.{FoundOn}
-use Rattle.verdict.specs.Kind.{Kind, rows, MatchedAt, Lookups, Balanced, carried, Whole, Elements}
+use Rattle.verdict.specs.Kind.{Kind, rows, MatchedAt, Balanced, carried, Whole, Elements}
 use Rattle.verdict.specs.CoreAndRound.{coreKind, roundKind}
 use Rattle.bus_sums.specs.Buses.{isWhLine}
 use Rattle.bus_sums.specs.Sums.{Fillings, tupleAt, tableShare, isWhLayout, isWhKind, busTotal, Constrained, Agree, InField, nobody}

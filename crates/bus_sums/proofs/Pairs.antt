@@ -1,9 +1,9 @@
 -- An IS_WH table for a core table: a row for each pointer of each core row, with that row's MU. What it receives on the
 -- IsWh bus is what the core table sends there; and what it sends is found, where the core table passes.
-use mathlib.Core.Path.{_≡_, refl, sym, ap, ap₂, subst, _∙_}
 use mathlib.Core.Bool.{Bool, true, false, _&&_}
-use mathlib.Core.Logic.{_⊎_, inl, inr}
 use mathlib.Core.List.{List, [], _∷_}
+use mathlib.Core.Logic.{_⊎_, inl, inr}
+use mathlib.Core.Path.{_≡_, refl, sym, ap, ap₂, subst, _∙_}
 use Prim.Native.Nat.{ℕ, zero, suc, _+_, _-_, _*_, _/_, _%_, _^_, _≤_, _<_}
 use native.Mathlib.Nat.{mod-eq-of-lt}
 use native.Mathlib.Omega.{arith}
@@ -19,11 +19,11 @@ use Rattle.lookup.specs.declared.Bus.{Bus}
 use Rattle.lookup.specs.declared.Bus.the-variants.{IsHalfword, IsWh, IsB20}
 use Rattle.lookup.specs.declared.Side.{Side}
 use Rattle.lookup.specs.declared.Side.the-variants.{Sender, Receiver}
-use Rattle.matching.specs.Matching.{Matched}
-use Rattle.matching.proofs.Matching.{is-wh-of}
 use Rattle.is_wh.specs.Tuples.{isWhTuple}
 use Rattle.is_wh.proofs.Tuples.{mu-sent, half-sent, pair-received}
 use Rattle.is_wh.proofs.Received.{pairRow}
+use Rattle.matching.specs.Matching.{Matched}
+use Rattle.matching.proofs.Matching.{is-wh-of}
 use Rattle.keccak.specs.Columns.{state-ptr}
 use Rattle.keccak.specs.Tuples.{coreTuple, ecallTuple, addrMemw, laneMemw, pointerTuple, alignTuple, addrBytesTuple}
 use Rattle.keccak.proofs.Places.{tuple-at}

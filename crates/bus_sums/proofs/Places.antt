@@ -1,6 +1,6 @@
 -- Where values are charged in the bitwise table: the row with Z 0 that has them (on the bus of 20 bits, the only row).
-use mathlib.Core.Path.{_≡_, sym, ap, _∙_}
 use mathlib.Core.List.{List, [], _∷_, _++_}
+use mathlib.Core.Path.{_≡_, sym, ap, _∙_}
 use Prim.Native.Nat.{ℕ, zero, suc, _+_, _*_, _/_, _%_, _^_, _<_}
 use native.Mathlib.Omega.{arith}
 use Rattle.lists.specs.Tab.{word}

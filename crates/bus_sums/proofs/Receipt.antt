@@ -8,9 +8,9 @@
 --     sums-holds                so exactly where the verdict holds, if timestamps differ
 --     sums-demand               and there are a round table and fillings exactly where every active core row is computed
 --     witness-sums              the tables that are written for one operation have fillings
-use mathlib.Core.Path.{_≡_, refl, sym, subst}
-use mathlib.Core.Logic.{_↔_}
 use mathlib.Core.List.{List}
+use mathlib.Core.Logic.{_↔_}
+use mathlib.Core.Path.{_≡_, refl, sym, subst}
 use Prim.Native.Nat.{ℕ, _*_, _≤_}
 use native.Mathlib.Nat.{mul-le-mul}
 use native.Mathlib.Omega.{arith}

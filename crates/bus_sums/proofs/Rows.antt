@@ -2,8 +2,8 @@
 --     pair-receive         a row of the IS_WH table receives its pair alone
 --     bitwise-receive, constant-receive   what these tables receive is found in them
 --     found-twenty         what is found in the bitwise table on the bus IsB20 has 20 bits
-use mathlib.Core.Path.{_≡_, refl, sym, ap, ap₂, subst, _∙_}
 use mathlib.Core.List.{List, [], _∷_, _++_}
+use mathlib.Core.Path.{_≡_, refl, sym, ap, ap₂, subst, _∙_}
 use Prim.Native.Nat.{ℕ, zero, suc, _+_, _*_, _/_, _%_, _^_, _≤_, _<_}
 use native.Mathlib.Nat.{mod-eq-of-lt}
 use native.Mathlib.Omega.{arith}
@@ -13,8 +13,10 @@ use Rattle.lists.proofs.Then.{by-le}
 use Rattle.field.specs.Field.{fadd, fmul}
 use Rattle.lookup.specs.Tuple.{Tuple, busNumber, sideNumber}
 use Rattle.lookup.specs.declared.Bus.{Bus}
-use Rattle.lookup.specs.declared.Bus.the-variants.{KeccakRc, IsB20}
+use Rattle.lookup.specs.declared.Bus.the-variants.{IsB20}
 use Rattle.lookup.specs.declared.Side.the-variants.{Sender, Receiver}
+use Rattle.is_wh.specs.Tuples.{isWhTuple}
+use Rattle.is_wh.proofs.Tuples.{mu-sent, half-sent, pair-received}
 use Rattle.bitwise.specs.declared.BitwiseOperationType.{BitwiseOperationType}
 use Rattle.bitwise.specs.Row.{bitwiseRow, rowOfXYZ}
 use Rattle.bitwise.specs.Tuples.{kindAt, kindBus, kindValues}
@@ -23,8 +25,6 @@ use Rattle.bitwise.proofs.Numbers.{by-kind}
 use Rattle.keccak_rc.specs.Tuples.{rcTuple}
 use Rattle.keccak_rc.specs.Found.{RcFound}
 use Rattle.keccak_rc.proofs.Found.{rc-values}
-use Rattle.is_wh.specs.Tuples.{isWhTuple}
-use Rattle.is_wh.proofs.Tuples.{mu-sent, half-sent, pair-received}
 use Rattle.bus_sums.specs.Sums.{bitwiseAt, constantAt}
 use Rattle.bus_sums.proofs.Shares.{On}
 

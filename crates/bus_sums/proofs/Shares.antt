@@ -3,12 +3,12 @@
 --     share-on, share-none     a tuple that adds something is on that side of that bus, with those values
 --     shares-find, shares-own  a table that adds something has a tuple that does; and adds at least what a tuple has
 --     shares-line, no-line     a table adds at most what its rows have on that bus; where they have nothing, nothing
-use mathlib.Core.Path.{_≡_, refl, sym, ap, ap₂, _∙_}
 use mathlib.Core.Bool.{Bool, true, false, _&&_}
 use mathlib.Core.List.{List}
+use mathlib.Core.Logic.{inl, inr}
+use mathlib.Core.Path.{_≡_, refl, sym, ap, ap₂, _∙_}
 use Prim.Native.Nat.{ℕ, zero, suc, _+_, _*_, _/_, _%_, _≤_, _<_}
 use native.Mathlib.Nat.{eq-or-lt-of-le, le-of-suc-le-suc, suc-mul, zero-mul, mul-zero}
-use mathlib.Core.Logic.{inl, inr}
 use native.Mathlib.Omega.{arith}
 use lib.Arith.{digits-div, digits-mod}
 use Rattle.lists.specs.Tab.{pick}

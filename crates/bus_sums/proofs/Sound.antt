@@ -4,9 +4,9 @@
 --     halves       and where it is not 0, the row's three values are halfwords: so what it receives is a word and a half
 --     core-lookups, round-lookups   what a core row or a round row looks up is found
 --     balanced     each Keccak tuple is sent as often as received, as whole numbers
-use mathlib.Core.Path.{_≡_, refl, sym, ap, subst, _∙_}
 use mathlib.Core.List.{List, [], _∷_}
-use Prim.Native.Nat.{ℕ, zero, suc, _+_, _-_, _*_, _%_, _^_, _≤_, _<_}
+use mathlib.Core.Path.{_≡_, refl, sym, ap, subst, _∙_}
+use Prim.Native.Nat.{ℕ, zero, suc, _+_, _-_, _%_, _^_, _≤_, _<_}
 use native.Mathlib.Nat.{mod-eq-of-lt}
 use native.Mathlib.Omega.{arith}
 use Rattle.lists.specs.Tab.{word}
@@ -16,16 +16,16 @@ use Rattle.lookup.specs.declared.Bus.{Bus}
 use Rattle.lookup.specs.declared.Bus.the-variants.{ByteAlu, AreBytes, IsHalfword, IsWh, KeccakRc, Keccak, IsB20, Memw, Ecall, Msb8, Msb16, Zero, Hwsl}
 use Rattle.lookup.specs.declared.Side.{Side}
 use Rattle.lookup.specs.declared.Side.the-variants.{Sender, Receiver}
-use Rattle.bitwise.specs.Found.{BitwiseFound}
-use Rattle.keccak_rc.specs.Found.{RcFound}
 use Rattle.is_wh.specs.Found.{IsWhFound}
 use Rattle.is_wh.specs.Tuples.{isWhTuple}
 use Rattle.is_wh.proofs.Tuples.{mu-sent, half-sent}
 use Rattle.is_wh.proofs.Received.{received-found}
-use Rattle.matching.specs.Matching.{FoundOn, Matched}
+use Rattle.bitwise.specs.Found.{BitwiseFound}
+use Rattle.keccak_rc.specs.Found.{RcFound}
+use Rattle.matching.specs.Matching.{FoundOn}
 use Rattle.matching.proofs.Matching.{half-of}
 use Rattle.verdict.specs.Kind.{Kind, rows, row, Lookups, Balanced, carried}
-use Rattle.verdict.specs.CoreAndRound.{coreLayout, roundLayout, coreKind, roundKind}
+use Rattle.verdict.specs.CoreAndRound.{coreKind, roundKind}
 use Rattle.bus_sums.specs.Buses.{isWhLine}
 use Rattle.bus_sums.specs.Sums.{Fillings, tupleAt, tableShare, bitwiseAt, constantAt, isWhLayout, isWhKind, busTotal, Ours, SumsHold}
 use Rattle.bus_sums.proofs.Shares.{not-zero, shares-find, shares-own, shares-line}

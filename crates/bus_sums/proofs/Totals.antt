@@ -2,8 +2,8 @@
 --     sent-total         only the core table, the round table and the IS_WH table send
 --     bitwise-total, is-wh-total, constants-total   on a looked-up bus one table alone receives
 --     keccak-total       the Keccak bus is between the core table and the round table
-use mathlib.Core.Path.{_≡_, refl}
 use mathlib.Core.List.{List}
+use mathlib.Core.Path.{_≡_, refl}
 use Prim.Native.Nat.{ℕ, _+_}
 use native.Mathlib.Omega.{arith}
 use Rattle.lookup.specs.declared.Bus.{Bus}
@@ -11,7 +11,7 @@ use Rattle.lookup.specs.declared.Bus.the-variants.{ByteAlu, AreBytes, IsHalfwor
 use Rattle.lookup.specs.declared.Side.{Side}
 use Rattle.lookup.specs.declared.Side.the-variants.{Sender, Receiver}
 use Rattle.verdict.specs.CoreAndRound.{coreKind, roundKind}
-use Rattle.bus_sums.specs.Buses.{coreLine, roundLine, isWhLine, bitwiseLine, constantLine}
+use Rattle.bus_sums.specs.Buses.{coreLine, roundLine, isWhLine, constantLine}
 use Rattle.bus_sums.specs.Sums.{Fillings, tableShare, bitwiseShare, constantsShare, isWhKind, busTotal}
 use Rattle.bus_sums.proofs.Buses.{no-core, no-round, no-is-wh, no-bitwise, no-constants}
 

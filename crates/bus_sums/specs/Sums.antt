@@ -5,10 +5,10 @@
 --     Fillings          what a prover writes into the tables that are looked up
 --     Agree             the sums of a bus agree for given values
 --     SumsHold          what is supposed: constraints, sums, and few rows
---     InField           what is written there is words below p
+--     Filled            there are words to write there for which it holds
 -- Who sends and receives on which bus: Buses.antt. What follows: proofs/Receipt.antt (both tables pass their lookups
--- and the Keccak bus balances; and where they do, there are such fillings). Why each condition is there:
--- proofs/Forged.antt (IsB20), proofs/Cancel.antt (MU a bit; fewer than p rows).
+-- and the Keccak bus balances; and where they do, there are such fillings). Why IsB20, MU a bit and few rows are asked
+-- for: bus_sums_needs/proofs.
 use mathlib.Core.Path.{_≡_}
 use mathlib.Core.List.{List, [], _∷_, _++_}
 use Prim.Native.Nat.{ℕ, _+_, _%_, _^_, _≤_, _<_}
@@ -152,6 +152,6 @@ pub record InField (w : Fillings) : Type 0 where
 abbrev pub nobody : Bus → List ℕ → ℕ
 nobody b v = 0
 
--- what `Filled` says of two tables: there are such words to write, for which the sums agree
+-- there are words to write into the tables that are looked up, for which the sums of every bus agree
 abbrev pub Filled : ℕ → List ℕ → List ℕ → Type 0
 Filled nr core round = (w : Fillings) × InField w × SumsHold nr core round w nobody

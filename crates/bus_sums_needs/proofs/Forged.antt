@@ -2,9 +2,9 @@
 -- pair (p - 5, 0) once and no other pair, and all that they send on IsHalfword with a number of 2^16 or more cancels. So
 -- the sums of IsWh and IsHalfword alone let a pair pass that is no 32-bit word. A seventh row receives the pair (2^32 - 5, 0)
 -- 24 times; ForgedSegment.antt has the core row that sends these 25 pairs.
-use mathlib.Core.Path.{_≡_, refl, sym, ap, ap₂, _∙_}
 use mathlib.Core.Bool.{Bool, true, false}
 use mathlib.Core.List.{List, [], _∷_}
+use mathlib.Core.Path.{_≡_, refl, sym, ap, ap₂, _∙_}
 use Prim.Native.Nat.{ℕ, _+_, _-_, _%_, _^_, _≤_, _<_}
 use native.Mathlib.Omega.{arith}
 use Rattle.lists.specs.Tab.{word, pick, tab, tabFrom, rowAt}

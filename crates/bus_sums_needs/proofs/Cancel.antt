@@ -2,14 +2,14 @@
 -- their MUs add up to 0 mod p, whatever the rows hold. Here it is a row at address 1, which is no multiple of 8.
 --     mu-needed     two rows, their MUs 1 and p - 1: every value is 0 but the second row's 51, and nothing is sent that counts
 --     few-needed    p rows whose MU is 1: every value is 0
-use mathlib.Core.Path.{_≡_, refl, sym, ap, ap₂, subst, _∙_}
 use mathlib.Core.Bool.{Bool, true, false, _&&_}
 use mathlib.Core.List.{List, [], _∷_, _++_}
-use Prim.Native.Nat.{ℕ, zero, suc, _+_, _-_, _*_, _/_, _%_, _≤_, _<_}
-use native.Mathlib.Nat.{add-zero, mul-zero, mul-one, zero-mul, add-mul, mul-add, mul-mod-left}
+use mathlib.Core.Path.{_≡_, refl, sym, ap, subst, _∙_}
+use Prim.Native.Nat.{ℕ, zero, suc, _+_, _-_, _*_, _/_, _%_, _<_}
+use native.Mathlib.Nat.{add-zero, mul-zero, mul-one, zero-mul, add-mul, mul-add}
 use native.Mathlib.Omega.{arith}
 use lib.Dec.{T, eqb, ltb, eqb→eq}
-use lib.ListN.{length, getD, List·getD-append}
+use lib.ListN.{length, List·getD-append}
 use Rattle.lists.specs.Tab.{word, pick, tab, tabFrom, then, tableOf, cellsOf}
 use Rattle.lists.specs.Sum.{sum, all}
 use Rattle.lists.specs.Select.{wordsTest}
@@ -19,23 +19,23 @@ use Rattle.lists.proofs.Select.{words-sound}
 use Rattle.lists.proofs.Then.{then-all, by-le, T-true}
 use Rattle.field.specs.Field.{p}
 use Rattle.field.proofs.Field.{mul-c}
-use Rattle.lookup.specs.Tuple.{Tuple, onBus, sameSide, sameBus}
+use Rattle.lookup.specs.Tuple.{Tuple, sameSide, sameBus}
 use Rattle.lookup.specs.declared.Bus.{Bus}
 use Rattle.lookup.specs.declared.Side.{Side}
 use Rattle.lookup.specs.declared.Side.the-variants.{Sender, Receiver}
+use Rattle.lookup.proofs.Buses.{bus-decides}
 use Rattle.bits.specs.Bits.{pack}
+use Rattle.templates.specs.Templates.{emit-add-pair, carry0, add-pair-carry-hi, add-terms-expr}
 use Rattle.keccak.specs.Row.{coreAddress}
 use Rattle.keccak.specs.Values.{coreValue, pointerValue, topValue}
-use Rattle.templates.specs.Templates.{emit-add-pair, carry0, add-pair-carry-hi, add-terms-expr}
 use Rattle.keccak.specs.Tuples.{coreTuple, ecallTuple, addrMemw, laneMemw, pointerTuple, alignTuple, addrBytesTuple, coreSent, coreReceived, keccakValues}
 use Rattle.verdict.specs.Kind.{rows, row, Whole, Elements, ZeroAt, Values, Active}
 use Rattle.verdict.specs.CoreAndRound.{coreLayout, coreKind, roundKind}
 use Rattle.verdict.specs.Claims.{Addressed}
-use Rattle.lookup.proofs.Buses.{bus-decides}
 use Rattle.verdict.proofs.Tables.{table-rows, table-whole}
 use Rattle.bus_sums.specs.Sums.{share, shares, Fillings, tupleAt, tableShare, bitwiseAt, bitwiseShare, constantAt, constantsShare, isWhKind, busTotal, Agree, nobody}
 use Rattle.bus_sums.proofs.Shares.{same-side, no-line}
 use Rattle.bus_sums.proofs.Buses.{bitwise-line, constant-line, bitwise-none, constant-none}
 
 -- ---- the row: address 1, pointer i at 1 + 8i, zeros, and MU
 unfoldable pub cell : ℕ → ℕ

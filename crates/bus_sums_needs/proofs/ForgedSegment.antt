@@ -1,53 +1,48 @@
 -- A whole segment for the IS_WH table of Forged.antt: but for the bus IsB20 it is all that `SumsHold` asks, and its one active
 -- core row has lane 0 elsewhere than at its address. The core row is written for an address whose high word is 2^32 - 5; then
 -- the high limb of pointer 0 is set to p - 5, which is 2^32 - 5 less 2^32, so that the high carry is 1.
-use mathlib.Core.Path.{_≡_, refl, sym, ap, ap₂, subst, _∙_}
 use mathlib.Core.Bool.{Bool, true, false, _&&_}
-use mathlib.Core.List.{List, [], _∷_, _++_}
-use Prim.Native.Nat.{ℕ, zero, suc, _+_, _-_, _*_, _/_, _%_, _^_, _≤_, _<_}
+use mathlib.Core.List.{List, [], _∷_}
+use mathlib.Core.Path.{_≡_, refl, sym, ap, subst, _∙_}
+use Prim.Native.Nat.{ℕ, zero, suc, _+_, _-_, _*_, _%_, _^_, _≤_, _<_}
+use native.Mathlib.Decide.{ℕ-discrete}
 use native.Mathlib.Omega.{arith}
 use borrow.Author.Tests.{ne-eqb}
 use lib.Dec.{T, eqb, ltb, eqb→eq, ltb→lt}
-use lib.ListN.{length, length-set, getD, set}
-use Rattle.lists.specs.Tab.{word, pick, tab, tabFrom, then, rowOf, tableOf}
+use lib.ListN.{length, length-set, set}
+use lib.Seq.{getD-set-same, getD-set-other}
+use Rattle.lists.specs.Tab.{word, pick, tab, tabFrom, then, rowOf, tableOf, cellsOf}
 use Rattle.lists.specs.Sum.{sum, all}
 use Rattle.lists.specs.Select.{wordsTest}
-use Rattle.lists.proofs.Sum.{all-at}
-use Rattle.field.specs.Field.{p}
-use Rattle.bits.specs.Bits.{byteAt, laneByte, wordAt, limbAt, pack}
-use Rattle.fips202.specs.Lanes.{keccakPL}
-use Rattle.matching.specs.Matching.{foundOn, matched}
-use Rattle.bitwise.specs.Found.{aluFound, aluOp, areBytesFound, halfFound}
-use Rattle.is_wh.specs.Found.{isWhFound}
-use Rattle.templates.specs.Templates.{emit-add-pair, carry0, add-pair-carry-hi, add-terms-expr}
-use Rattle.keccak.specs.Row.{pointerLimb, coreGroups, coreRow}
-use Rattle.keccak.specs.Values.{coreValue, pointerValue, topValue}
-use Rattle.keccak.specs.Tuples.{coreTuple, ecallTuple, addrMemw, laneMemw, pointerTuple, alignTuple, addrBytesTuple, coreSent, coreReceived, keccakValues}
-use Rattle.keccak.specs.declared.KeccakOperation.{KeccakOperation}
-use Rattle.keccak.specs.Height.{height, next-power-of-two, doubled}
-use Rattle.keccak.specs.Row.{coreRowAt, coreTable, coreAddress, corePointer}
-use Rattle.keccak.proofs.Cells.{length-core, core-words}
-use Rattle.keccak.proofs.Height.{height-le}
-use Rattle.keccak_rnd.specs.Row.{roundTable, roundHeight, roundRowAt}
 use Rattle.lists.specs.First.{count}
-use Rattle.lists.specs.Tab.{cellsOf}
+use Rattle.lists.proofs.Sum.{all-at}
 use Rattle.lists.proofs.Laws.{getD-tab, length-tab, length-table, rowAt-table}
-use Rattle.lists.proofs.Then.{by-le, then-past}
-use Rattle.fips202.specs.Lanes.{Lanes}
+use Rattle.lists.proofs.Then.{by-le}
+use Rattle.field.specs.Field.{p}
 use Rattle.lookup.specs.Tuple.{Tuple, busNumber}
 use Rattle.lookup.specs.declared.Bus.{Bus}
 use Rattle.lookup.specs.declared.Bus.the-variants.{ByteAlu, AreBytes, IsHalfword, IsWh, KeccakRc, Keccak, IsB20, Memw, Ecall, Msb8, Msb16, Zero, Hwsl}
 use Rattle.lookup.specs.declared.Side.{Side}
 use Rattle.lookup.specs.declared.Side.the-variants.{Sender, Receiver}
-use Rattle.bitwise.specs.Found.{BitwiseFound}
-use Rattle.bitwise.proofs.Found.{half-occurs}
+use Rattle.bits.specs.Bits.{wordAt, limbAt, pack}
+use Rattle.fips202.specs.Lanes.{keccakPL}
+use Rattle.templates.specs.Templates.{emit-add-pair, carry0, add-pair-carry-hi, add-terms-expr}
+use Rattle.is_wh.specs.Found.{isWhFound}
 use Rattle.is_wh.specs.Tuples.{isWhTuple}
 use Rattle.is_wh.proofs.Tuples.{mu-sent, half-sent, pair-received}
-use Rattle.matching.specs.Matching.{FoundOn, Matched}
+use Rattle.bitwise.specs.Found.{aluFound, aluOp, areBytesFound, halfFound, BitwiseFound}
+use Rattle.bitwise.proofs.Found.{half-occurs}
+use Rattle.matching.specs.Matching.{foundOn, matched, FoundOn, Matched}
 use Rattle.matching.proofs.Matching.{matched-decides}
-use native.Mathlib.Decide.{ℕ-discrete}
-use lib.Seq.{getD-set-same, getD-set-other}
-use Rattle.verdict.specs.Kind.{Kind, rows, row, isActive, active, Active, Passes, Balanced, carried}
+use Rattle.keccak.specs.Row.{pointerLimb, coreGroups, coreRow, coreRowAt, coreTable, coreAddress, corePointer}
+use Rattle.keccak.specs.Values.{coreValue, pointerValue, topValue}
+use Rattle.keccak.specs.Tuples.{coreTuple, ecallTuple, addrMemw, laneMemw, pointerTuple, alignTuple, addrBytesTuple, coreSent, coreReceived, keccakValues}
+use Rattle.keccak.specs.declared.KeccakOperation.{KeccakOperation}
+use Rattle.keccak.specs.Height.{height, next-power-of-two, doubled}
+use Rattle.keccak.proofs.Cells.{length-core, core-words}
+use Rattle.keccak.proofs.Height.{height-le}
+use Rattle.keccak_rnd.specs.Row.{roundTable, roundHeight, roundRowAt}
+use Rattle.verdict.specs.Kind.{rows, row, isActive, active, Active, Passes, Balanced, carried}
 use Rattle.verdict.specs.CoreAndRound.{coreLayout, roundLayout, coreKind, roundKind, verdictAt}
 use Rattle.verdict.specs.Claims.{Addressed}
 use Rattle.verdict.specs.declared.Verdict.the-variants.{Holds}
@@ -56,12 +51,12 @@ use Rattle.verdict.proofs.Failures.{verdict-says}
 use Rattle.verdict.proofs.Honest.{written-holds}
 use Rattle.verdict.proofs.Tables.{table-rows, table-whole}
 use Rattle.verdict.proofs.Tuples.{place, carriesAt, carried-count, core-bus}
 use Rattle.bus_sums.specs.Sums.{share, shares, Fillings, tupleAt, tableShare, isWhLayout, isWhKind, Ours, Constrained, Agree, InField, nobody, MANY-PAIRS}
 use Rattle.bus_sums.proofs.Shares.{On, not-zero, shares-find}
 use Rattle.bus_sums.proofs.Rows.{sides-differ}
 use Rattle.bus_sums.proofs.Pairs.{core-sends}
 use Rattle.bus_sums.proofs.Filling.{filled, table-found, alu-agree, bytes-agree, constants-agree, half-agree, is-wh-agree, keccak-agree, in-field}
-use Rattle.bus_sums.proofs.Forged.{forged, forged-received, forged-sent}
+use Rattle.bus_sums_needs.proofs.Forged.{forged, forged-received, forged-sent}
 
 -- ---- the row
 abbrev operation : KeccakOperation
