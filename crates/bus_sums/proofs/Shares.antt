@@ -93,13 +93,6 @@ pub record On (s : Side) (b : Bus) (v : List ℕ) (t : Tuple) : Type 0 where
   pub some : 1 ≤ t .multiplicity
 
 module _ (s : Side) (b : Bus) (v : List ℕ) where
-  pub share-le : (t : Tuple) → share s b v t ≤ onBus s b t
-  unfolding share
-  share-le t = pick-le (wordsTest v (t .values)) (onBus s b t)
-
-  pub share-most : (t : Tuple) → share s b v t ≤ t .multiplicity
-  share-most t = let a = share-le t in omega (arith, a, pick-le (sameSide s (t .side) && sameBus b (t .bus)) (t .multiplicity))
-
   pub share-on : (t : Tuple) → 1 ≤ share s b v t → On s b v t
   unfolding share
   share-on t h =
@@ -112,6 +105,13 @@ module _ (s : Side) (b : Bus) (v : List ℕ) where
         values = words-sound v (t .values) (T-of _ (a .0));
         some = c .1;
       }
+
+  pub share-le : (t : Tuple) → share s b v t ≤ onBus s b t
+  unfolding share
+  share-le t = pick-le (wordsTest v (t .values)) (onBus s b t)
+
+  pub share-most : (t : Tuple) → share s b v t ≤ t .multiplicity
+  share-most t = let a = share-le t in omega (arith, a, pick-le (sameSide s (t .side) && sameBus b (t .bus)) (t .multiplicity))
 
   -- where it is on another bus or side, or has other values: nothing
   pub share-none : (t : Tuple) → (On s b v t → ⊥) → share s b v t ≡ 0
