@@ -6,7 +6,8 @@
 --     sums-claims               with short timestamps and few active rows all that demand 3 claims is so
 --     sums-exactly              there are fillings for which the sums agree exactly where both tables pass and balance
 --     sums-holds                so exactly where the verdict holds, if timestamps differ
---     sums-demand               and there are a round table and fillings exactly where every active core row is computed
+--     sums-demand               and there are a round table and fillings exactly where the core table's lookups pass and
+--                               every active row is computed; ours-filled: our round table is then such a one
 --     witness-sums              the tables that are written for one operation have fillings
 use mathlib.Core.List.{List}
 use mathlib.Core.Logic.{_↔_}
@@ -101,11 +102,15 @@ module _ (nr : ℕ) (some : 1 ≤ nr) (most : nr ≤ 24) (core : List ℕ) (cons
       let c : n * nr ≤ MAX-OPS * 24 = mul-le-mul (subst (λ (m : ℕ). m ≤ MAX-OPS) (sym e) few) most in
       omega (arith, a, b, c)
 
+  -- it has fillings where the core table's lookups pass and its active rows are computed
+  pub ours-filled : Lookups (coreKind nr) core → EachActive (Computed nr) core → Filled nr core (ourRounds nr 4 core)
+  ours-filled ok right =
+      let c : Passes (coreKind nr) core = record { whole = constrained .whole; below = constrained .below; values = constrained .values; lookups = ok } in
+      let d = demand3-at nr 4 some most core (record { passes = c; few = few; apart = apart; stamps = stamps }) in
+      complete nr core (ourRounds nr 4 core) c (d .ours right) (constrained .few) (ours-few (d .operations-count))
+
   pub sums-demand : ((round : List ℕ) × Filled nr core round) ↔ (Lookups (coreKind nr) core × EachActive (Computed nr) core)
   sums-demand = (
     (λ (round, (w, f, h)). (sums-core nr core round w nobody h .lookups, λ r a. sums-computed nr core round w nobody h apart some most r a .0)),
-    (λ (ok, right).
-        let c : Passes (coreKind nr) core = record { whole = constrained .whole; below = constrained .below; values = constrained .values; lookups = ok } in
-        let d = demand3-at nr 4 some most core (record { passes = c; few = few; apart = apart; stamps = stamps }) in
-        (ourRounds nr 4 core, complete nr core (ourRounds nr 4 core) c (d .ours right) (constrained .few) (ours-few (d .operations-count)))),
+    (λ (ok, right). (ourRounds nr 4 core, ours-filled ok right)),
   )
