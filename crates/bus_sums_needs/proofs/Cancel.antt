@@ -3,7 +3,7 @@
 --     mu-needed     two rows, their MUs 1 and p - 1: every value is 0 but the second row's 51, and nothing is sent that counts
 --     few-needed    p rows whose MU is 1: every value is 0
 use mathlib.Core.Bool.{Bool, true, false, _&&_}
-use mathlib.Core.List.{List, [], _∷_, _++_}
+use mathlib.Core.List.{List, [], _∷_}
 use mathlib.Core.Path.{_≡_, refl, sym, ap, subst, _∙_}
 use Prim.Native.Nat.{ℕ, zero, suc, _+_, _-_, _*_, _/_, _%_, _<_}
 use native.Mathlib.Nat.{add-zero, mul-zero, mul-one, zero-mul, add-mul, mul-add}
@@ -29,21 +29,16 @@ use Rattle.templates.specs.Templates.{emit-add-pair, carry0, add-pair-carry-hi,
 use Rattle.keccak.specs.Row.{coreAddress}
 use Rattle.keccak.specs.Values.{coreValue, pointerValue, topValue}
 use Rattle.keccak.specs.Tuples.{coreTuple, ecallTuple, addrMemw, laneMemw, pointerTuple, alignTuple, addrBytesTuple, coreSent, coreReceived, keccakValues}
-use Rattle.verdict.specs.Kind.{rows, row, Whole, Elements, ZeroAt, Values, Active}
+use Rattle.verdict.specs.Kind.{rows, row, ZeroAt, Values}
 use Rattle.verdict.specs.CoreAndRound.{coreLayout, coreKind, roundKind}
 use Rattle.verdict.specs.Claims.{Addressed}
 use Rattle.verdict.proofs.Tables.{table-rows, table-whole}
-use Rattle.bus_sums.specs.Sums.{share, shares, Fillings, tupleAt, tableShare, bitwiseAt, bitwiseShare, constantAt, constantsShare, isWhKind, busTotal, Agree, nobody}
+use Rattle.bus_sums.specs.Sums.{share, shares, tupleAt, tableShare, bitwiseAt, bitwiseShare, constantAt, constantsShare, isWhKind, busTotal}
 use Rattle.bus_sums.proofs.Shares.{same-side, no-line}
 use Rattle.bus_sums.proofs.Buses.{bitwise-line, constant-line, bitwise-none, constant-none}
+use Rattle.bus_sums_needs.specs.Cancel.{cell, crooked, crookedTable, opposite, twoRows, manyRows, nothing, Slips}
 
--- ---- the row: address 1, pointer i at 1 + 8i, zeros, and MU
-unfoldable pub cell : ℕ → ℕ
-cell k = pick (ltb k 410) (pick (eqb k 2) 1 0) (pick (eqb ((k - 410) % 3) 0) (1 + 8 * ((k - 410) / 3)) 0)
-
-unfoldable pub crooked : ℕ → List ℕ
-crooked m = tab 485 cell ++ (m ∷ [])
-
+-- ---- the row
 crooked-length : (m : ℕ) → length (crooked m) ≡ 486
 unfolding crooked cell tab tabFrom
 crooked-length m = refl
@@ -132,37 +127,25 @@ module _ (s : Side) (b : Bus) (v : List ℕ) where
 
   -- n rows of it, their MUs mu 0 .. mu (n - 1)
   module _ (n : ℕ) (mu : ℕ → ℕ) where
-    adds : tableShare s b v (coreKind 24) (tableOf n 486 (λ r. crooked (mu r))) ≡ sum n mu * once
+    adds : tableShare s b v (coreKind 24) (crookedTable n mu) ≡ sum n mu * once
     unfolding shares tupleAt
     adds =
-        ap (λ (k : ℕ). sum k (λ r. sum 84 (λ i. share s b v (coreTuple 24 0 (row coreLayout (tableOf n 486 (λ r. crooked (mu r))) r) i)))) (table-rows coreLayout (omega arith) n (λ r. crooked (mu r)))
-        ∙ sum-same n (λ r. sum 84 (λ i. share s b v (coreTuple 24 0 (row coreLayout (tableOf n 486 (λ r. crooked (mu r))) r) i))) (λ r. mu r * once)
+        ap (λ (k : ℕ). sum k (λ r. sum 84 (λ i. share s b v (coreTuple 24 0 (row coreLayout (crookedTable n mu) r) i)))) (table-rows coreLayout (omega arith) n (λ r. crooked (mu r)))
+        ∙ sum-same n (λ r. sum 84 (λ i. share s b v (coreTuple 24 0 (row coreLayout (crookedTable n mu) r) i))) (λ r. mu r * once)
         (λ r l. ap (λ (x : List ℕ). sum 84 (λ i. share s b v (coreTuple 24 0 x i))) (rowAt-table n 486 (λ r. crooked (mu r)) r l (crooked-length (mu r))) ∙ row-adds (mu r))
         ∙ times-sum n once mu
 
-    cancels : sum n mu % p ≡ 0 → tableShare s b v (coreKind 24) (tableOf n 486 (λ r. crooked (mu r))) % p ≡ 0
+    cancels : sum n mu % p ≡ 0 → tableShare s b v (coreKind 24) (crookedTable n mu) % p ≡ 0
     cancels e = ap (λ (k : ℕ). k % p) adds ∙ mul-c (sum n mu) 0 once e ∙ ap (λ (k : ℕ). k % p) (zero-mul once)
 
 pick-lt : (t : Bool) {a b : ℕ} → a < p → b < p → pick t a b < p
 pick-lt true h g = h
 pick-lt false h g = g
 
--- ---- nothing is written into the tables that are looked up
-abbrev pub nothing : Fillings
-nothing = record { bitwise = λ i j. 0; constants = λ r. 0; is-wh = [] }
-
--- What is left where every bus's sums agree, with no round row and nothing looked up, and yet a row is active that is not
--- where it should be. (Nothing is said of its constraints.)
-pub record Slips (core : List ℕ) : Type 0 where
-  pub whole : Whole coreLayout core
-  pub below : Elements core
-  pub agree : (b : Bus) (v : List ℕ) → Agree 24 core [] nothing nobody b v
-  pub active : Active coreLayout core 0
-  pub misplaced : Addressed (row coreLayout core 0) → ⊥
-
+-- ---- the tables
 module _ (n : ℕ) (mu : ℕ → ℕ) (some : 0 < n) (one : mu 0 ≡ 1) (small : (r : ℕ) → mu r < p) (cancel : sum n mu % p ≡ 0) where
   abbrev table : List ℕ
-  table = tableOf n 486 (λ r. crooked (mu r))
+  table = crookedTable n mu
 
   row-is : (r : ℕ) → r < n → row coreLayout table r ≡ crooked (mu r)
   row-is r l = rowAt-table n 486 (λ r. crooked (mu r)) r l (crooked-length (mu r))
@@ -230,12 +213,6 @@ zero-at : (n m : ℕ) → T (zeros n m) → (i : ℕ) → i < n → coreValue (c
 zero-at n m t i l = eqb→eq (coreValue (crooked m) i) 0 (all-at n (λ i. eqb (coreValue (crooked m) i) 0) t i l)
 
 -- ---- THE MUS 1 AND p - 1
-abbrev pub opposite : ℕ → ℕ
-opposite r = pick (eqb r 0) 1 (p - 1)
-
-abbrev pub twoRows : List ℕ
-twoRows = tableOf 2 486 (λ r. crooked (opposite r))
-
 pub mu-needed : Slips twoRows × ((r i : ℕ) → r < 2 → i < 52 → (r ≡ 1 → i ≡ 51 → ⊥) → ZeroAt (coreKind 24) twoRows r i)
 unfolding sum
 mu-needed = (slips 2 opposite (omega arith) refl small refl, vanish)
@@ -252,9 +229,6 @@ mu-needed = (slips 2 opposite (omega arith) refl small refl, vanish)
     vanish (suc (suc r)) i l g n = absurd (omega arith)
 
 -- ---- p ROWS
-abbrev pub manyRows : List ℕ
-manyRows = tableOf p 486 (λ r. crooked 1)
-
 pub few-needed : Slips manyRows × Values (coreKind 24) manyRows
 few-needed = (
   slips p (λ r. 1) (omega arith) refl (λ r. omega arith) (ap (λ (n : ℕ). n % p) (sum-const p 1)),

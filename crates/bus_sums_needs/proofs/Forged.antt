@@ -23,17 +23,7 @@ use Rattle.verdict.specs.Kind.{rows, row}
 use Rattle.bus_sums.specs.Sums.{share, shares, isWhLayout, isWhKind, tupleAt, tableShare}
 use Rattle.bus_sums.proofs.Shares.{share-none, sum-place}
 use Rattle.bus_sums.proofs.Rows.{sides-differ, pair-early}
-
--- columns: the half, the low and the high half of the word, MU
-abbrev pub forged : List ℕ
-forged =
-    0 ∷ 131072 ∷ 1407374883225598 ∷ 1
-    ∷ 0 ∷ 131072 ∷ (p - 2) ∷ (p - 1)
-    ∷ 0 ∷ 131077 ∷ (p - 2) ∷ 1
-    ∷ 0 ∷ 131077 ∷ 1407374883225598 ∷ (p - 1)
-    ∷ 0 ∷ 0 ∷ 0 ∷ 2
-    ∷ 0 ∷ 5 ∷ 0 ∷ (p - 1)
-    ∷ 0 ∷ 65531 ∷ 65535 ∷ 24 ∷ []
+use Rattle.bus_sums_needs.specs.Forged.{forged}
 
 pub forged-rows : rows isWhLayout forged ≡ 7
 forged-rows = refl

@@ -25,7 +25,6 @@ use Rattle.lookup.specs.declared.Bus.the-variants.{ByteAlu, AreBytes, IsHalfwor
 use Rattle.lookup.specs.declared.Side.{Side}
 use Rattle.lookup.specs.declared.Side.the-variants.{Sender, Receiver}
 use Rattle.bits.specs.Bits.{wordAt, limbAt, pack}
-use Rattle.fips202.specs.Lanes.{keccakPL}
 use Rattle.templates.specs.Templates.{emit-add-pair, carry0, add-pair-carry-hi, add-terms-expr}
 use Rattle.is_wh.specs.Found.{isWhFound}
 use Rattle.is_wh.specs.Tuples.{isWhTuple}
@@ -37,12 +36,11 @@ use Rattle.matching.proofs.Matching.{matched-decides}
 use Rattle.keccak.specs.Row.{pointerLimb, coreGroups, coreRow, coreRowAt, coreTable, coreAddress, corePointer}
 use Rattle.keccak.specs.Values.{coreValue, pointerValue, topValue}
 use Rattle.keccak.specs.Tuples.{coreTuple, ecallTuple, addrMemw, laneMemw, pointerTuple, alignTuple, addrBytesTuple, coreSent, coreReceived, keccakValues}
-use Rattle.keccak.specs.declared.KeccakOperation.{KeccakOperation}
 use Rattle.keccak.specs.Height.{height, next-power-of-two, doubled}
 use Rattle.keccak.proofs.Cells.{length-core, core-words}
 use Rattle.keccak.proofs.Height.{height-le}
 use Rattle.keccak_rnd.specs.Row.{roundTable, roundHeight, roundRowAt}
-use Rattle.verdict.specs.Kind.{rows, row, isActive, active, Active, Passes, Balanced, carried}
+use Rattle.verdict.specs.Kind.{rows, row, isActive, active, Passes, Balanced, carried}
 use Rattle.verdict.specs.CoreAndRound.{coreLayout, roundLayout, coreKind, roundKind, verdictAt}
 use Rattle.verdict.specs.Claims.{Addressed}
 use Rattle.verdict.specs.declared.Verdict.the-variants.{Holds}
@@ -51,20 +49,15 @@ use Rattle.verdict.proofs.Failures.{verdict-says}
 use Rattle.verdict.proofs.Honest.{written-holds}
 use Rattle.verdict.proofs.Tables.{table-rows, table-whole}
 use Rattle.verdict.proofs.Tuples.{place, carriesAt, carried-count, core-bus}
-use Rattle.bus_sums.specs.Sums.{share, shares, Fillings, tupleAt, tableShare, isWhLayout, isWhKind, Ours, Constrained, Agree, InField, nobody, MANY-PAIRS}
+use Rattle.bus_sums.specs.Sums.{share, shares, Fillings, tupleAt, tableShare, isWhLayout, isWhKind, Ours, Constrained, Agree, nobody}
 use Rattle.bus_sums.proofs.Shares.{On, not-zero, shares-find}
 use Rattle.bus_sums.proofs.Rows.{sides-differ}
 use Rattle.bus_sums.proofs.Pairs.{core-sends}
 use Rattle.bus_sums.proofs.Filling.{filled, table-found, alu-agree, bytes-agree, constants-agree, half-agree, is-wh-agree, keccak-agree, in-field}
-use Rattle.bus_sums_needs.proofs.Forged.{forged, forged-received, forged-sent}
+use Rattle.bus_sums_needs.specs.Forged.{forged, operation, bent, bentCore, bentRound, Forgery}
+use Rattle.bus_sums_needs.proofs.Forged.{forged-received, forged-sent}
 
 -- ---- the row
-abbrev operation : KeccakOperation
-operation = record { timestamp = 5; «state_addr» = (2 ^ 32 - 5) * 2 ^ 32; input = zeroState; output = keccakPL 24 zeroState }
-
-unfoldable pub bent : List ℕ
-bent = set (coreRow operation) 412 (p - 5)
-
 values : T (all 52 (λ i. eqb (coreValue bent i) 0))
 unfolding all coreValue pointerValue topValue emit-add-pair carry0 add-pair-carry-hi add-terms-expr bent coreRow coreGroups rowOf pointerLimb limbAt wordAt tab tabFrom then
 values = tt
@@ -106,12 +99,6 @@ bent-place a =
     omega (arith, e, f, a .lane 0 (omega arith))
 
 -- ---- the table of that row, and what it sends on the Keccak bus
-abbrev pub bentCore : List ℕ
-bentCore = tableOf 1 486 (λ r. bent)
-
-abbrev pub bentRound : List ℕ
-bentRound = roundTable 24 1 1 (λ i. operation)
-
 rows-are : rows coreLayout bentCore ≡ 1
 rows-are = table-rows coreLayout (omega arith) 1 (λ r. bent)
 
@@ -263,17 +250,7 @@ halves-found v l =
     (λ g. subst (BitwiseFound IsHalfword) (sym e) (half-occurs (word v 0) g))
 
 -- ---- THE SEGMENT
--- all that `SumsHold` and `InField` say but for the bus IsB20, and a row that is not where it should be
-pub record Forgery (core round : List ℕ) (w : Fillings) : Type 0 where
-  pub core-is : Constrained (coreKind 24) core
-  pub round-is : Constrained roundKind round
-  pub few-pairs : rows isWhLayout (w .is-wh) ≤ MANY-PAIRS
-  pub in-field-is : InField w
-  pub agree : (b : Bus) → Ours b → (b ≡ IsB20 → ⊥) → (v : List ℕ) → Agree 24 core round w nobody b v
-  pub active : Active coreLayout core 0
-  pub misplaced : Addressed (row coreLayout core 0) → ⊥
-
-abbrev pub fillings : Fillings
+abbrev fillings : Fillings
 fillings = filled 24 bentCore bentRound forged
 
 forged-below : T (all 28 (λ k. ltb (word forged k) p))
@@ -295,14 +272,16 @@ agrees Msb16 o n v = absurd o
 agrees Zero o n v = absurd o
 agrees Hwsl o n v = absurd o
 
-pub twenty-needed : Forgery bentCore bentRound fillings
-twenty-needed =
-    record {
-      core-is = core-constrained;
-      round-is = round-constrained;
-      few-pairs = omega arith;
-      in-field-is = in-field 24 bentCore bentRound forged refl (λ k l. ltb→lt (word forged k) p (all-at 28 (λ k. ltb (word forged k) p) forged-below k l));
-      agree = agrees;
-      active = record { there = omega (arith, rows-are); on = ap (λ (x : List ℕ). word x 485) (row-is 0 (omega arith)) ∙ mu-is };
-      misplaced = λ a. bent-place (subst Addressed (row-is 0 (omega arith)) a);
-    }
+pub twenty-needed : (w : Fillings) × Forgery bentCore bentRound w
+twenty-needed = (
+  fillings,
+  record {
+    core-constrained = core-constrained;
+    round-constrained = round-constrained;
+    few-pairs = omega arith;
+    in-field = in-field 24 bentCore bentRound forged refl (λ k l. ltb→lt (word forged k) p (all-at 28 (λ k. ltb (word forged k) p) forged-below k l));
+    agree = agrees;
+    active = record { there = omega (arith, rows-are); on = ap (λ (x : List ℕ). word x 485) (row-is 0 (omega arith)) ∙ mu-is };
+    misplaced = λ a. bent-place (subst Addressed (row-is 0 (omega arith)) a);
+  },
+)

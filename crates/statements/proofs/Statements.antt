@@ -74,8 +74,10 @@ use Rattle.bus_sums.proofs.Buses.{core-line, round-line, is-wh-line, bitwise-li
 use Rattle.bus_sums.proofs.Bit.{bit-is}
 use Rattle.bus_sums.proofs.Receipt.{sums-core, sums-answer, sums-verdict, sums-computed, sums-claims, sums-exactly}
 use Rattle.bus_sums.proofs.Receipt.{sums-holds, sums-demand, ours-filled, witness-sums}
-use Rattle.bus_sums_needs.proofs.Cancel.{Slips, twoRows, manyRows, mu-needed, few-needed}
-use Rattle.bus_sums_needs.proofs.ForgedSegment.{Forgery, bentCore, bentRound, fillings as forgedFillings, twenty-needed}
+use Rattle.bus_sums_needs.specs.Cancel.{Slips, twoRows, manyRows}
+use Rattle.bus_sums_needs.specs.Forged.{Forgery, bentCore, bentRound}
+use Rattle.bus_sums_needs.proofs.Cancel.{mu-needed, few-needed}
+use Rattle.bus_sums_needs.proofs.ForgedSegment.{twenty-needed}
 use Rattle.op_file.specs.File.{isWhole, addressOf, faultOf, sumsOf, tallyOf}
 use Rattle.op_file.specs.Reader.{fileStart, feedOf, finishOf}
 use Rattle.op_file.proofs.Cases as file
@@ -328,7 +330,7 @@ pub mu-bit : (r : ℕ) → r < p → isBit r ≡ 0 → r < 2
 mu-bit = bit-is
 
 -- "Without IsB20": a segment that meets all the rest, and whose active core row has a lane elsewhere
-pub without-twenty : Forgery bentCore bentRound forgedFillings
+pub without-twenty : (w : Fillings) × Forgery bentCore bentRound w
 without-twenty = twenty-needed
 
 -- "Without a bit for MU": two core rows that cancel on every bus, all values 0 but the second row's 51
