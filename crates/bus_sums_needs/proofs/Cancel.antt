@@ -1,6 +1,7 @@
 -- Why MU must be a bit, and why there must be fewer than p rows: core rows that differ in MU alone cancel on every bus where
 -- their MUs add up to 0 mod p, whatever the rows hold. Here it is a row at address 1, which is no multiple of 8.
---     mu-needed     two rows, their MUs 1 and p - 1: every value is 0 but the second row's 51, and nothing is sent that counts
+--     cancels       what such rows add to a side of a bus is 0 mod p
+--     mu-needed     two rows, their MUs 1 and p - 1: every value is 0 but the second row's 51
 --     few-needed    p rows whose MU is 1: every value is 0
 use mathlib.Core.Bool.{Bool, true, false, _&&_}
 use mathlib.Core.List.{List, [], _∷_}
@@ -205,7 +206,7 @@ one-zeros : T (zeros 52 1)
 unfolding all coreValue pointerValue topValue emit-add-pair carry0 add-pair-carry-hi add-terms-expr crooked cell tab tabFrom then
 one-zeros = tt
 
-minus-zeros : T (zeros 51 (p - 1))
+minus-zeros : T (zeros 51 (opposite 1))
 unfolding all coreValue pointerValue topValue emit-add-pair carry0 add-pair-carry-hi add-terms-expr crooked cell tab tabFrom then
 minus-zeros = tt
 
@@ -225,7 +226,7 @@ mu-needed = (slips 2 opposite (omega arith) refl small refl, vanish)
 
     vanish : (r i : ℕ) → r < 2 → i < 52 → (r ≡ 1 → i ≡ 51 → ⊥) → ZeroAt (coreKind 24) twoRows r i
     vanish zero i l g n = at 0 i l (zero-at 52 1 one-zeros i g)
-    vanish (suc zero) i l g n = at 1 i l (zero-at 51 (p - 1) minus-zeros i (by-le 51 i (λ h. absurd (n refl (omega arith))) (λ h. h)))
+    vanish (suc zero) i l g n = at 1 i l (zero-at 51 (opposite 1) minus-zeros i (by-le 51 i (λ h. absurd (n refl (omega arith))) (λ h. h)))
     vanish (suc (suc r)) i l g n = absurd (omega arith)
 
 -- ---- p ROWS

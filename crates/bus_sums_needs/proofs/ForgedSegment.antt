@@ -80,15 +80,19 @@ mu-is = refl
 
 bent-length : length bent ≡ 486
 unfolding bent
-bent-length = length-set (coreRow operation) 412 (p - 5) ∙ length-core operation
+bent-length = length-set (coreRow operation) 412 _ ∙ length-core operation
+
+-- a row with another word below p is of words below p
+set-below : (y k : ℕ) → y < p → word (set (coreRow operation) 412 y) k < p
+set-below y k l = go (ℕ-discrete k 412)
+  where
+    go : Dec (k ≡ 412) → word (set (coreRow operation) 412 y) k < p
+    go (yes e) = subst (λ (n : ℕ). n < p) (sym (ap (word (set (coreRow operation) 412 y)) e ∙ getD-set-same (coreRow operation) 412 y 0 (omega (arith, length-core operation)))) l
+    go (no n) = subst (λ (m : ℕ). m < p) (sym (getD-set-other (coreRow operation) 412 k y 0 n)) (core-words operation (omega arith) (omega arith) k)
 
 bent-below : (k : ℕ) → word bent k < p
 unfolding bent
-bent-below k = go (ℕ-discrete k 412)
-  where
-    go : Dec (k ≡ 412) → word (set (coreRow operation) 412 (p - 5)) k < p
-    go (yes e) = subst (λ (n : ℕ). n < p) (sym (ap (word (set (coreRow operation) 412 (p - 5))) e ∙ getD-set-same (coreRow operation) 412 (p - 5) 0 (omega (arith, length-core operation)))) (omega arith)
-    go (no n) = subst (λ (m : ℕ). m < p) (sym (getD-set-other (coreRow operation) 412 k (p - 5) 0 n)) (core-words operation (omega arith) (omega arith) k)
+bent-below k = set-below _ k (omega arith)
 
 -- lane 0 is not at the address
 bent-place : Addressed bent → ⊥
