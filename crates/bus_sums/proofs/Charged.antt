@@ -1,5 +1,5 @@
 -- Multiplicities for the bitwise table and the constants: each list of values is charged where it stands, as often as a
--- number T of it says. Then what these tables receive is T.
+-- number, `times`, of it says. Then what these tables receive is that number.
 use mathlib.Core.Bool.{Bool, true, false, _&&_}
 use mathlib.Core.List.{List, [], _++_}
 use mathlib.Core.Path.{_≡_, refl, sym, ap, ap₂, subst, _∙_}
@@ -24,13 +24,9 @@ use Rattle.keccak_rc.specs.Tuples.{rcTuple}
 use Rattle.keccak_rc.specs.Found.{RcFound}
 use Rattle.keccak_rc.proofs.Found.{rc-values, rc-round, rc-tuple}
 use Rattle.bus_sums.specs.Sums.{share, shares, bitwiseAt, bitwiseShare, constantAt, constantsShare}
-use Rattle.bus_sums.proofs.Shares.{On, share-none, share-is, shares-zero, sum-place, sum-zero}
+use Rattle.bus_sums.proofs.Shares.{On, pick-some, share-none, share-is, shares-zero, sum-place, sum-zero}
 use Rattle.bus_sums.proofs.Rows.{fixed}
 use Rattle.bus_sums.proofs.Places.{placeRow, placeKind, Placed}
-
-pick-some : (t : Bool) (n : ℕ) → 1 ≤ pick t n 0 → T t × (1 ≤ n)
-pick-some true n h = (tt, h)
-pick-some false n h = absurd (omega arith)
 
 pick-on : (t : Bool) (n : ℕ) → T t → pick t n 0 ≡ n
 pick-on true n h = refl

@@ -72,7 +72,7 @@ module _ (nr : ℕ) (core round : List ℕ) (few-core : rows coreLayout core ≤
     (λ (c, a). complete nr core round c a few-core few-round),
   )
 
-  -- the verdict holds where there are fillings and the timestamps differ; whatever number it holds with
+  -- the verdict holds exactly where there are fillings and the timestamps differ
   pub sums-holds : (Filled nr core round × DistinctTimestamps coreLayout core) ↔ (verdictAt nr core round ≡ Holds (actives coreLayout core))
   sums-holds = (
     (λ ((w, f, h), apart). sums-verdict nr core round w nobody h apart),

@@ -11,13 +11,14 @@ use Prim.Native.Nat.{ℕ, zero, suc, _+_, _*_, _/_, _%_, _≤_, _<_}
 use native.Mathlib.Nat.{eq-or-lt-of-le, le-of-suc-le-suc, suc-mul, zero-mul, mul-zero}
 use native.Mathlib.Omega.{arith}
 use lib.Arith.{digits-div, digits-mod}
+use lib.Dec.{T}
 use Rattle.lists.specs.Tab.{pick}
 use Rattle.lists.specs.Sum.{sum}
 use Rattle.lists.specs.Select.{wordsTest}
 use Rattle.lists.proofs.Count.{sum-find}
-use Rattle.lists.proofs.Sum.{sum-add, sum-same, sum-const}
+use Rattle.lists.proofs.Sum.{sum-add, sum-same, sum-const, and-left, and-right}
 use Rattle.lists.proofs.Select.{words-sound, words-same}
-use Rattle.lists.proofs.Tests.{T-of, and-true, true-not-false}
+use Rattle.lists.proofs.Tests.{true-not-false}
 use Rattle.lists.proofs.Then.{T-true}
 use Rattle.field.specs.Field.{p}
 use Rattle.lookup.specs.Tuple.{Tuple, onBus, busSum, sameSide, sameBus}
@@ -72,9 +73,9 @@ pub pick-le : (t : Bool) (m : ℕ) → pick t m 0 ≤ m
 pick-le true m = omega arith
 pick-le false m = omega arith
 
-pick-true : (t : Bool) (m : ℕ) → 1 ≤ pick t m 0 → (t ≡ true) × (1 ≤ m)
-pick-true true m h = (refl, h)
-pick-true false m h = absurd (omega arith)
+pub pick-some : (t : Bool) (m : ℕ) → 1 ≤ pick t m 0 → T t × (1 ≤ m)
+pick-some true m h = (tt, h)
+pick-some false m h = absurd (omega arith)
 
 pub same-side : (a b : Side) → sameSide a b ≡ true → a ≡ b
 same-side Sender Sender e = refl
@@ -96,13 +97,14 @@ module _ (s : Side) (b : Bus) (v : List ℕ) where
   pub share-on : (t : Tuple) → 1 ≤ share s b v t → On s b v t
   unfolding share
   share-on t h =
-      let a = pick-true (wordsTest v (t .values)) (onBus s b t) h in
-      let c = pick-true (sameSide s (t .side) && sameBus b (t .bus)) (t .multiplicity) (a .1) in
-      let d = and-true (sameSide s (t .side)) (sameBus b (t .bus)) (c .0) in
+      let x = sameSide s (t .side) in
+      let y = sameBus b (t .bus) in
+      let a = pick-some (wordsTest v (t .values)) (onBus s b t) h in
+      let c = pick-some (x && y) (t .multiplicity) (a .1) in
       record {
-        side = same-side s (t .side) (d .0);
-        bus = bus-decides b (t .bus) .to (T-of _ (d .1));
-        values = words-sound v (t .values) (T-of _ (a .0));
+        side = same-side s (t .side) (T-true x (and-left x y (c .0)));
+        bus = bus-decides b (t .bus) .to (and-right x y (c .0));
+        values = words-sound v (t .values) (a .0);
         some = c .1;
       }
 

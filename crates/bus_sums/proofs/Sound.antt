@@ -46,7 +46,7 @@ module _ (nr : ℕ) (core round : List ℕ) (w : Fillings) (others : Bus → Lis
   pair r = row isWhLayout (w .is-wh) r
 
   -- ---- what is sent is received, where the sum does not pass p
-  -- no row of the IS_WH table sends v more than 2^22 times on b
+  -- no row of the IS_WH table sends more than 2^22 times on b
   FewPairs : Bus → Type 0
   FewPairs b = (r : ℕ) → r < pairs → isWhLine Sender b (word (pair r) 3) ≤ 2 ^ 22
 
@@ -56,6 +56,7 @@ module _ (nr : ℕ) (core round : List ℕ) (w : Fillings) (others : Bus → Lis
       let a = shares-line Sender b v pairs 5 (tupleAt isWhKind (w .is-wh)) (2 ^ 22) (λ r l. omega (arith, is-wh-line Sender b (pair r), few r l)) in
       omega (arith, a, h .few-pairs, core-few nr core (h .core-constrained) Sender b v, round-few round (h .round-constrained) Sender b v, sent-total nr core round w v b, h .few-others b v)
 
+  -- so a sum that is not 0 is not 0 mod p, nor is what is received
   answered : (b : Bus) (v : List ℕ) → Ours b → FewPairs b → 1 ≤ total Sender b v → 1 ≤ total Receiver b v
   answered b v o few l =
       let sums : total Sender b v + others b v ≡ total Receiver b v % p = sym (mod-eq-of-lt (sent-few b v few)) ∙ h .agree b o v in
@@ -83,6 +84,7 @@ module _ (nr : ℕ) (core round : List ℕ) (w : Fillings) (others : Bus → Lis
       (on-bitwise IsB20 v twenty-alone
       (answered IsB20 v tt (λ r l. omega arith) (pair-sent r 0 l (omega arith) _ (mu-sent (pair r) 0 refl) refl (omega arith))))
 
+  -- so each sends little on every bus
   few-pairs : (b : Bus) → FewPairs b
   unfolding FewPairs
   few-pairs b r l = let t = twenty r l in omega (arith, is-wh-most Sender b (word (pair r) 3) (2 ^ 20 - 1) (omega arith))
