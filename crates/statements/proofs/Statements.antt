@@ -380,3 +380,8 @@ pub code-sums : (core round : List ℕ) → rows coreLayout core ≤ MANY-ROWS �
     (v ≡ Holds (actives coreLayout core)) ↔ (Filled 24 core round × DistinctTimestamps coreLayout core)
 code-sums core round few-core few-round v a =
     let e = sums-holds 24 core round few-core few-round in ((λ h. e .1 (sym (answered a) ∙ h)), λ f. answered a ∙ e .0 f)
+
+-- and it answers 'holds' where the sums agree and timestamps differ, whatever else is sent by other tables
+pub code-sums-hold : (core round : List ℕ) (w : Fillings) (others : Bus → List ℕ → ℕ) → SumsHold 24 core round w others →
+    DistinctTimestamps coreLayout core → (v : Verdict) → Answered core round v → v ≡ Holds (actives coreLayout core)
+code-sums-hold core round w others h apart v a = answered a ∙ sums-verdict 24 core round w others h apart
