@@ -16,14 +16,14 @@ use Rattle.matching.specs.Matching.{FoundOn}
 use Rattle.verdict.specs.Kind.{rows, Passes}
 use Rattle.verdict.specs.CoreAndRound.{coreLayout, roundLayout, coreKind, roundKind}
 use Rattle.verdict.specs.Claims.{Answers}
-use Rattle.bus_sums.specs.Sums.{tableShare, isWhKind, Ours, Constrained, Agree, SumsHold, nobody, Filled, MANY-ROWS}
+use Rattle.bus_sums.specs.Sums.{tableShare, isWhKind, Ours, Constrained, Agree, SumsHold, nobody, Filled, MAX-ROWS}
 use Rattle.bus_sums.proofs.Shares.{not-zero}
 use Rattle.bus_sums.proofs.Constrained.{core-mu}
 use Rattle.bus_sums.proofs.Places.{Placed, twenty-placed}
 use Rattle.bus_sums.proofs.Pairs.{pairsOf, pairs-rows, pairs-received, pairs-whole, pairs-below, PairSent, pairs-found}
 use Rattle.bus_sums.proofs.Filling.{filled, table-found, alu-agree, bytes-agree, constants-agree, half-agree, twenty-agree, is-wh-agree, keccak-agree, in-field}
 
-module _ (nr : ℕ) (core round : List ℕ) (pc : Passes (coreKind nr) core) (answer : Answers nr core round) (fc : rows coreLayout core ≤ MANY-ROWS) (fr : rows roundLayout round ≤ MANY-ROWS) where
+module _ (nr : ℕ) (core round : List ℕ) (pc : Passes (coreKind nr) core) (answer : Answers nr core round) (fc : rows coreLayout core ≤ MAX-ROWS) (fr : rows roundLayout round ≤ MAX-ROWS) where
   cc : Constrained (coreKind nr) core
   cc = record { whole = pc .whole; below = pc .below; values = pc .values; few = fc }
 

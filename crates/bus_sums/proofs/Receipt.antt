@@ -31,7 +31,7 @@ use Rattle.verdict.proofs.Failures.{verdict-says}
 use Rattle.verdict.proofs.Honest.{witness-holds}
 use Rattle.verdict.proofs.Tables.{table-rows}
 use Rattle.verdict.proofs.Demand3.{holds-computed, demand3-at}
-use Rattle.bus_sums.specs.Sums.{Fillings, Constrained, SumsHold, Filled, nobody, MANY-ROWS}
+use Rattle.bus_sums.specs.Sums.{Fillings, Constrained, SumsHold, Filled, nobody, MAX-ROWS}
 use Rattle.bus_sums.proofs.Sound.{core-lookups, round-lookups, balanced}
 use Rattle.bus_sums.proofs.Complete.{complete}
 
@@ -65,7 +65,7 @@ module _ (nr : ℕ) (core round : List ℕ) (w : Fillings) (others : Bus → Lis
       sums-claims few stamps floor = demand3-at nr floor some most core (record { passes = sums-core; few = few; apart = apart; stamps = stamps })
 
 -- ---- exactly
-module _ (nr : ℕ) (core round : List ℕ) (few-core : rows coreLayout core ≤ MANY-ROWS) (few-round : rows roundLayout round ≤ MANY-ROWS) where
+module _ (nr : ℕ) (core round : List ℕ) (few-core : rows coreLayout core ≤ MAX-ROWS) (few-round : rows roundLayout round ≤ MAX-ROWS) where
   pub sums-exactly : Filled nr core round ↔ (Passes (coreKind nr) core × Answers nr core round)
   sums-exactly = (
     (λ (w, f, h). (sums-core nr core round w nobody h, sums-answer nr core round w nobody h)),
@@ -93,7 +93,7 @@ witness-sums =
 module _ (nr : ℕ) (some : 1 ≤ nr) (most : nr ≤ 24) (core : List ℕ) (constrained : Constrained (coreKind nr) core)
     (few : actives coreLayout core ≤ MAX-OPS) (apart : DistinctTimestamps coreLayout core) (stamps : EachActive ShortTimestamp core) where
   -- our round table is not too high
-  ours-few : opCount (operations core) ≡ actives coreLayout core → rows roundLayout (ourRounds nr 4 core) ≤ MANY-ROWS
+  ours-few : opCount (operations core) ≡ actives coreLayout core → rows roundLayout (ourRounds nr 4 core) ≤ MAX-ROWS
   unfolding ourRounds roundTable
   ours-few e =
       let n : ℕ = opCount (operations core) in

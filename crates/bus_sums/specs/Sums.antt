@@ -115,27 +115,27 @@ Ours Hwsl = ⊥
 -- Most rows of a core table or a round table, most rows of an IS_WH table, and most sends of other tables for one list
 -- of values. (The field has "FFT up to 2^32 rows", so these are eight full tables of a kind, and 256; a core row needs at
 -- most 25 rows of the IS_WH table.)
-abbrev pub MANY-ROWS : ℕ
-MANY-ROWS = 2 ^ 35
+abbrev pub MAX-ROWS : ℕ
+MAX-ROWS = 2 ^ 35
 
-abbrev pub MANY-PAIRS : ℕ
-MANY-PAIRS = 2 ^ 40
+abbrev pub MAX-PAIRS : ℕ
+MAX-PAIRS = 2 ^ 40
 
-abbrev pub MANY-SENDS : ℕ
-MANY-SENDS = 2 ^ 62
+abbrev pub MAX-SENDS : ℕ
+MAX-SENDS = 2 ^ 62
 
 -- a table of whole rows of words below p, every value 0, with at most 2^35 rows: nothing is said of its lookups
 pub record Constrained (K : Kind) (ws : List ℕ) : Type 0 where
   pub whole : Whole (K .layout) ws
   pub below : Elements ws
   pub values : Values K ws
-  pub few : rows (K .layout) ws ≤ MANY-ROWS
+  pub few : rows (K .layout) ws ≤ MAX-ROWS
 
 pub record SumsHold (nr : ℕ) (core round : List ℕ) (w : Fillings) (others : Bus → List ℕ → ℕ) : Type 0 where
   pub core-constrained : Constrained (coreKind nr) core
   pub round-constrained : Constrained roundKind round
-  pub few-pairs : rows isWhLayout (w .is-wh) ≤ MANY-PAIRS
-  pub few-others : (b : Bus) (v : List ℕ) → others b v ≤ MANY-SENDS
+  pub few-pairs : rows isWhLayout (w .is-wh) ≤ MAX-PAIRS
+  pub few-others : (b : Bus) (v : List ℕ) → others b v ≤ MAX-SENDS
   -- the Keccak bus is between these two tables alone
   pub no-others : (v : List ℕ) → others Keccak v ≡ 0
   pub agree : (b : Bus) → Ours b → (v : List ℕ) → Agree nr core round w others b v

@@ -19,7 +19,7 @@ use Rattle.verdict.specs.Kind.{rows, row, Active}
 use Rattle.verdict.specs.CoreAndRound.{coreLayout, coreKind, roundKind}
 use Rattle.verdict.specs.Claims.{Addressed}
 use Rattle.verdict.specs.Honest.{zeroState}
-use Rattle.bus_sums.specs.Sums.{Fillings, Constrained, InField, isWhLayout, Ours, Agree, nobody, MANY-PAIRS}
+use Rattle.bus_sums.specs.Sums.{Fillings, Constrained, InField, isWhLayout, Ours, Agree, nobody, MAX-PAIRS}
 
 -- columns: the half, the low and the high half of the word, MU
 abbrev pub forged : List ℕ
@@ -56,7 +56,7 @@ bentRound = roundTable 24 1 1 (λ i. operation)
 pub record Forgery (core round : List ℕ) (w : Fillings) : Type 0 where
   pub core-constrained : Constrained (coreKind 24) core
   pub round-constrained : Constrained roundKind round
-  pub few-pairs : rows isWhLayout (w .is-wh) ≤ MANY-PAIRS
+  pub few-pairs : rows isWhLayout (w .is-wh) ≤ MAX-PAIRS
   pub in-field : InField w
   pub agree : (b : Bus) → Ours b → (b ≡ IsB20 → ⊥) → (v : List ℕ) → Agree 24 core round w nobody b v
   pub active : Active coreLayout core 0

@@ -69,7 +69,7 @@ use Rattle.verdict.proofs.Failures.{timestamp-twice, verdict-says}
 use Rattle.verdict.proofs.Honest.{witness-supposed, witness-holds}
 use Rattle.verdict.proofs.Late.{late-row}
 use Rattle.bus_sums.specs.Buses.{coreLine, roundLine, isWhLine, bitwiseLine, constantLine}
-use Rattle.bus_sums.specs.Sums.{Fillings, bitwiseAt, constantAt, Constrained, SumsHold, Filled, MANY-ROWS}
+use Rattle.bus_sums.specs.Sums.{Fillings, bitwiseAt, constantAt, Constrained, SumsHold, Filled, MAX-ROWS}
 use Rattle.bus_sums.proofs.Buses.{core-line, round-line, is-wh-line, bitwise-line, constant-line}
 use Rattle.bus_sums.proofs.Bit.{bit-is}
 use Rattle.bus_sums.proofs.Receipt.{sums-core, sums-answer, sums-verdict, sums-computed, sums-claims, sums-exactly}
@@ -293,7 +293,7 @@ module _ (nr : ℕ) (some : 1 ≤ nr) (most : nr ≤ 24) where
       sums-all few stamps = sums-claims nr core round w others h apart some most few stamps 4
 
   -- "Where both tables pass and balance there are fillings, all words below p, for which every sum agrees."
-  pub sums-made : (core round : List ℕ) → rows coreLayout core ≤ MANY-ROWS → rows roundLayout round ≤ MANY-ROWS →
+  pub sums-made : (core round : List ℕ) → rows coreLayout core ≤ MAX-ROWS → rows roundLayout round ≤ MAX-ROWS →
       Filled nr core round ↔ (Passes (coreKind nr) core × Answers nr core round)
   sums-made = sums-exactly nr
 
@@ -363,7 +363,7 @@ module _ (core : List ℕ) (supposed : Supposed core) where
   code-answers = written-answers core supposed
 
   -- "The round table that the writer makes has fillings too."
-  pub code-filled : rows coreLayout core ≤ MANY-ROWS → EachActive (Computed 24) core →
+  pub code-filled : rows coreLayout core ≤ MAX-ROWS → EachActive (Computed 24) core →
       (before after : List ℕ) → length before ≡ length (ourRounds 24 4 core) → Wrote (operations core) before after →
       Filled 24 core after
   code-filled few right before after e w =
@@ -375,7 +375,7 @@ module _ (core : List ℕ) (supposed : Supposed core) where
 
 -- "The call `verdict` answers 'holds' exactly where there are such fillings and timestamps differ": of what it answers, on
 -- tables of at most 2^35 rows each
-pub code-sums : (core round : List ℕ) → rows coreLayout core ≤ MANY-ROWS → rows roundLayout round ≤ MANY-ROWS →
+pub code-sums : (core round : List ℕ) → rows coreLayout core ≤ MAX-ROWS → rows roundLayout round ≤ MAX-ROWS →
     (v : Verdict) → Answered core round v →
     (v ≡ Holds (actives coreLayout core)) ↔ (Filled 24 core round × DistinctTimestamps coreLayout core)
 code-sums core round few-core few-round v a =
