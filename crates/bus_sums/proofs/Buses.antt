@@ -51,7 +51,7 @@ module _ (s : Side) (b : Bus) where
 
   pub constant-line : (mu : ℕ → ℕ) (r : ℕ) → busSum s b 1 (constantAt mu r) ≡ constantLine s b (mu r)
   unfolding busSum sum constantAt rcTuple
-  constant-line mu r = ap (λ (t : Tuple). 0 + onBus s b t) (rc-tuple r (mu r)) ∙ omega arith
+  constant-line mu r = ap (λ (t : Tuple). 0 + onBus s b t) (rc-tuple _ (mu r)) ∙ omega arith
 
   -- ---- their most
   sends-le : (c : Bus) (m : ℕ) → sends s b c m ≤ m
