@@ -9,7 +9,7 @@
 --     stateLanes START   the 25 lanes of a row's START columns
 --     outLanes row       the 25 lanes that a round row sends on
 --     RoundPasses row    its 141 values are 0 and its lookups are matched
-use mathlib.Core.Path.{_≡_, refl, sym, ap, _∙_}
+use mathlib.Core.Path.{_≡_, refl, sym, ap, subst, _∙_}
 use mathlib.Core.Bool.{true}
 use mathlib.Core.Option.{some}
 use mathlib.Core.Logic.{_⊎_, _↔_}
@@ -27,6 +27,10 @@ use Rattle.answer.specs.Limits.{MAX-OPS}
 use Rattle.answer.specs.Refusal.{accepted, refusalNumber}
 use Rattle.answer.specs.declared.Refusal.the-variants.{HighAddress, PastEnd}
 use Rattle.fips202.specs.Fips.{Agree, offset, RHO, rnd, keccakF}
+use Rattle.lookup.specs.Tuple.{busSum}
+use Rattle.lookup.specs.declared.Bus.{Bus}
+use Rattle.lookup.specs.declared.Side.{Side}
+use Rattle.templates.specs.Templates.{isBit}
 use Rattle.bits.specs.Bits.{byteAt}
 use Rattle.fips202.specs.Lanes.{Lanes, bits, roundsL}
 use Rattle.fips202.specs.Tables.{roundConstant}
@@ -34,13 +38,15 @@ use Rattle.fips202.proofs.Tables.{constant-past}
 use Rattle.bitwise.specs.Columns.{SLL, SLLC}
 use Rattle.bitwise.specs.Row.{bitwiseRow}
 use Rattle.bitwise.proofs.Cases.{row-0, row-266804, row-1048575}
+use Rattle.is_wh.specs.Tuples.{isWhTuple}
 use Rattle.keccak.specs.Row.{stateLanes}
+use Rattle.keccak.specs.Tuples.{coreTuple}
 use Rattle.keccak.specs.Refusals.{Acceptable, operationsRefusal}
 use Rattle.keccak.specs.declared.KeccakOperation.{KeccakOperation}
 use Rattle.keccak.proofs.Refusals.{accepted-is, highest-accepted, next-refused}
 use Rattle.keccak_rnd.specs.Columns.{MU, ROUND, START, THETA, rc}
 use Rattle.keccak_rnd.specs.Row.{roundRow, roundTable, roundHeight, padding-are-bytes}
-use Rattle.keccak_rnd.specs.Tuples.{outLanes}
+use Rattle.keccak_rnd.specs.Tuples.{outLanes, roundTuple}
 use Rattle.keccak_rnd.specs.Passes.{RoundPasses}
 use Rattle.keccak_rnd.specs.Carries.{Carries, RhoCarries}
 use Rattle.keccak_rnd.proofs.Carries.{carries, rho-carries}
@@ -50,9 +56,11 @@ use Rattle.keccak_rnd.proofs.Completeness.{round-written}
 use Rattle.keccak_rnd.proofs.Soundness.{round-unique}
 use Rattle.keccak_rnd.proofs.Step.{start-state, round-fips}
 use Rattle.keccak_rnd.proofs.Written.{table-start, table-step, table-fips}
-use Rattle.verdict.specs.Kind.{Active, SameTimestamp, row, actives}
-use Rattle.verdict.specs.CoreAndRound.{coreLayout, roundLayout, coreKind, roundKind, verdictOf}
-use Rattle.verdict.specs.Claims.{Supposed, Claims, Answers, EachActive, Computed, operations, ourRounds}
+use Rattle.verdict.specs.Kind.{Active, SameTimestamp, row, rows, actives, ZeroAt, Values, Lookups, Passes}
+use Rattle.verdict.specs.Kind.{DistinctTimestamps}
+use Rattle.verdict.specs.CoreAndRound.{coreLayout, roundLayout, coreKind, roundKind, verdictAt, verdictOf}
+use Rattle.verdict.specs.Claims.{Supposed, ClaimsAt, Claims, Answers, EachActive, ShortTimestamp, Computed, Addressed}
+use Rattle.verdict.specs.Claims.{operations, ourRounds}
 use Rattle.verdict.specs.Failures.{ToRepeat, ToCoreBalance, RepeatsAt, Says}
 use Rattle.verdict.specs.Honest.{witnessCore, witnessRound}
 use Rattle.verdict.specs.declared.Table.the-variants.{Core, Round}
@@ -62,11 +70,21 @@ use Rattle.verdict.proofs.Demand3.{demand3}
 use Rattle.verdict.proofs.Failures.{timestamp-twice, verdict-says}
 use Rattle.verdict.proofs.Honest.{witness-supposed, witness-holds}
 use Rattle.verdict.proofs.Late.{late-row}
+use Rattle.bus_sums.specs.Buses.{coreLine, roundLine, isWhLine, bitwiseLine, constantLine}
+use Rattle.bus_sums.specs.Sums.{Fillings, bitwiseAt, constantAt, Constrained, SumsHold, Filled, MAX-ROWS}
+use Rattle.bus_sums.proofs.Buses.{core-line, round-line, is-wh-line, bitwise-line, constant-line}
+use Rattle.bus_sums.proofs.Bit.{bit-is}
+use Rattle.bus_sums.proofs.Receipt.{sums-core, sums-answer, sums-verdict, sums-computed, sums-claims, sums-exactly}
+use Rattle.bus_sums.proofs.Receipt.{sums-holds, sums-demand, ours-filled, witness-sums}
+use Rattle.bus_sums_needs.specs.Cancel.{Slips, twoRows, manyRows}
+use Rattle.bus_sums_needs.specs.Forged.{Forgery, bentCore, bentRound}
+use Rattle.bus_sums_needs.proofs.Cancel.{mu-needed, few-needed}
+use Rattle.bus_sums_needs.proofs.ForgedSegment.{twenty-needed}
 use Rattle.op_file.specs.File.{isWhole, addressOf, faultOf, sumsOf, tallyOf}
 use Rattle.op_file.specs.Reader.{fileStart, feedOf, finishOf}
 use Rattle.op_file.proofs.Cases as file
 use Rattle.op_file.proofs.Laws.{reads-pieces}
-use Rattle.judge.proofs.Tied.{Answered, Wrote, holds-answered, ours-written, written-answers}
+use Rattle.judge.proofs.Tied.{Answered, Wrote, answered, holds-answered, ours-written, written-answers}
 
 -- ---- demand 3: "Suppose a core table, whoever filled it, passes its constraints and lookups .."
 -- (verdict/specs/Claims.antt)
@@ -270,6 +288,73 @@ pub case-late : (core round : List ℕ) → ToCoreBalance (coreKind 24) roundKin
     (r i : ℕ) × ((verdictOf core round ≡ Unbalanced Core r i) ⊎ (verdictOf core round ≡ Unbalanced Round r i))
 case-late = late-row 24
 
+-- ---- beyond the demands: the buses as a prover checks them, by sums of multiplicities mod p (bus_sums/specs/Sums.antt).
+-- The sentences are those of docs/WHY.md, 'As a prover checks it'; nr is any number of rounds from 1 to 24.
+module _ (nr : ℕ) (some : 1 ≤ nr) (most : nr ≤ 24) where
+  module _ (core round : List ℕ) (w : Fillings) (others : Bus → List ℕ → ℕ) (h : SumsHold nr core round w others) where
+    -- "Then both tables pass their lookups, and the Keccak bus balances by counting."
+    pub sums-pass : Passes (coreKind nr) core × Answers nr core round
+    sums-pass = (sums-core nr core round w others h, sums-answer nr core round w others h)
+
+    module _ (apart : DistinctTimestamps coreLayout core) where
+      -- "Where timestamps differ the verdict is 'holds', and every active core row is computed, at its addresses."
+      pub sums-right : (verdictAt nr core round ≡ Holds (actives coreLayout core)) × EachActive (λ x. Computed nr x × Addressed x) core
+      sums-right = (sums-verdict nr core round w others h apart, sums-computed nr core round w others h apart some most)
+
+      -- "With demand 3's two bounds all is so that demand 3 claims."
+      pub sums-all : actives coreLayout core ≤ MAX-OPS → EachActive ShortTimestamp core → ClaimsAt nr 4 core
+      sums-all few stamps = sums-claims nr core round w others h apart some most few stamps 4
+
+  -- "Where both tables pass and balance there are fillings, all words below p, for which every sum agrees."
+  pub sums-made : (core round : List ℕ) → rows coreLayout core ≤ MAX-ROWS → rows roundLayout round ≤ MAX-ROWS →
+      Filled nr core round ↔ (Passes (coreKind nr) core × Answers nr core round)
+  sums-made = sums-exactly nr
+
+  -- "For a core table of which its constraints alone are known, a round table and fillings exist exactly when its
+  -- lookups pass and every active row is computed."
+  pub sums-exist : (core : List ℕ) → Constrained (coreKind nr) core → actives coreLayout core ≤ MAX-OPS →
+      DistinctTimestamps coreLayout core → EachActive ShortTimestamp core →
+      ((round : List ℕ) × Filled nr core round) ↔ (Lookups (coreKind nr) core × EachActive (Computed nr) core)
+  sums-exist = sums-demand nr some most
+
+-- who sends and who receives on each bus: the lines of bus_sums/specs/Buses.antt are the sums over the tuples of a row
+module _ (s : Side) (b : Bus) where
+  pub core-row-line : (nr : ℕ) (x : List ℕ) → busSum s b 84 (coreTuple nr 0 x) ≡ coreLine s b (word x 485)
+  core-row-line = core-line s b
+
+  pub round-row-line : (x : List ℕ) → busSum s b 1031 (roundTuple x) ≡ roundLine s b (word x 1479)
+  round-row-line = round-line s b
+
+  pub is-wh-row-line : (x : List ℕ) → busSum s b 5 (isWhTuple x) ≡ isWhLine s b (word x 3)
+  is-wh-row-line = is-wh-line s b
+
+  pub bitwise-row-line : (mu : ℕ → ℕ → ℕ) (i : ℕ) → busSum s b 10 (bitwiseAt mu i) ≡ bitwiseLine s b (mu i)
+  bitwise-row-line = bitwise-line s b
+
+  pub constant-row-line : (mu : ℕ → ℕ) (r : ℕ) → busSum s b 1 (constantAt mu r) ≡ constantLine s b (mu r)
+  constant-row-line = constant-line s b
+
+-- "The written tables of an operation have such fillings."
+pub sums-met : Filled 24 witnessCore witnessRound
+sums-met = witness-sums
+
+-- "MU is 0 or 1": where its value, 51 of a core row and 140 of a round row, is 0, though p is nowhere known to be prime
+pub mu-bit : (r : ℕ) → r < p → isBit r ≡ 0 → r < 2
+mu-bit = bit-is
+
+-- "Without IsB20": a segment that meets all the rest, and whose active core row has a lane elsewhere
+pub without-twenty : (w : Fillings) × Forgery bentCore bentRound w
+without-twenty = twenty-needed
+
+-- "Without a bit for MU": two core rows that cancel on every bus, all values 0 but the second row's 51
+pub without-bit : Slips twoRows ×
+    ((r i : ℕ) → r < 2 → i < 52 → (r ≡ 1 → i ≡ 51 → ⊥) → ZeroAt (coreKind 24) twoRows r i)
+without-bit = mu-needed
+
+-- "With p rows or more": p core rows that cancel on every bus, all values 0
+pub without-few : Slips manyRows × Values (coreKind 24) manyRows
+without-few = few-needed
+
 -- ---- the code's tie to demand 3 (judge/proofs/Tied.antt): `Answered` and `Wrote` are calls, known by their contracts
 -- "Exactly for such a round table the verdict on both tables is 'holds' with the number of active core rows": of what
 -- `verdict` answers
@@ -289,3 +374,27 @@ module _ (core : List ℕ) (supposed : Supposed core) where
       (v : Verdict) → Answered core after v →
       Answers 24 core after × (v ≡ Holds (actives coreLayout core))
   code-answers = written-answers core supposed
+
+  -- "The round table that the writer makes has fillings too."
+  pub code-filled : rows coreLayout core ≤ MAX-ROWS → EachActive (Computed 24) core →
+      (before after : List ℕ) → length before ≡ length (ourRounds 24 4 core) → Wrote (operations core) before after →
+      Filled 24 core after
+  code-filled few right before after e w =
+      let c = supposed .passes in
+      subst (Filled 24 core) (sym (ours-written core supposed before after e w))
+      (ours-filled 24 (omega arith) (omega arith) core
+      (record { whole = c .whole; below = c .below; values = c .values; few = few })
+      (supposed .few) (supposed .apart) (supposed .stamps) (c .lookups) right)
+
+-- "The call `verdict` answers 'holds' exactly where there are such fillings and timestamps differ": of what it answers, on
+-- tables of at most 2^35 rows each
+pub code-sums : (core round : List ℕ) → rows coreLayout core ≤ MAX-ROWS → rows roundLayout round ≤ MAX-ROWS →
+    (v : Verdict) → Answered core round v →
+    (v ≡ Holds (actives coreLayout core)) ↔ (Filled 24 core round × DistinctTimestamps coreLayout core)
+code-sums core round few-core few-round v a =
+    let e = sums-holds 24 core round few-core few-round in ((λ h. e .1 (sym (answered a) ∙ h)), λ f. answered a ∙ e .0 f)
+
+-- and it answers 'holds' where the sums agree and timestamps differ, whatever else is sent by other tables
+pub code-sums-hold : (core round : List ℕ) (w : Fillings) (others : Bus → List ℕ → ℕ) → SumsHold 24 core round w others →
+    DistinctTimestamps coreLayout core → (v : Verdict) → Answered core round v → v ≡ Holds (actives coreLayout core)
+code-sums-hold core round w others h apart v a = answered a ∙ sums-verdict 24 core round w others h apart
