@@ -8,13 +8,14 @@
 --     is-refused, is-done       what an answer that another function gave says of the checks
 --     passed-if, passed-at      what an accepted call knows of a check, and of those after it
 --     sets-overwrite            words stored one by one from the front
-use Prim.Native.Nat.{ℕ, _≤_}
+--     new-word, new-words, old-words   what an accepted call leaves, word by word
+use Prim.Native.Nat.{ℕ, _≤_, _<_}
 use mathlib.Core.Path.{_≡_, refl, ap}
 use mathlib.Core.Bool.{Bool, true, false}
 use mathlib.Core.Option.{Option, none, some}
 use mathlib.Core.List.{List}
-use lib.ListN.{length}
-use lib.Seq.{sets}
+use lib.ListN.{length, take, drop, getD, List·getD-append}
+use lib.Seq.{sets, take-append-seam, drop-append-seam}
 use Rattle.lists.proofs.Laws.{sets-front}
 use Rattle.answer.specs.Refusal.{refuseIf, refuseAt, answerOf, numberOf, overwrite, afterwards}
 use Rattle.answer.specs.declared.Refusal.{Refusal}
@@ -107,3 +108,18 @@ passed-at (some k) f later e = (cc, cc)
 pub sets-overwrite : (old new : List ℕ) → length new ≤ length old → sets old 0 new ≡ overwrite new old
 unfolding overwrite
 sets-overwrite old new h = sets-front old new (length new) refl h
+
+-- ---- what an accepted call leaves: the new words, and past them the old ones
+
+module _ {o : Option Refusal} (new old : List ℕ) (passed : o ≡ none) where
+  pub new-word : (k : ℕ) → k < length new → getD (afterwards o (overwrite new old) old) k 0 ≡ getD new k 0
+  unfolding afterwards overwrite
+  new-word k l = rw passed (List·getD-append new (drop (length new) old) 0 k l)
+
+  pub new-words : take (length new) (afterwards o (overwrite new old) old) ≡ new
+  unfolding afterwards overwrite
+  new-words = rw passed (take-append-seam new (drop (length new) old))
+
+  pub old-words : drop (length new) (afterwards o (overwrite new old) old) ≡ drop (length new) old
+  unfolding afterwards overwrite
+  old-words = rw passed (drop-append-seam new (drop (length new) old))

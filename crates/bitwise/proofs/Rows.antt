@@ -2,6 +2,7 @@
 -- plain conditions on the numbers.
 use mathlib.Core.Path.{_≡_, refl, sym, ap, _∙_}
 use mathlib.Core.Bool.{Bool, true, _&&_}
+use mathlib.Core.List.{List}
 use Prim.Native.Nat.{ℕ, zero, suc, _+_, _*_, _/_, _%_, _^_, _≤_, _<_}
 use native.Mathlib.Nat.{div-add-mod', mod-lt, zero-lt-suc}
 use native.Mathlib.Omega.{arith}
@@ -9,8 +10,10 @@ use borrow.Author.Tests.{le-leb, lt-leb, ne-eqb}
 use lib.Dec.{leb, eqb}
 use Rattle.lists.specs.Tab.{word, pick}
 use Rattle.lists.proofs.Then.{by-le, at-three}
+use Rattle.answer.specs.Refusal.{accepted}
+use Rattle.answer.proofs.Laws.{new-word}
 use Rattle.bitwise.specs.Columns.{NUM-ROWS, X, Y, Z, MSB8, MSB16, ZERO, SLL, SLLC}
-use Rattle.bitwise.specs.Row.{rowOfXYZ, bitwiseRow, row-index}
+use Rattle.bitwise.specs.Row.{rowOfXYZ, bitwiseRow, row-index, bitwiseRowRefusal, bitwiseRowAfter}
 
 -- the row of X, Y and Z stands at its index
 pub row-of-index : (x y z : ℕ) → x < 256 → y < 256 → z < 16 → bitwiseRow (row-index x y z) ≡ rowOfXYZ x y z
@@ -21,6 +24,14 @@ row-of-index x y z hx hy hz = at-three rowOfXYZ (omega arith) (omega arith) (ome
 pub index-of-row : (i : ℕ) → i < NUM-ROWS → row-index (word (bitwiseRow i) X) (word (bitwiseRow i) Y) (word (bitwiseRow i) Z) ≡ i
 unfolding bitwiseRow rowOfXYZ
 index-of-row i h = omega arith
+
+-- and that is so of what `generate_bitwise_row` leaves, where it is accepted
+pub index-left : (i : ℕ) (row : List ℕ) → bitwiseRowRefusal i row ≡ accepted → i < NUM-ROWS
+    → row-index (word (bitwiseRowAfter i row) X) (word (bitwiseRowAfter i row) Y) (word (bitwiseRowAfter i row) Z) ≡ i
+unfolding bitwiseRow rowOfXYZ
+index-left i row passed h =
+    (λ t. row-index (new-word (bitwiseRow i) row passed X (omega arith) t) (new-word (bitwiseRow i) row passed Y (omega arith) t) (new-word (bitwiseRow i) row passed Z (omega arith) t))
+    ∙ index-of-row i h
 
 -- a bit from a test
 high : (top x : ℕ) → (top ≤ x → x / top % 2 ≡ 1) → (x < top → x / top % 2 ≡ 0) → x / top % 2 ≡ pick (leb top x) 1 0

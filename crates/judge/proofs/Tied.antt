@@ -7,11 +7,12 @@
 -- their lifetimes, and where in memory they are, may be any.
 use mathlib.Core.Path.{_≡_, refl, sym, ap, ap₂, subst, _∙_}
 use mathlib.Core.Logic.{_↔_}
-use mathlib.Core.List.{List, [], _++_, append-nil}
+use mathlib.Core.List.{List, [], _++_}
 use mathlib.Core.Option.{Option}
 use Prim.Native.Nat.{ℕ, _*_, _≤_}
 use native.Mathlib.Omega.{arith}
-use lib.ListN.{length, drop-of-length-le}
+use lib.ListN.{length, take, drop}
+use lib.Seq.{take-append-seam, drop-append-seam}
 use contract.Lifetimes.{Lfts}
 use denote.Triple.Clauses.{AtExit}
 use borrow.Fn.Kinds.{Dens, endedOf}
@@ -85,11 +86,6 @@ some-wrote ops before =
       says = (refl, refl);
     }
 
--- new words over a slice that is as long as they are
-whole : (new old : List ℕ) → length old ≡ length new → overwrite new old ≡ new
-unfolding overwrite
-whole new old e = ap (λ (l : List ℕ). new ++ l) (drop-of-length-le old {i = length new} (omega arith)) ∙ append-nil new
-
 module _ (core : List ℕ) (supposed : Supposed core) where
   abbrev claims : Claims core
   claims = demand3 core supposed
@@ -104,20 +100,24 @@ module _ (core : List ℕ) (supposed : Supposed core) where
   pub number-answered : (round : List ℕ) (v : Verdict) (n : ℕ) → Answered core round v → v ≡ Holds n → n ≡ actives coreLayout core
   number-answered round v n a e = claims .number round n (sym (answered a) ∙ e)
 
-  -- the writer, called with the active core rows as operations and a table as long as ours, writes our table
-  pub ours-written : (before after : List ℕ) → length before ≡ length (ourRounds 24 4 core) → Wrote (operations core) before after →
-      after ≡ ourRounds 24 4 core
-  unfolding roundTraceRefusal afterwards ourRounds roundTable
+  -- the writer, called with the active core rows as operations and a slice that our table fits, writes our table at its
+  -- front and keeps the words past it
+  pub ours-written : (before after : List ℕ) → length (ourRounds 24 4 core) ≤ length before → Wrote (operations core) before after →
+      (take (length (ourRounds 24 4 core)) after ≡ ourRounds 24 4 core)
+      × (drop (length (ourRounds 24 4 core)) after ≡ drop (length (ourRounds 24 4 core)) before)
+  unfolding roundTraceRefusal afterwards overwrite ourRounds roundTable
   ours-written before after e w =
       let h : ℕ = roundHeight 24 4 (opCount (operations core)) in
       let n : h * 1480 ≤ length before = omega (arith, e, length-table h 1480 (roundRowAt 24 (opCount (operations core)) (opAt (operations core)))) in
-      wrote w
-      ∙ ap (λ (o : Option Refusal). afterwards o (overwrite (ourRounds 24 4 core) before) before) (claims .none-refused (length before) _ n)
-      ∙ whole (ourRounds 24 4 core) before e
+      let o : List ℕ = ourRounds 24 4 core in
+      let q : after ≡ o ++ drop (length o) before = wrote w ∙ ap (λ (r : Option Refusal). afterwards r (overwrite o before) before) (claims .none-refused (length before) _ n) in
+      (ap (take (length o)) q ∙ take-append-seam o (drop (length o) before), ap (drop (length o)) q ∙ drop-append-seam o (drop (length o) before))
 
   -- and where every active core row is computed, that table answers, and on it the verdict holds
-  pub written-answers : EachActive (Computed 24) core → (before after : List ℕ) → length before ≡ length (ourRounds 24 4 core) →
-      Wrote (operations core) before after → (v : Verdict) → Answered core after v → Answers 24 core after × (v ≡ Holds (actives coreLayout core))
+  pub written-answers : EachActive (Computed 24) core → (before after : List ℕ) → length (ourRounds 24 4 core) ≤ length before →
+      Wrote (operations core) before after → (v : Verdict) → Answered core (take (length (ourRounds 24 4 core)) after) v →
+      Answers 24 core (take (length (ourRounds 24 4 core)) after) × (v ≡ Holds (actives coreLayout core))
   written-answers each before after e w v a =
-      let h : Answers 24 core after = subst (Answers 24 core) (sym (ours-written before after e w)) (claims .ours each) in
-      (h, holds-answered after v a .1 h)
+      let t : List ℕ = take (length (ourRounds 24 4 core)) after in
+      let h : Answers 24 core t = subst (Answers 24 core) (sym (ours-written before after e w .0)) (claims .ours each) in
+      (h, holds-answered t v a .1 h)

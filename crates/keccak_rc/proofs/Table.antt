@@ -7,15 +7,17 @@ use native.Mathlib.Nat.{not-suc-le-zero}
 use native.Mathlib.Numerals.{add-one}
 use native.Mathlib.Omega.{arith}
 use borrow.Author.Tests.{lt-ltb, le-ltb}
-use lib.ListN.{length, getD, set, length-set, length-append}
+use lib.ListN.{length, getD, set, length-set, length-append, List·getD-append}
 use lib.Seq.{getD-set-same, getD-set-other}
 use Rattle.lists.specs.Tab.{pick, rowAt}
-use Rattle.lists.proofs.Laws.{length-table, rowAt-table}
+use Rattle.lists.proofs.Laws.{length-table, rowAt-table, word-rowAt}
 use Rattle.lists.proofs.Then.{by-le}
+use Rattle.answer.specs.Refusal.{accepted, afterwards}
+use Rattle.answer.proofs.Laws.{new-word}
 use Rattle.keccak_rc.specs.Columns.{MU, NUM-COLUMNS, NUM-REAL-ROWS, NUM-ROWS, NUM-PRECOMPUTED-COLS, TABLE-WORDS}
-use Rattle.keccak_rc.specs.Row.{rcRow}
-use Rattle.keccak_rc.specs.Table.{rcTable, withMu, timesLookedUp, updated}
-use Rattle.keccak_rc.proofs.Found.{rc-length}
+use Rattle.keccak_rc.specs.Row.{rcRow, rcRowRefusal, rcRowAfter}
+use Rattle.keccak_rc.specs.Table.{rcTable, withMu, timesLookedUp, updated, rcTraceRefusal, rcTraceAfter, updateRefusal, updateAfter}
+use Rattle.keccak_rc.proofs.Found.{rc-length, rc-round}
 
 -- ---- MU of the rows below m
 
@@ -90,6 +92,15 @@ module _ (nr n : ℕ) (table : List ℕ) where
   unfolding updated
   updated-fixed r k h = withMu-other (timesLookedUp nr n) NUM-REAL-ROWS table (r * NUM-COLUMNS + k) (λ q l e. omega arith)
 
+-- "`update_multiplicities` there sets MU of rounds 0 to 23 to the operation count": in what the call leaves, where it is
+-- accepted
+pub update-sets : (table : List ℕ) (n : ℕ) → updateRefusal table n ≡ accepted → 320 ≤ length table → (r : ℕ) → r < 24
+    → getD (updateAfter table n) (10 * r + 9) 0 ≡ n
+unfolding afterwards
+update-sets table n passed h r l =
+    let e : 10 * r + 9 ≡ r * NUM-COLUMNS + MU = omega arith in
+    rw passed (ap (λ (k : ℕ). getD (updated 24 n table) k 0) e ∙ updated-used 24 n table h r (omega arith) l)
+
 -- ---- the table as it is generated
 
 pub length-rcTable : length rcTable ≡ TABLE-WORDS
@@ -103,3 +114,16 @@ row-long r mu = length-append (rcRow r) (mu ∷ []) ∙ ap (λ (k : ℕ). k + 1)
 pub rcTable-row : (r : ℕ) → r < NUM-ROWS → rowAt NUM-COLUMNS rcTable r ≡ rcRow r ++ (0 ∷ [])
 unfolding rcTable
 rcTable-row r h = rowAt-table NUM-ROWS NUM-COLUMNS (λ r. rcRow r ++ (0 ∷ [])) r h (row-long r 0)
+
+-- ---- what the calls leave, where they are accepted: word 0 of a row is its number
+
+pub row-numbered : (r : ℕ) (out : List ℕ) → rcRowRefusal r out ≡ accepted → getD (rcRowAfter r out) 0 0 ≡ r
+row-numbered r out passed = new-word (rcRow r) out passed 0 (omega (arith, rc-length r)) ∙ rc-round r
+
+pub rows-numbered : (table : List ℕ) → rcTraceRefusal table ≡ accepted → (r : ℕ) → r < 32 → getD (rcTraceAfter table) (10 * r) 0 ≡ r
+rows-numbered table passed r l =
+    let e : r * NUM-COLUMNS + 0 ≡ 10 * r = omega arith in
+    new-word rcTable table passed (10 * r) (omega (arith, length-rcTable))
+    ∙ ap (λ (k : ℕ). getD rcTable k 0) (sym e) ∙ sym (word-rowAt NUM-COLUMNS rcTable r 0 (omega arith))
+    ∙ ap (λ (x : List ℕ). getD x 0 0) (rcTable-row r l)
+    ∙ List·getD-append (rcRow r) (0 ∷ []) 0 0 (omega (arith, rc-length r)) ∙ rc-round r

@@ -15,6 +15,7 @@ use lib.ListN.{length, take, drop, getD, take-append-drop, length-take, length-d
 use lib.Seq.{take-all, take-take, drop-drop}
 use borrow.Author.Tests.{lt-ltb, le-ltb, le-leb, lt-leb, eq-eqb, ne-eqb, leb-true, leb-false}
 use Rattle.lists.specs.Tab.{pick, word}
+use Rattle.lists.proofs.Tests.{true-not-false}
 use Rattle.lists.proofs.Then.{by-le}
 use Rattle.bits.specs.Bits.{pack}
 use Rattle.bits.proofs.Bytes.{pack-by, pack-part, pack-cons}
@@ -23,8 +24,8 @@ use Rattle.answer.specs.Refusal.{refuseIf}
 use Rattle.answer.specs.declared.Refusal.{Refusal}
 use Rattle.answer.specs.declared.Refusal.the-variants.{PastEnd, HighAddress, BadRecord}
 use Rattle.keccak.specs.Row.{LAST-ADDRESS, opAt}
-use Rattle.op_file.specs.File.{split, recordsOf, fileWords, isWhole, recordWord, faultOf, firstFault, unless, tallyOf}
-use Rattle.op_file.specs.Reader.{wrong, inAddress, shifted, stepOf, feedOf, fileStart, countsOf, finishOf, after, Advanced}
+use Rattle.op_file.specs.File.{RECORD-BYTES, split, recordsOf, fileWords, isWhole, recordWord, faultOf, firstFault, unless, tallyOf}
+use Rattle.op_file.specs.Reader.{wrong, inAddress, shifted, stepOf, feedOf, fileStart, isRefused, countsOf, finishOf, after, Advanced}
 use Rattle.op_file.specs.declared.Cursor.{Cursor}
 use Rattle.op_file.specs.declared.Cursor.the-variants.{Reading, Refused}
 use Rattle.op_file.specs.declared.Sums.{Sums}
@@ -354,10 +355,18 @@ unfolding feedOf
 stand-feed c [] k p = rw add-zero p
 stand-feed c (b ∷ s) k p = let e : k + suc (length s) ≡ k + 1 + length s = omega arith in rw e (stand-feed (stepOf c b) s (k + 1) (stand-step c b k p))
 
--- past the MAX-OPS bytes of a file a reader has refused it
-pub refused-past : (s : List ℕ) → 37402006730 < length s → (r : Refusal) × (feedOf fileStart s ≡ Refused r)
-refused-past s l = by (feedOf fileStart s) refl (stand-feed fileStart s 0 (omega arith, omega arith, omega arith))
+-- how many bytes a reader may be given until it refuses the file
+abbrev pub bytesLeft : Cursor → ℕ
+bytesLeft (Refused r) = 0
+bytesLeft (Reading n at a) = MAX-OPS * RECORD-BYTES + 1 - (RECORD-BYTES * n + at)
+
+-- every byte that is not refused brings a reader nearer to that
+pub fewer-left : (file piece : List ℕ) → 0 < length piece → isRefused (feedOf (feedOf fileStart file) piece) ≡ false → bytesLeft (feedOf (feedOf fileStart file) piece) < bytesLeft (feedOf fileStart file)
+fewer-left file piece l g =
+    let s = stand-feed fileStart file 0 (omega arith, omega arith, omega arith) in
+    by (feedOf fileStart file) (feedOf (feedOf fileStart file) piece) refl s (stand-feed (feedOf fileStart file) piece (0 + length file) s) g
   where
-    by : (c : Cursor) → feedOf fileStart s ≡ c → Stand c (0 + length s) → (r : Refusal) × (feedOf fileStart s ≡ Refused r)
-    by (Refused r) e p = (r, e)
-    by (Reading n at a) e p = absurd (omega arith)
+    by : (c d : Cursor) → feedOf c piece ≡ d → Stand c (0 + length file) → Stand d (0 + length file + length piece) → isRefused d ≡ false → bytesLeft d < bytesLeft c
+    by c (Refused r) e p q g = absurd (true-not-false g)
+    by (Refused r) (Reading n at a) e p q g = absurd (true-not-false (ap isRefused (sym (feed-refused r piece) ∙ e)))
+    by (Reading m bt b) (Reading n at a) e p q g = omega arith

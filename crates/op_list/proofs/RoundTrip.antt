@@ -13,10 +13,12 @@ use lib.Seq.{getD-drop, getD-take, drop-drop}
 use Rattle.lists.specs.Tab.{cellsOf, tab, tableOf, word}
 use Rattle.lists.proofs.Laws.{getD-tab, tab-same, list-tab, table-at}
 use Rattle.bits.proofs.Bytes.{lane-of-bytes}
+use Rattle.answer.specs.Refusal.{accepted}
+use Rattle.answer.proofs.Laws.{new-words}
 use Rattle.op_file.specs.File.{split, recordsOf, recordWord, operationWords, fileWords, isWhole, faultOf, firstFault}
 use Rattle.op_list.specs.Record.{recordBytes, wordsFrom, Record}
 use Rattle.op_list.proofs.RecordAgain.{word-of, written-byte, record-same, word-first, bytes-again}
-use Rattle.op_list.specs.Files.{fileBytes}
+use Rattle.op_list.specs.Files.{readRefusal, readAfter, fileBytes, writeRefusal, writeAfter}
 use Rattle.op_list.proofs.Files.{file-length, words-length, file-whole, fault-whole}
 
 -- a list of n times 418 bytes has n records
@@ -65,6 +67,11 @@ module _ (ops : List ℕ) (whole : length ops % 52 ≡ 0) (small : (k : ℕ) →
           getD-tab 52 (recordWord (drop (k / 52 * 418) (fileBytes ops))) (k % 52) 0 (omega arith)
           ∙ word-at (k / 52) (k % 52) (omega arith) (omega arith)
           ∙ ap (word ops) e
+
+  -- of what `write_operations` leaves, where it is accepted
+  pub list-left : (file : List ℕ) → writeRefusal (length file) ops ≡ accepted → fileWords (take (opCount ops * 418) (writeAfter ops file)) ≡ ops
+  list-left file passed =
+      ap fileWords (subst (λ (n : ℕ). take n (writeAfter ops file) ≡ fileBytes ops) (file-length ops) (new-words (fileBytes ops) file passed)) ∙ list-again
 
 -- each record of a file without a fault is whole
 split-at : (k i at m : ℕ) (s : List ℕ) → length s ≤ k → firstFault i at (split k s) ≡ none → m < length (split k s)
@@ -126,3 +133,8 @@ module _ (file : List ℕ) (right : firstFault 0 0 (recordsOf file) ≡ none) (s
           ∙ getD-take 418 (drop (k / 418 * 418) file) (k % 418) 0 (omega arith)
           ∙ getD-drop (k / 418 * 418) file (k % 418) 0
           ∙ ap (word file) e
+
+  -- of what `read_operations` leaves, where it is accepted
+  pub file-left : (ops : List ℕ) → readRefusal file (length ops) ≡ accepted → fileBytes (take (length (recordsOf file) * 52) (readAfter file ops)) ≡ file
+  file-left ops passed =
+      ap fileBytes (subst (λ (n : ℕ). take n (readAfter file ops) ≡ fileWords file) (words-length file) (new-words (fileWords file) ops passed)) ∙ file-again

@@ -18,7 +18,7 @@ use Prim.Native.Nat.{ℕ, suc, _+_, _*_, _/_, _%_, _^_, _≤_, _<_}
 use native.Mathlib.Nat.{zero-div}
 use native.Mathlib.Omega.{arith}
 use lib.Dec.{ltb}
-use lib.ListN.{length, replicate}
+use lib.ListN.{length, take, drop, replicate}
 use Rattle.lists.specs.Tab.{word, rowAt}
 use Rattle.lists.specs.First.{countBelow}
 use Rattle.field.specs.Field.{p, INV-SHIFT-32}
@@ -39,7 +39,7 @@ use Rattle.bitwise.specs.Columns.{SLL, SLLC}
 use Rattle.bitwise.specs.Row.{bitwiseRow}
 use Rattle.bitwise.proofs.Cases.{row-0, row-266804, row-1048575}
 use Rattle.is_wh.specs.Tuples.{isWhTuple}
-use Rattle.keccak.specs.Row.{stateLanes}
+use Rattle.keccak.specs.Row.{stateLanes, corePointer}
 use Rattle.keccak.specs.Tuples.{coreTuple}
 use Rattle.keccak.specs.Refusals.{Acceptable, operationsRefusal}
 use Rattle.keccak.specs.declared.KeccakOperation.{KeccakOperation}
@@ -62,13 +62,14 @@ use Rattle.verdict.specs.CoreAndRound.{coreLayout, roundLayout, coreKind, round
 use Rattle.verdict.specs.Claims.{Supposed, ClaimsAt, Claims, Answers, EachActive, ShortTimestamp, Computed, Addressed}
 use Rattle.verdict.specs.Claims.{operations, ourRounds}
 use Rattle.verdict.specs.Failures.{ToRepeat, ToCoreBalance, RepeatsAt, Says}
-use Rattle.verdict.specs.Honest.{witnessCore, witnessRound}
+use Rattle.verdict.specs.Honest.{witness, lastWitness, oneCore, oneRound, exchangedCore, exchangedRound, lateRound}
 use Rattle.verdict.specs.declared.Table.the-variants.{Core, Round}
 use Rattle.verdict.specs.declared.Verdict.{Verdict}
 use Rattle.verdict.specs.declared.Verdict.the-variants.{Holds, Repeated, Unbalanced}
-use Rattle.verdict.proofs.Demand3.{demand3}
+use Rattle.verdict.proofs.Demand3.{demand3, lane-below}
 use Rattle.verdict.proofs.Failures.{timestamp-twice, verdict-says}
-use Rattle.verdict.proofs.Honest.{witness-supposed, witness-holds}
+use Rattle.verdict.proofs.Honest.{witness-right, last-right, one-supposed, one-holds}
+use Rattle.verdict.proofs.Instances.{exchanged-named, late-unbalanced}
 use Rattle.verdict.proofs.Late.{late-row}
 use Rattle.bus_sums.specs.Buses.{coreLine, roundLine, isWhLine, bitwiseLine, constantLine}
 use Rattle.bus_sums.specs.Sums.{Fillings, bitwiseAt, constantAt, Constrained, SumsHold, Filled, MAX-ROWS}
@@ -92,11 +93,20 @@ pub the-demand : (core : List ℕ) → Supposed core → Claims core
 the-demand = demand3
 
 -- what it supposes is met by a core table with an active row, and the verdict on written tables does hold
-pub some-supposed : Supposed witnessCore
-some-supposed = witness-supposed
+pub some-supposed : Supposed (oneCore witness)
+some-supposed = one-supposed witness witness-right
 
-pub some-hold : verdictOf witnessCore witnessRound ≡ Holds 1
-some-hold = witness-holds
+pub some-hold : verdictOf (oneCore witness) (oneRound witness) ≡ Holds 1
+some-hold = one-holds witness witness-right
+
+-- also at the last timestamp and at the highest address that is accepted and a multiple of 8
+pub last-hold : verdictOf (oneCore lastWitness) (oneRound lastWitness) ≡ Holds 1
+last-hold = one-holds lastWitness last-right
+
+-- "below 2^64"
+pub lanes-below : (core : List ℕ) → Supposed core → (r i : ℕ) → Active coreLayout core r → i < 25 →
+    corePointer (row coreLayout core r) i < 18446744073709551616
+lanes-below = lane-below
 
 -- "the first failure in this order .. lowest row, then lowest index": the verdict is an answer exactly where `Says`
 -- (verdict/specs/Failures.antt) has it
@@ -267,6 +277,10 @@ pub case-timestamp : (core round : List ℕ) → ToRepeat (coreKind 24) roundKin
     (s : ℕ) × (s ≤ r) × RepeatsAt coreLayout core s × (verdictOf core round ≡ Repeated s)
 case-timestamp = timestamp-twice (coreKind 24) roundKind
 
+-- and two such rows, of the zero state and of 25 lanes of 1
+pub case-exchanged : verdictOf exchangedCore exchangedRound ≡ Repeated 1
+case-exchanged = exchanged-named
+
 -- "A row with ROUND 24, zero constant and MU 1 passes its values and lookups, ..": that of any START
 pub case-late-passes : (stamp : ℕ → ℕ) (s : List ℕ) → Lanes s →
     RoundPasses (roundRow stamp 24 s)
@@ -287,6 +301,12 @@ pub case-late : (core round : List ℕ) → ToCoreBalance (coreKind 24) roundKin
     24 ≤ word (row roundLayout round q) ROUND →
     (r i : ℕ) × ((verdictOf core round ≡ Unbalanced Core r i) ⊎ (verdictOf core round ≡ Unbalanced Round r i))
 case-late = late-row 24
+
+-- and such a row after an honest round table
+pub case-late-row :
+    (r i : ℕ)
+    × ((verdictOf (oneCore witness) lateRound ≡ Unbalanced Core r i) ⊎ (verdictOf (oneCore witness) lateRound ≡ Unbalanced Round r i))
+case-late-row = late-unbalanced
 
 -- ---- beyond the demands: the buses as a prover checks them, by sums of multiplicities mod p (bus_sums/specs/Sums.antt).
 -- The sentences are those of docs/WHY.md, 'As a prover checks it'; nr is any number of rounds from 1 to 24.
@@ -363,16 +383,19 @@ module _ (core : List ℕ) (supposed : Supposed core) where
       (v ≡ Holds (actives coreLayout core)) ↔ Answers 24 core round
   code-holds = holds-answered core supposed
 
-  -- "the table our writer makes from the active core rows is one of them": of what `generate_keccak_rnd_trace` writes
-  pub code-writes : (before after : List ℕ) → length before ≡ length (ourRounds 24 4 core) →
-      Wrote (operations core) before after →
-      after ≡ ourRounds 24 4 core
+  -- "the table our writer makes from the active core rows is one of them": of what `generate_keccak_rnd_trace` writes at
+  -- the front of a slice that may be longer; "words past that untouched"
+  abbrev size : ℕ
+  size = length (ourRounds 24 4 core)
+
+  pub code-writes : (before after : List ℕ) → size ≤ length before → Wrote (operations core) before after →
+      (take size after ≡ ourRounds 24 4 core) × (drop size after ≡ drop size before)
   code-writes = ours-written core supposed
 
   pub code-answers : EachActive (Computed 24) core →
-      (before after : List ℕ) → length before ≡ length (ourRounds 24 4 core) → Wrote (operations core) before after →
-      (v : Verdict) → Answered core after v →
-      Answers 24 core after × (v ≡ Holds (actives coreLayout core))
+      (before after : List ℕ) → size ≤ length before → Wrote (operations core) before after →
+      (v : Verdict) → Answered core (take size after) v →
+      Answers 24 core (take size after) × (v ≡ Holds (actives coreLayout core))
   code-answers = written-answers core supposed
 
   -- "The round table that the writer makes has fillings too."

@@ -37,6 +37,13 @@ module _ (r i : ℕ) where
   pub round-unbalanced-words : verdictWords (Unbalanced Round r i) ≡ 6 ∷ 1 ∷ r ∷ i ∷ []
   round-unbalanced-words = refl
 
+-- "A refusal has 7, its number and its detail": 2, detail 0 core, 1 round; 5, detail the word's place
+pub not-whole-words : (d : ℕ) → verdictWords (Refused (NotWhole d)) ≡ 7 ∷ 2 ∷ d ∷ 0 ∷ []
+not-whole-words d = refl
+
+pub not-element-words : (k : ℕ) → verdictWords (Refused (NotElement k)) ≡ 7 ∷ 5 ∷ k ∷ 0 ∷ []
+not-element-words k = refl
+
 -- ---- from the words back to the verdict
 tableFrom : ℕ → Table
 tableFrom zero = Core

@@ -3,11 +3,12 @@
 //! `rows` compares rows, tables, keys, counters and refusals, `values` the constraint values of core and round rows and
 //! `tuples` their tuples. `verdicts` holds the verdict against `judge`, a judge of its own, on the tables of `dishonest`. `tally`
 //! reads operation files, `limit` the longest ones, and `refusals` has the table of what each call refuses. A further area is a
-//! module beside them and a name in `bin/differential.rs`.
+//! module beside them and a name in `bin/differential.rs`. `cases` has the small tables of the program `verdict_cases`.
 
 #![deny(unsafe_code)]
 #![warn(missing_docs)]
 
+pub mod cases;
 pub mod comparison;
 pub mod dishonest;
 pub mod evaluated;

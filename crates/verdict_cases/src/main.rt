@@ -1,0 +1,185 @@
+// Prints what the verdict says of small tables, which the proved writers make for two operations and of which some are
+// then damaged: a line for each, with its name and the verdict's four words. The file `stdout` has the same lines from
+// another judge, over the tables of the published Rust.
+use judge::verdict;
+use judge_words::verdict_words;
+use keccak_rnd::CHI;
+use keccak_rnd::IOTA;
+use keccak_rnd::MU;
+use keccak_rnd::NUM_COLUMNS;
+use keccak_rnd::RC;
+use keccak_rnd::ROUND;
+use keccak_rnd_trace::generate_keccak_rnd_trace;
+use keccak_trace::generate_keccak_trace;
+use libc::STDOUT_FILENO;
+use lists::put_words;
+use permutation::State;
+ghost use mathlib.Core.Path.{_≡_};
+ghost use Prim.Native.Nat.{_+_, _≤_, _<_};
+ghost use lib.ListN.{length};
+
+// The first timestamp: 5, and 7 above 2^32.
+const STAMP: u64 = 30064771077;
+
+// A multiple of 8; the pointers from it on cross from one limb into the next.
+const ADDRESS: u64 = 140737488355136;
+
+// p, the first word that is no field element.
+const P: u64 = 18446744069414584321;
+
+fn print_next(n: u64) {
+    io::write_all(STDOUT_FILENO, b" ");
+    io::print_decimal(STDOUT_FILENO, n);
+}
+
+fn print_words(words: [u64; 4]) {
+    print_next(words[0]);
+    print_next(words[1]);
+    print_next(words[2]);
+    print_next(words[3]);
+    io::write_all(STDOUT_FILENO, b"\n");
+}
+
+fn print_case(name: &[u8], core: &[u64], round: &[u64]) {
+    io::write_all(STDOUT_FILENO, name);
+    print_words(verdict_words(verdict(core, round)));
+}
+
+fn permuted(input: [u64; 25]) -> [u64; 25] {
+    let output = State { lanes: input }.keccak_f();
+    output.lanes
+}
+
+// The 52 words of an operation from `at` on.
+fn put_operation(ops: &mut [u64], at: usize, head: [u64; 2], input: [u64; 25], output: [u64; 25])
+    requires { ⌜ at + 52 ≤ length (now ops) ⌝ }
+{
+    put_words(ops, at, &head, 2);
+    put_words(ops, at + 2, &input, 25);
+    put_words(ops, at + 27, &output, 25);
+}
+
+// Two operations, the second at a timestamp and an address, with their outputs or with these exchanged. Their inputs are
+// the zero state permuted once and twice.
+fn put_operations(ops: &mut [u64], head: [u64; 2], exchanged: bool)
+    requires { ⌜ 104 ≤ length (now ops) ⌝ }
+{
+    let input = permuted([0u64; 25]);
+    let middle = permuted(input);
+    let last = permuted(middle);
+    if exchanged {
+        put_operation(ops, 0, [STAMP, 4096], input, last);
+        put_operation(ops, 52, head, middle, middle);
+    } else {
+        put_operation(ops, 0, [STAMP, 4096], input, middle);
+        put_operation(ops, 52, head, middle, last);
+    }
+}
+
+fn write_tables(core: &mut [u64], round: &mut [u64], head: [u64; 2], exchanged: bool) {
+    let mut ops = [0u64; 104];
+    put_operations(&mut ops, head, exchanged);
+    generate_keccak_trace(&ops, core);
+    generate_keccak_rnd_trace(&ops, round);
+}
+
+fn print_written(name: &[u8], head: [u64; 2], exchanged: bool) {
+    let mut core = [0u64; 1944];
+    let mut round = [0u64; 94720];
+    write_tables(&mut core, &mut round, head, exchanged);
+    print_case(name, &core, &round);
+}
+
+// With another word in the core table.
+fn print_core(name: &[u8], at: usize, word: u64)
+    requires { ⌜ at < 1944 ⌝ }
+{
+    let mut core = [0u64; 1944];
+    let mut round = [0u64; 94720];
+    write_tables(&mut core, &mut round, [STAMP + 1, ADDRESS], false);
+    core[at] = word;
+    print_case(name, &core, &round);
+}
+
+// With another word in the round table.
+fn print_round(name: &[u8], at: usize, word: u64)
+    requires { ⌜ at < 94720 ⌝ }
+{
+    let mut core = [0u64; 1944];
+    let mut round = [0u64; 94720];
+    write_tables(&mut core, &mut round, [STAMP + 1, ADDRESS], false);
+    round[at] = word;
+    print_case(name, &core, &round);
+}
+
+// Only the first n words of a core table and the first m of a round table.
+fn print_first(name: &[u8], core: &[u64], n: usize, round: &[u64], m: usize)
+    requires { ⌜ (n ≤ length (now core)) × (m ≤ length (now round)) ⌝ }
+{
+    print_case(name, &core[..n], &round[..m]);
+}
+
+fn print_cut(name: &[u8], n: usize, m: usize)
+    requires { ⌜ (n ≤ 1944) × (m ≤ 94720) ⌝ }
+{
+    let mut core = [0u64; 1944];
+    let mut round = [0u64; 94720];
+    write_tables(&mut core, &mut round, [STAMP + 1, ADDRESS], false);
+    print_first(name, &core, n, &round, m);
+}
+
+// "A row with ROUND 24, zero constant and MU 1": row 0 with another ROUND, and with its constant taken out.
+fn put_late_row(row: &mut [u64], first: &[u64])
+    requires { ⌜ (length (now row) ≡ 1480) × (1480 ≤ length (now first)) ⌝ }
+{
+    put_words(row, 0, first, NUM_COLUMNS);
+    put_words(row, ROUND, &[24], 1);
+    put_words(row, RC, &[0u64; 8], 8);
+    put_words(row, IOTA, &first[CHI..CHI + 8], 8);
+}
+
+// With such a row in place of the first padding row.
+fn print_late(name: &[u8]) {
+    let mut core = [0u64; 1944];
+    let mut round = [0u64; 94720];
+    let mut row = [0u64; 1480];
+    write_tables(&mut core, &mut round, [STAMP + 1, ADDRESS], false);
+    put_late_row(&mut row, &round);
+    put_words(&mut round, 48 * NUM_COLUMNS, &row, NUM_COLUMNS);
+    print_case(name, &core, &round);
+}
+
+// Tables that hold, and each failure of core rows: MU 2, an address that is no multiple of 8, a timestamp twice.
+fn print_core_cases() {
+    print_written(b"as written", [STAMP + 1, ADDRESS], false);
+    print_cut(b"no rows", 0, 0);
+    print_core(b"core value", keccak::MU, 2);
+    print_written(b"core lookup", [STAMP + 1, 4100], false);
+    print_written(b"timestamp", [STAMP, ADDRESS], true);
+}
+
+// Each failure of round rows, MU 2 and ROUND 25, and of the bus: an OUTPUT byte of 256, and a row with ROUND 24.
+fn print_round_cases() {
+    print_round(b"round value", MU, 2);
+    print_round(b"round lookup", 5 * NUM_COLUMNS + ROUND, 25);
+    print_core(
+        b"core unbalanced",
+        keccak::NUM_COLUMNS + keccak::OUTPUT_STATE,
+        256,
+    );
+    print_late(b"round unbalanced");
+}
+
+// Each refusal.
+fn print_refusals() {
+    print_cut(b"core cut", 1943, 94719);
+    print_cut(b"round cut", 1944, 94719);
+    print_core(b"core word", keccak::NUM_COLUMNS + 3, P);
+    print_round(b"round word", 94719, P);
+}
+
+fn main() {
+    print_core_cases();
+    print_round_cases();
+    print_refusals();
+}

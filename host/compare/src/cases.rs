@@ -1,0 +1,116 @@
+//! The tables of the program `verdict_cases`, made by the published Rust and damaged in the same way, and what `judge` says
+//! of each. The file `crates/verdict_cases/stdout` has these lines.
+
+use oracle::sample::permuted;
+use oracle::tables::keccak::cols as core_cols;
+use oracle::tables::keccak_rnd::cols;
+use oracle::{CORE_COLUMNS, OPERATION_WORDS, P, ROUND_COLUMNS, core_table, round_table};
+
+use crate::judge::verdict;
+
+/// The first timestamp, and the address of the second operation.
+const STAMP: u64 = 7 << 32 | 5;
+const ADDRESS: u64 = 0x7FFF_FFFF_FF40;
+
+/// A core table and a round table.
+struct Tables {
+    core: Vec<u64>,
+    round: Vec<u64>,
+}
+
+/// The operation of a timestamp, an address, an input and an output.
+fn operation(timestamp: u64, address: u64, input: [u64; 25], output: [u64; 25]) -> Vec<u64> {
+    [&[timestamp, address][..], &input, &output].concat()
+}
+
+/// Keccak-f[1600], as the published round table makes it.
+fn keccak_f(input: [u64; 25]) -> [u64; 25] {
+    permuted(&operation(0, 0, input, [0; 25]))
+}
+
+/// The tables of two operations, the second at a timestamp and an address, with their outputs or with these exchanged. Their
+/// inputs are the zero state permuted once and twice.
+fn written(timestamp: u64, address: u64, exchanged: bool) -> Tables {
+    let input = keccak_f([0; 25]);
+    let middle = keccak_f(input);
+    let last = keccak_f(middle);
+    let outputs = if exchanged { [last, middle] } else { [middle, last] };
+    let list = [
+        operation(STAMP, 4096, input, outputs[0]),
+        operation(timestamp, address, middle, outputs[1]),
+    ]
+    .concat();
+    assert_eq!(list.len(), 2 * OPERATION_WORDS);
+    Tables {
+        core: core_table(&list),
+        round: round_table(&list),
+    }
+}
+
+/// The tables of two right operations, after something is done to them.
+fn damaged(damage: impl Fn(&mut Tables)) -> Tables {
+    let mut tables = written(STAMP + 1, ADDRESS, false);
+    damage(&mut tables);
+    tables
+}
+
+/// Row 0 in the first padding row, with ROUND 24 and with its constant taken out.
+fn put_late_row(round: &mut [u64]) {
+    let (rows, padding) = round.split_at_mut(48 * ROUND_COLUMNS);
+    let late = &mut padding[..ROUND_COLUMNS];
+    late.copy_from_slice(&rows[..ROUND_COLUMNS]);
+    late[cols::ROUND] = 24;
+    late[cols::RC..][..8].fill(0);
+    late.copy_within(cols::CHI..cols::CHI + 8, cols::IOTA);
+}
+
+/// A line for each case: its name, then the four words of the verdict.
+pub fn lines() -> Vec<String> {
+    [
+        ("as written", damaged(|_| ())),
+        (
+            "no rows",
+            damaged(|t| {
+                t.core.clear();
+                t.round.clear();
+            }),
+        ),
+        ("core value", damaged(|t| t.core[core_cols::MU] = 2)),
+        ("core lookup", written(STAMP + 1, 4100, false)),
+        ("timestamp", written(STAMP, ADDRESS, true)),
+        ("round value", damaged(|t| t.round[cols::MU] = 2)),
+        (
+            "round lookup",
+            damaged(|t| t.round[5 * ROUND_COLUMNS + cols::ROUND] = 25),
+        ),
+        (
+            "core unbalanced",
+            damaged(|t| t.core[CORE_COLUMNS + core_cols::OUTPUT_STATE] = 256),
+        ),
+        ("round unbalanced", damaged(|t| put_late_row(&mut t.round))),
+        (
+            "core cut",
+            damaged(|t| {
+                t.core.pop();
+                t.round.pop();
+            }),
+        ),
+        (
+            "round cut",
+            damaged(|t| {
+                t.round.pop();
+            }),
+        ),
+        ("core word", damaged(|t| t.core[CORE_COLUMNS + 3] = P)),
+        (
+            "round word",
+            damaged(|t| *t.round.last_mut().expect("there are rows") = P),
+        ),
+    ]
+    .into_iter()
+    .map(|(name, Tables { core, round })| {
+        let [a, b, c, d] = verdict(&core, &round).words();
+        format!("{name} {a} {b} {c} {d}")
+    })
+    .collect()
+}
