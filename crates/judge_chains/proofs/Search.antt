@@ -1,4 +1,4 @@
--- What the search for chains cites. Assumes nothing.
+-- What the search for chains cites.
 use mathlib.Core.Path.{_≡_, refl, sym, ap, subst, _∙_}
 use mathlib.Core.Logic.{inl, inr}
 use mathlib.Core.Bool.{Bool, true, false}

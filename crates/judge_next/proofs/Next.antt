@@ -1,4 +1,4 @@
--- What the search for the next row of a chain cites. Assumes nothing.
+-- What the search for the next row of a chain cites.
 use mathlib.Core.Path.{_≡_, sym, ap, subst, _∙_}
 use mathlib.Core.Bool.{true}
 use mathlib.Core.List.{List}

@@ -1,4 +1,4 @@
--- `judge_chains::all_chains` meets its contract: the core rows that it has passed have chains. Assumes nothing.
+-- `judge_chains::all_chains` meets its contract: the core rows that it has passed have chains.
 use mathlib.Core.Path.{sym, _∙_}
 use mathlib.Core.Logic.{⊎-elim}
 use Prim.Native.Nat.{_≤_, _-_, _/_}

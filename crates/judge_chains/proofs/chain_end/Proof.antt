@@ -1,4 +1,4 @@
--- `judge_chains::chain_end` meets its contract: nr rows and their end. Assumes nothing.
+-- `judge_chains::chain_end` meets its contract: nr rows and their end.
 use mathlib.Core.Path.{sym, _∙_}
 use native.Mathlib.Omega.{arith}
 use borrow.Author.Needs.{needs}

@@ -1,4 +1,4 @@
--- `judge_chains::chain_rows` meets its contract: n rows follow one another. Assumes nothing.
+-- `judge_chains::chain_rows` meets its contract: n rows follow one another.
 use mathlib.Core.Path.{refl}
 use Prim.Native.Nat.{_≤_, _-_}
 use native.Mathlib.Omega.{arith}

@@ -1,4 +1,4 @@
--- `judge_chains::every_chain` meets its contract: the numbers agree and each row has its chain. Assumes nothing.
+-- `judge_chains::every_chain` meets its contract: the numbers agree and each row has its chain.
 use mathlib.Core.Path.{sym, ap, _∙_}
 use Prim.Native.Nat.{ℕ, _*_}
 use native.Mathlib.Omega.{arith}

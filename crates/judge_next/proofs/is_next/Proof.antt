@@ -1,4 +1,4 @@
--- `judge_next::is_next` meets its contract: a row that it takes was tested. Assumes nothing.
+-- `judge_next::is_next` meets its contract: a row that it takes was tested.
 use mathlib.Core.Path.{sym, _∙_}
 use native.Mathlib.Omega.{arith}
 use borrow.Author.Tests.{not-false}

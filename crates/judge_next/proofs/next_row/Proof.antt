@@ -1,4 +1,4 @@
--- `judge_next::next_row` meets its contract: the row that it answers was tested. Assumes nothing.
+-- `judge_next::next_row` meets its contract: the row that it answers was tested.
 use Prim.Native.Nat.{_-_}
 use native.Mathlib.Omega.{arith}
 use Rattle.judge_next.proofs.Next.{around-in}

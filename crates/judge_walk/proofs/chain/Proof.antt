@@ -1,4 +1,4 @@
--- `judge_walk::chain` meets its contract: up to row q the chain owes what its last row sent. Assumes nothing.
+-- `judge_walk::chain` meets its contract: up to row q the chain owes what its last row sent.
 use mathlib.Core.Path.{sym, _∙_}
 use mathlib.Core.Logic.{⊎-elim}
 use Prim.Native.Nat.{_≤_, _-_}

@@ -1,4 +1,4 @@
--- `judge_walk::skipped` meets its contract: rows that are not active keep what is even. Assumes nothing.
+-- `judge_walk::skipped` meets its contract: rows that are not active keep what is even.
 use mathlib.Core.Path.{sym, _∙_}
 use Prim.Native.Nat.{_≤_, _-_}
 use native.Mathlib.Omega.{arith}

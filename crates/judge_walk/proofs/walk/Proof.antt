@@ -1,4 +1,4 @@
--- `judge_walk::walk` meets its contract: the rows that it has passed are even. Assumes nothing.
+-- `judge_walk::walk` meets its contract: the rows that it has passed are even.
 use mathlib.Core.Path.{sym, _∙_}
 use mathlib.Core.Logic.{⊎-elim}
 use Prim.Native.Nat.{_≤_, _-_, _/_}
