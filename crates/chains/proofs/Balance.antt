@@ -1,4 +1,4 @@
--- Chained tables balance. Row j of the chain of a core row has its timestamp and the round j, so rows of different places
+-- Chained tables balance. Row j of the chain of a core row has its timestamp and the round 24 - nr + j, so rows of different places
 -- in the chains are different rows, because the timestamps of the active core rows differ; and where there are no more
 -- active round rows, these are all of them.
 --     Taken             a set of active round rows, all of chains, and what they and the core rows send and receive
@@ -7,7 +7,7 @@
 use mathlib.Core.Path.{_≡_, refl, sym, ap, subst, _∙_}
 use mathlib.Core.Bool.{Bool, true, false, _&&_}
 use mathlib.Core.List.{List}
-use Prim.Native.Nat.{ℕ, zero, suc, _+_, _*_, _≤_, _<_}
+use Prim.Native.Nat.{ℕ, zero, suc, _+_, _*_, _-_, _≤_, _<_}
 use native.Mathlib.Numerals.{add-one}
 use native.Mathlib.Omega.{arith}
 use borrow.Author.Tests.{eqb-true, eq-eqb, ne-eqb}
@@ -146,8 +146,8 @@ module _ (core round : List ℕ) where
 
 -- ---- the chain of an active core row
 -- how many of the first a core rows send v, and receive it
-abbrev sentBy : List ℕ → ℕ → List ℕ → ℕ
-sentBy core a v = countBelow (hasTuple coreLayout CoreSend core v) a
+abbrev sentBy : ℕ → List ℕ → ℕ → List ℕ → ℕ
+sentBy nr core a v = countBelow (hasTuple coreLayout (CoreSend nr) core v) a
 
 abbrev receivedBy : List ℕ → ℕ → List ℕ → ℕ
 receivedBy core a v = countBelow (hasTuple coreLayout CoreReceive core v) a
@@ -166,20 +166,27 @@ module _ (core : List ℕ) (a : ℕ) (port : Port) (v : List ℕ) where
   unfolding hasTuple
   core-none e = count-skip (hasTuple coreLayout port core v) a (rw e)
 
--- the rows of the chains of the first a core rows
-abbrev TakenTo : List ℕ → List ℕ → ℕ → Type 0
-TakenTo core round a = Taken core round (24 * a) (24 * countBelow (active coreLayout core) a) (sentBy core a) (receivedBy core a)
+-- nr rows more, and none
+nr-more : (n c d : ℕ) → d ≡ c + 1 → n * c + n ≡ n * d
+nr-more n c d e = sym (ap (λ (k : ℕ). n * k) e ∙ omega arith)
 
-module _ (core round : List ℕ) (apart : DistinctTimestamps coreLayout core) (a : ℕ) (on : Active coreLayout core a) where
+nr-none : (n c : ℕ) → c ≡ 0 → 0 ≡ n * c
+nr-none n c e = sym (ap (λ (k : ℕ). n * k) e ∙ omega arith)
+
+-- the rows of the chains of the first a core rows
+abbrev TakenTo : ℕ → List ℕ → List ℕ → ℕ → Type 0
+TakenTo nr core round a = Taken core round (24 * a) (nr * countBelow (active coreLayout core) a) (sentBy nr core a) (receivedBy core a)
+
+module _ (nr : ℕ) (few : nr ≤ 24) (core round : List ℕ) (apart : DistinctTimestamps coreLayout core) (a : ℕ) (on : Active coreLayout core a) where
   here : List ℕ
   here = row coreLayout core a
 
   -- and those, n and the last of them `last`, of row a
   abbrev Owing : ℕ → ℕ → Place → Type 0
-  Owing m n last = Taken core round (24 * a + n) (m + n) (sentBy core (a + 1)) (λ v. receivedBy core a v + one v (owedBy core a round last))
+  Owing m n last = Taken core round (24 * a + (24 - nr + n)) (m + n) (sentBy nr core (a + 1)) (λ v. receivedBy core a v + one v (owedBy nr core a round last))
 
   -- a row that receives a tuple of this name is none of those before
-  module _ (m n q : ℕ) (last : Place) (t : Owing m n last) (f : Follows core a round last q) (w : Named here n (owedBy core a round last)) where
+  module _ (m n q : ℕ) (last : Place) (t : Owing m n last) (f : Follows nr core a round last q) (w : Named here (24 - nr + n) (owedBy nr core a round last)) where
     there : List ℕ
     there = row roundLayout round q
 
@@ -191,7 +198,7 @@ module _ (core round : List ℕ) (apart : DistinctTimestamps coreLayout core) (a
     unfolding here there
     high = sym (w .high) ∙ ap (λ (l : List ℕ). word l 1) (f .receives) ∙ stamp-1 RoundReceive there
 
-    level : word there ROUND ≡ n
+    level : word there ROUND ≡ 24 - nr + n
     unfolding there roundOf
     level = sym (names RoundReceive there) ∙ ap (λ (l : List ℕ). word l 2) (sym (f .receives)) ∙ w .level
 
@@ -206,12 +213,12 @@ module _ (core round : List ℕ) (apart : DistinctTimestamps coreLayout core) (a
     unfolding owedBy here there
     next =
         let put =
-        taken-put core round (24 * a + n) (m + n) (sentBy core (a + 1)) (receivedBy core a) (owedBy core a round last) t q (f .active .there) fresh (f .receives)
-        (24 * a + suc n) (omega arith)
+        taken-put core round (24 * a + (24 - nr + n)) (m + n) (sentBy nr core (a + 1)) (receivedBy core a) (owedBy nr core a round last) t q (f .active .there) fresh (f .receives)
+        (24 * a + (24 - nr + suc n)) (omega arith)
         (record { on = is-active roundLayout round (f .active); of = a; of-active = on; same = (low, high); before = omega (arith, level) }) in
-        taken-as core round (24 * a + suc n) (24 * a + suc n) (m + n + 1) (m + suc n) _ _ _ _ (omega arith) (omega arith) (λ v. refl) put
+        taken-as core round (24 * a + (24 - nr + suc n)) (24 * a + (24 - nr + suc n)) (m + n + 1) (m + suc n) _ _ _ _ (omega arith) (omega arith) (λ v. refl) put
 
-    named : n < 24 → Named here (suc n) (owedBy core a round (At q))
+    named : n < nr → Named here (24 - nr + suc n) (owedBy nr core a round (At q))
     unfolding owedBy here there roundOf
     named g =
         record {
@@ -220,43 +227,43 @@ module _ (core round : List ℕ) (apart : DistinctTimestamps coreLayout core) (a
           level = names RoundSend there ∙ fadd-small (word there ROUND) 1 (omega (arith, level)) ∙ omega (arith, level);
         }
 
-  linked : (m n : ℕ) (last : Place) → n ≤ 24 → Linked core a round n last → Taken core round (24 * a) m (sentBy core a) (receivedBy core a) →
-      Owing m n last × Named here n (owedBy core a round last)
+  linked : (m n : ℕ) (last : Place) → n ≤ nr → Linked nr core a round n last → Taken core round (24 * a) m (sentBy nr core a) (receivedBy core a) →
+      Owing m n last × Named here (24 - nr + n) (owedBy nr core a round last)
   unfolding Linked owedBy here roundOf
   linked m zero last l h t =
-      subst (λ (p : Place). Owing m 0 p × Named here 0 (owedBy core a round p)) (sym h) (
-        taken-as core round (24 * a) (24 * a + 0) m (m + 0) _ _ _ _ (omega arith) (omega arith) (λ v. omega (arith, core-one core a CoreSend v (is-active coreLayout core on))) t,
-        record { low = stamp-0 CoreSend here; high = stamp-1 CoreSend here; level = names CoreSend here },
+      subst (λ (p : Place). Owing m 0 p × Named here (24 - nr + 0) (owedBy nr core a round p)) (sym h) (
+        taken-as core round (24 * a) (24 * a + (24 - nr + 0)) m (m + 0) _ _ _ _ (omega arith) (omega arith) (λ v. omega (arith, core-one core a (CoreSend nr) v (is-active coreLayout core on))) t,
+        record { low = stamp-0 (CoreSend nr) here; high = stamp-1 (CoreSend nr) here; level = names (CoreSend nr) here ∙ omega arith },
       )
   linked m (suc n) last l h t =
       let x = linked m n (h .0) (omega arith) (h .2) t in
-      subst (λ (p : Place). Owing m (suc n) p × Named here (suc n) (owedBy core a round p)) (sym (h .4))
+      subst (λ (p : Place). Owing m (suc n) p × Named here (24 - nr + suc n) (owedBy nr core a round p)) (sym (h .4))
       (next m n (h .1) (h .0) (x .0) (h .3) (x .1), named m n (h .1) (h .0) (x .0) (h .3) (x .1) (omega arith))
 
-  chain-taken : Chain core round a → TakenTo core round a → TakenTo core round (a + 1)
+  chain-taken : Chain nr core round a → TakenTo nr core round a → TakenTo nr core round (a + 1)
   unfolding owedBy
   chain-taken h t =
       let e = is-active coreLayout core on in
-      taken-as core round (24 * a + 24) (24 * (a + 1)) (24 * countBelow (active coreLayout core) a + 24) (24 * countBelow (active coreLayout core) (a + 1)) _ _ _ _
-      (omega arith) (omega (arith, count-more (active coreLayout core) a e)) (λ v. omega (arith, core-one core a CoreReceive v e, ap (one v) (h .received)))
-      (linked (24 * countBelow (active coreLayout core) a) 24 (At (h .last)) (omega arith) (h .linked) t .0)
+      taken-as core round (24 * a + (24 - nr + nr)) (24 * (a + 1)) (nr * countBelow (active coreLayout core) a + nr) (nr * countBelow (active coreLayout core) (a + 1)) _ _ _ _
+      (omega arith) (nr-more _ _ _ (count-more (active coreLayout core) a e)) (λ v. omega (arith, core-one core a CoreReceive v e, ap (one v) (h .received)))
+      (linked (nr * countBelow (active coreLayout core) a) nr (At (h .last)) (omega arith) (h .linked) t .0)
 
 -- ---- all of them
-module _ (core round : List ℕ) (apart : DistinctTimestamps coreLayout core) (c : Chained core round) where
-  core-taken : (a : ℕ) → a < rows coreLayout core → TakenTo core round a → (b : Bool) → active coreLayout core a ≡ b → TakenTo core round (a + 1)
+module _ (nr : ℕ) (few : nr ≤ 24) (core round : List ℕ) (apart : DistinctTimestamps coreLayout core) (c : Chained nr core round) where
+  core-taken : (a : ℕ) → a < rows coreLayout core → TakenTo nr core round a → (b : Bool) → active coreLayout core a ≡ b → TakenTo nr core round (a + 1)
   unfolding EachChain
-  core-taken a l t true e = let on = active-is coreLayout core a l e in chain-taken core round apart a on (c .chains a on) t
+  core-taken a l t true e = let on = active-is coreLayout core a l e in chain-taken nr few core round apart a on (c .chains a on) t
   core-taken a l t false e =
-      taken-as core round (24 * a) (24 * (a + 1)) _ _ _ _ _ _ (omega arith) (ap (λ (k : ℕ). 24 * k) (sym (count-skip (active coreLayout core) a e)))
-      (λ v. omega (arith, core-none core a CoreSend v e, core-none core a CoreReceive v e)) t
+      taken-as core round (24 * a) (24 * (a + 1)) _ _ _ _ _ _ (omega arith) (ap (λ (k : ℕ). nr * k) (sym (count-skip (active coreLayout core) a e)))
+      (λ v. omega (arith, core-none core a (CoreSend nr) v e, core-none core a CoreReceive v e)) t
 
-  taken-to : (a : ℕ) → a ≤ rows coreLayout core → TakenTo core round a
+  taken-to : (a : ℕ) → a ≤ rows coreLayout core → TakenTo nr core round a
   taken-to zero l =
-      taken-as core round 0 (24 * 0) 0 (24 * countBelow (active coreLayout core) 0) (λ v. 0) (λ v. 0) _ _ (omega arith) (omega (arith, count-start (active coreLayout core)))
-      (λ v. omega (arith, count-start (hasTuple coreLayout CoreSend core v), count-start (hasTuple coreLayout CoreReceive core v))) (taken-start core round (λ v. 0) (λ v. 0) (λ v. refl))
-  taken-to (suc a) l = subst (TakenTo core round) (add-one a) (core-taken a (omega arith) (taken-to a (omega arith)) (active coreLayout core a) refl)
+      taken-as core round 0 (24 * 0) 0 (nr * countBelow (active coreLayout core) 0) (λ v. 0) (λ v. 0) _ _ (omega arith) (nr-none _ _ (count-start (active coreLayout core)))
+      (λ v. omega (arith, count-start (hasTuple coreLayout (CoreSend nr) core v), count-start (hasTuple coreLayout CoreReceive core v))) (taken-start core round (λ v. 0) (λ v. 0) (λ v. refl))
+  taken-to (suc a) l = subst (TakenTo nr core round) (add-one a) (core-taken a (omega arith) (taken-to a (omega arith)) (active coreLayout core a) refl)
 
-  abbrev whole : TakenTo core round (rows coreLayout core)
+  abbrev whole : TakenTo nr core round (rows coreLayout core)
   whole = taken-to (rows coreLayout core) (omega arith)
 
   -- the rows of the chains are the active ones
@@ -268,11 +275,11 @@ module _ (core round : List ℕ) (apart : DistinctTimestamps coreLayout core) (c
   unfolding hasTuple
   carried port v = count-same _ _ (rows roundLayout round) (λ r l. ap (λ (b : Bool). b && has round port v r) (all-taken r l))
 
-  all-even : Even core round (rows coreLayout core) (rows roundLayout round)
+  all-even : Even nr core round (rows coreLayout core) (rows roundLayout round)
   unfolding Even
   all-even v = omega (arith, whole .even v, carried RoundSend v, carried RoundReceive v)
 
-  pub chained-balanced : Balanced (coreKind 24) roundKind core round
+  pub chained-balanced : Balanced (coreKind nr) roundKind core round
   chained-balanced =
-      even-all (core-bus 24) round-bus core round (rows coreLayout core) (rows roundLayout round) (omega arith) (omega arith) (omega arith) (omega arith)
-      (even-to core round (rows coreLayout core) (rows roundLayout round) all-even)
+      even-all (core-bus nr) round-bus core round (rows coreLayout core) (rows roundLayout round) (omega arith) (omega arith) (omega arith) (omega arith)
+      (even-to nr core round (rows coreLayout core) (rows roundLayout round) all-even)

@@ -1,16 +1,14 @@
-// The verdict on a core table and a round table: the stages of `verdictOf`, one after the other.
+// The verdict on a core table and a round table: the stages of `verdictOf`, one after the other, for nr rounds; `verdict`
+// passes 24.
 use answer::Refusal;
 use field::elements::first_not_element;
-use judge_bus::first_core_unbalanced;
-use judge_bus::first_round_unbalanced;
+use judge_bus::first_unbalanced;
 use judge_chains::every_chain;
-use judge_rows::first_core_lookup;
-use judge_rows::first_core_value;
-use judge_rows::first_round_lookup;
-use judge_rows::first_round_value;
+use judge_rows::Check;
+use judge_rows::first_failure;
 use judge_scan::Spot;
-use judge_scan::active_core_rows;
-use judge_stamps::first_repeat;
+use judge_scan::active_rows;
+use judge_scan::first_repeat;
 use judge_walk::Walked;
 use judge_walk::walk;
 use keccak;
@@ -27,15 +25,18 @@ ghost use Rattle.verdict.specs.Verdict.{fromCoreValue, fromRoundValue, fromCore
 ghost use Rattle.judge_links.specs.Even.{Even};
 
 // From the unbalanced tuples of round rows on: a tuple of one, or the tables hold.
-fn from_round_balance(core: &[u64], round: &[u64], walked: Walked) -> Verdict
-    requires { ⌜ (walked .core ≤ rows coreLayout (now core)) × (walked .round ≤ rows roundLayout (now round)) × Even (now core) (now round) (walked .core) (walked .round) ⌝ }
-    ensures { λ v. ⌜ v ≡ fromRoundBalance (coreKind 24) roundKind (now (core .entry)) (now (round .entry)) ⌝ }
+fn from_round_balance(nr: usize, core: &[u64], round: &[u64], walked: Walked) -> Verdict
+    requires { ⌜ (walked .core ≤ rows coreLayout (now core)) × (walked .round ≤ rows roundLayout (now round)) × Even nr (now core) (now round) (walked .core) (walked .round) ⌝ }
+    ensures { λ v. ⌜ v ≡ fromRoundBalance (coreKind nr) roundKind (now (core .entry)) (now (round .entry)) ⌝ }
 {
-    if let Spot::At { row, index } = first_round_unbalanced(
+    if let Spot::At { row, index } = first_unbalanced(
+        nr,
         core,
         round,
         walked.core,
         walked.round,
+        round,
+        Table::Round,
     ) {
         return Verdict::Unbalanced {
             table: Table::Round,
@@ -44,65 +45,73 @@ fn from_round_balance(core: &[u64], round: &[u64], walked: Walked) -> Verdict
         };
     }
     Verdict::Holds {
-        active: active_core_rows(core),
+        active: active_rows(core, Table::Core),
     }
 }
 
 // From the unbalanced tuples of core rows on. Where each core row has its chain nothing is counted: the tables hold.
-fn from_core_balance(core: &[u64], round: &[u64]) -> Verdict
-    requires { ⌜ DistinctTimestamps coreLayout (now core) ⌝ }
-    ensures { λ v. ⌜ v ≡ fromCoreBalance (coreKind 24) roundKind (now (core .entry)) (now (round .entry)) ⌝ }
+fn from_core_balance(nr: usize, core: &[u64], round: &[u64]) -> Verdict
+    requires { ⌜ (nr ≤ 24) × DistinctTimestamps coreLayout (now core) ⌝ }
+    ensures { λ v. ⌜ v ≡ fromCoreBalance (coreKind nr) roundKind (now (core .entry)) (now (round .entry)) ⌝ }
 {
-    if every_chain(core, round) {
-        let active = active_core_rows(core);
+    if every_chain(nr, core, round) {
+        let active = active_rows(core, Table::Core);
         return Verdict::Holds { active };
     }
-    let walked = walk(core, round);
-    if let Spot::At { row, index } = first_core_unbalanced(core, round, walked.core, walked.round) {
+    let walked = walk(nr, core, round);
+    if let Spot::At { row, index } = first_unbalanced(
+        nr,
+        core,
+        round,
+        walked.core,
+        walked.round,
+        core,
+        Table::Core,
+    ) {
         return Verdict::Unbalanced {
             table: Table::Core,
             row,
             index,
         };
     }
-    from_round_balance(core, round, walked)
+    from_round_balance(nr, core, round, walked)
 }
 
 // From the values of round rows on.
-fn from_round_value(core: &[u64], round: &[u64]) -> Verdict
-    requires { ⌜ Elements (now round) × DistinctTimestamps coreLayout (now core) ⌝ }
-    ensures { λ v. ⌜ v ≡ fromRoundValue (coreKind 24) roundKind (now (core .entry)) (now (round .entry)) ⌝ }
+fn from_round_value(nr: usize, core: &[u64], round: &[u64]) -> Verdict
+    requires { ⌜ (nr ≤ 24) × Elements (now round) × DistinctTimestamps coreLayout (now core) ⌝ }
+    ensures { λ v. ⌜ v ≡ fromRoundValue (coreKind nr) roundKind (now (core .entry)) (now (round .entry)) ⌝ }
 {
-    if let Spot::At { row, index } = first_round_value(round) {
+    if let Spot::At { row, index } = first_failure(round, Table::Round, Check::Values) {
         return Verdict::Value {
             table: Table::Round,
             row,
             index,
         };
     }
-    if let Spot::At { row, index } = first_round_lookup(round) {
+    if let Spot::At { row, index } = first_failure(round, Table::Round, Check::Lookups) {
         return Verdict::Lookup {
             table: Table::Round,
             row,
             index,
         };
     }
-    from_core_balance(core, round)
+    from_core_balance(nr, core, round)
 }
 
 // From the values of core rows on.
-fn from_core_value(core: &[u64], round: &[u64]) -> Verdict
-    requires { ⌜ Elements (now core) × Elements (now round) ⌝ }
-    ensures { λ v. ⌜ v ≡ fromCoreValue (coreKind 24) roundKind (now (core .entry)) (now (round .entry)) ⌝ }
+fn from_core_value(nr: usize, core: &[u64], round: &[u64]) -> Verdict
+    requires { ⌜ (nr ≤ 24) × Elements (now core) × Elements (now round) ⌝ }
+    ensures { λ v. ⌜ v ≡ fromCoreValue (coreKind nr) roundKind (now (core .entry)) (now (round .entry)) ⌝ }
 {
-    if let Spot::At { row, index } = first_core_value(core) {
+    if let Spot::At { row, index } = first_failure(core, Table::Core, Check::Values) {
         return Verdict::Value {
             table: Table::Core,
             row,
             index,
         };
     }
-    if let Spot::At { row, index } = first_core_lookup(core) {
+    if let Spot::At { row, index } = first_failure(core, Table::Core, Check::Lookups) {
         return Verdict::Lookup {
             table: Table::Core,
             row,
@@ -112,7 +121,7 @@ fn from_core_value(core: &[u64], round: &[u64]) -> Verdict
     if let Place::At(row) = first_repeat(core) {
         return Verdict::Repeated { row };
     }
-    from_round_value(core, round)
+    from_round_value(nr, core, round)
 }
 
 // The verdict on a core table and a round table.
@@ -131,5 +140,5 @@ pub fn verdict(core: &[u64], round: &[u64]) -> Verdict
     if let Place::At(k) = first_not_element(round, round.len()) {
         return Verdict::Refused(Refusal::NotElement(k as u64));
     }
-    from_core_value(core, round)
+    from_core_value(keccak_rnd::ROUNDS, core, round)
 }

@@ -25,14 +25,18 @@ use Rattle.verdict.proofs.Tuples.{active-tuples-count, core-bus, round-bus}
 use Rattle.judge_bus.proofs.UnevenRow.{two-early, two-late, two-none, bad-side, bad-other}
 use Rattle.judge_scan.specs.Spot.{spotOf}
 use Rattle.judge_scan.specs.declared.Spot.the-variants.{At}
-use Rattle.judge_tuples.specs.Port.{tupleOf, widthOf}
+use Rattle.verdict.specs.declared.Table.{Table}
+use Rattle.verdict.specs.declared.Table.the-variants.{Core, Round}
+use Rattle.judge_scan.specs.Tables.{kindOf, layoutOf}
+use Rattle.judge_scan.proofs.Scan.{layout-is}
+use Rattle.judge_tuples.specs.Port.{tupleOf, tableOf, widthOf}
 use Rattle.judge_tuples.specs.declared.Port.{Port}
-use Rattle.judge_tuples.specs.declared.Port.the-variants.{CoreSend, CoreReceive, RoundReceive, RoundSend}
-use Rattle.judge_links.specs.Even.{Even, layoutOf}
-use Rattle.judge_links.proofs.Even.{mu-is, core-sends, core-receives, round-sends, round-receives, counts}
-use Rattle.judge_counts.specs.Counting.{CountedRows}
+use Rattle.judge_links.specs.Even.{Even}
+use Rattle.judge_links.proofs.Even.{core-sends, core-receives, round-sends, round-receives, counts}
+use Rattle.judge_counts.specs.Counting.{sentBy, receivedBy, countsTo}
 use Rattle.judge_counts.specs.declared.Counts.{Counts}
-use Rattle.judge_bus.specs.Pair.{kindOf, indexOf, Pair}
+use Rattle.judge_counts.proofs.Counting.{is-counted}
+use Rattle.judge_bus.specs.Order.{firstPort, secondPort, firstIndex}
 
 eqb-same : (a b c d : ℕ) → (a ≡ b → c ≡ d) → (c ≡ d → a ≡ b) → eqb a b ≡ eqb c d
 eqb-same a b c d f g = go (eqb a b) (eqb c d) refl refl
@@ -43,141 +47,136 @@ eqb-same a b c d f g = go (eqb a b) (eqb c d) refl refl
     go true false p q = sym (eq-eqb c d (f (eqb-true a b p))) ∙ q
     go false true p q = sym p ∙ eq-eqb a b (g (eqb-true c d q))
 
-module _ (core round v : List ℕ) where
-  pub uneven-left : (a b : ℕ) (t u : Counts) → Even core round a b →
-      CountedRows CoreSend CoreReceive core v a (rows coreLayout core) t → CountedRows RoundSend RoundReceive round v b (rows roundLayout round) u →
-      not (eqb (t .sent + u .sent) (t .received + u .received)) ≡ uneven (coreKind 24) roundKind core round v
-  unfolding Even uneven layoutOf
-  uneven-left a b t u h c d =
-      let es = active-tuples-count (core-bus 24) Sender core v ∙ sym (counts (core-sends core v) (rows coreLayout core)) in
+module _ (nr : ℕ) (core round v : List ℕ) where
+  pub uneven-left : (a b : ℕ) (t u : Counts) → Even nr core round a b → a ≤ rows coreLayout core → b ≤ rows roundLayout round →
+      t ≡ countsTo nr Core core v a (rows coreLayout core) → u ≡ countsTo nr Round round v b (rows roundLayout round) →
+      not (eqb (t .sent + u .sent) (t .received + u .received)) ≡ uneven (coreKind nr) roundKind core round v
+  unfolding Even uneven layoutOf sentBy receivedBy
+  uneven-left a b t u h la lb et eu =
+      let c = is-counted nr Core core v a (rows coreLayout core) t la et in
+      let d = is-counted nr Round round v b (rows roundLayout round) u lb eu in
+      let es = active-tuples-count (core-bus nr) Sender core v ∙ sym (counts (core-sends nr core v) (rows coreLayout core)) in
       let fs = active-tuples-count round-bus Sender round v ∙ sym (counts (round-sends round v) (rows roundLayout round)) in
-      let er = active-tuples-count (core-bus 24) Receiver core v ∙ sym (counts (core-receives core v) (rows coreLayout core)) in
+      let er = active-tuples-count (core-bus nr) Receiver core v ∙ sym (counts (core-receives nr core v) (rows coreLayout core)) in
       let fr = active-tuples-count round-bus Receiver round v ∙ sym (counts (round-receives round v) (rows roundLayout round)) in
-      ap not (eqb-same (t .sent + u .sent) (t .received + u .received) (sent (coreKind 24) core v + sent roundKind round v) (received (coreKind 24) core v + received roundKind round v)
+      ap not (eqb-same (t .sent + u .sent) (t .received + u .received) (sent (coreKind nr) core v + sent roundKind round v) (received (coreKind nr) core v + received roundKind round v)
       (λ z. omega (arith, h v, es, fs, er, fr, c .sends, c .receives, d .sends, d .receives))
       (λ z. omega (arith, h v, es, fs, er, fr, c .sends, c .receives, d .sends, d .receives)))
 
+  -- a tuple by the port that the code has
+  pub uneven-port : {p q : Port} → p ≡ q → uneven (coreKind nr) roundKind core round (tupleOf p v) ≡ uneven (coreKind nr) roundKind core round (tupleOf q v)
+  uneven-port e = ap (λ (p : Port). uneven (coreKind nr) roundKind core round (tupleOf p v)) e
+
 -- ---- the two tuples of a row
 -- what a match has found
-pub told-index : {s q : Port} → s ≡ q → indexOf q ≡ indexOf s
-told-index e = ap indexOf (sym e)
+module _ {t u : Table} (e : t ≡ u) where
+  pub told-first : (nr : ℕ) → firstPort nr u ≡ firstPort nr t
+  told-first nr = ap (firstPort nr) (sym e)
 
--- tuple j of row r of a table is unbalanced, and the row is active
-abbrev pub bad : List ℕ → List ℕ → Port → List ℕ → ℕ → ℕ → Bool
-bad core round s ws = badTuple (coreKind 24) roundKind core round (kindOf s) ws
+  pub told-second : secondPort u ≡ secondPort t
+  told-second = ap secondPort (sym e)
 
--- the values of tuple s of a row are unbalanced
-abbrev pub odd : List ℕ → List ℕ → Port → List ℕ → Bool
-odd core round s x = uneven (coreKind 24) roundKind core round (tupleOf s x)
+  pub told-index : firstIndex u ≡ firstIndex t
+  told-index = ap firstIndex (sym e)
 
-pub record Two (s q : Port) : Type 0 where
-  pub layout : layoutOf s ≡ kindOf s .layout
-  pub width : widthOf q ≡ widthOf s
-  pub order : indexOf s < indexOf q
-  pub inside : indexOf q < kindOf s .tuples
-  pub early : (core round ws : List ℕ) (r : ℕ) → bad core round s ws r (indexOf s) ≡ (active (layoutOf s) ws r && odd core round s (row (layoutOf s) ws r))
-  pub late : (core round ws : List ℕ) (r : ℕ) → bad core round s ws r (indexOf q) ≡ (active (layoutOf s) ws r && odd core round q (row (layoutOf s) ws r))
-  pub other : (core round ws : List ℕ) (r i : ℕ) → (i ≡ indexOf s → ⊥) → (i ≡ indexOf q → ⊥) → bad core round s ws r i ≡ false
+-- such a row is as long as its tuples need
+pub first-fits : (nr : ℕ) (t : Table) (n : ℕ) → layoutOf t .width ≤ n → widthOf (firstPort nr t) ≤ n
+unfolding widthOf tableOf firstPort
+first-fits nr Core n l = l
+first-fits nr Round n l = l
 
--- a core row: its send comes first
-two-core : Two CoreSend CoreReceive
-unfolding kindOf indexOf layoutOf widthOf tupleOf coreTuple followedBy
-two-core =
-    record {
-      layout = refl;
-      width = refl;
-      order = omega arith;
-      inside = omega arith;
-      early = λ core round ws r. bad-side (coreKind 24) roundKind core round (core-bus 24) ws r Sender;
-      late = λ core round ws r. bad-side (coreKind 24) roundKind core round (core-bus 24) ws r Receiver;
-      other = λ core round ws r i n m. bad-other (coreKind 24) roundKind core round (core-bus 24) ws r i n m;
-    }
+pub second-fits : (t : Table) (n : ℕ) → layoutOf t .width ≤ n → widthOf (secondPort t) ≤ n
+unfolding widthOf tableOf secondPort
+second-fits Core n l = l
+second-fits Round n l = l
 
--- a round row: its receive comes first
-two-round : Two RoundReceive RoundSend
-unfolding kindOf indexOf layoutOf widthOf tupleOf roundTuple followedBy
-two-round =
-    record {
-      layout = refl;
-      width = refl;
-      order = omega arith;
-      inside = omega arith;
-      early = λ core round ws r. bad-side (coreKind 24) roundKind core round round-bus ws r Receiver;
-      late = λ core round ws r. bad-side (coreKind 24) roundKind core round round-bus ws r Sender;
-      other = λ core round ws r i n m. bad-other (coreKind 24) roundKind core round round-bus ws r i m n;
-    }
+pub port-fits : (p q : Port) (n : ℕ) → p ≡ q → widthOf q ≤ n → widthOf p ≤ n
+port-fits p q n e l = omega (arith, ap widthOf e)
 
-pub two-of : (s q : Port) → Pair s q → Two s q
-unfolding Pair
-two-of s q h =
-    ⊎-elim
-    (λ e. subst (λ (t : Port). Two t q) (sym (e .0)) (subst (Two CoreSend) (sym (e .1)) two-core))
-    (λ e. subst (λ (t : Port). Two t q) (sym (e .0)) (subst (Two RoundReceive) (sym (e .1)) two-round))
-    h
+module _ (nr : ℕ) (core round : List ℕ) where
+  -- tuple j of row r of a table is unbalanced, and the row is active
+  abbrev pub bad : Table → List ℕ → ℕ → ℕ → Bool
+  bad t ws = badTuple (coreKind nr) roundKind core round (kindOf nr t) ws
 
-pub core-pair : Pair CoreSend CoreReceive
-unfolding Pair
-core-pair = inl (refl, refl)
+  -- the tuple v is unbalanced
+  abbrev pub odd : List ℕ → Bool
+  odd v = uneven (coreKind nr) roundKind core round v
 
-pub round-pair : Pair RoundReceive RoundSend
-unfolding Pair
-round-pair = inr (refl, refl)
+  pub record Two (t : Table) : Type 0 where
+    pub inside : firstIndex t + 1 < kindOf nr t .tuples
+    pub early : (ws : List ℕ) (r : ℕ) → bad t ws r (firstIndex t) ≡ (active (layoutOf t) ws r && odd (tupleOf (firstPort nr t) (row (layoutOf t) ws r)))
+    pub late : (ws : List ℕ) (r : ℕ) → bad t ws r (firstIndex t + 1) ≡ (active (layoutOf t) ws r && odd (tupleOf (secondPort t) (row (layoutOf t) ws r)))
+    pub other : (ws : List ℕ) (r i : ℕ) → (i ≡ firstIndex t → ⊥) → (i ≡ firstIndex t + 1 → ⊥) → bad t ws r i ≡ false
+
+  -- a core row's send comes first, a round row's receive
+  two-of : (t : Table) → Two t
+  unfolding kindOf layoutOf firstIndex firstPort secondPort tupleOf coreTuple roundTuple followedBy
+  two-of Core =
+      record {
+        inside = omega arith;
+        early = λ ws r. bad-side (coreKind nr) roundKind core round (core-bus nr) ws r Sender;
+        late = λ ws r. bad-side (coreKind nr) roundKind core round (core-bus nr) ws r Receiver;
+        other = λ ws r i n m. bad-other (coreKind nr) roundKind core round (core-bus nr) ws r i n m;
+      }
+  two-of Round =
+      record {
+        inside = omega arith;
+        early = λ ws r. bad-side (coreKind nr) roundKind core round round-bus ws r Receiver;
+        late = λ ws r. bad-side (coreKind nr) roundKind core round round-bus ws r Sender;
+        other = λ ws r i n m. bad-other (coreKind nr) roundKind core round round-bus ws r i m n;
+      }
 
 -- ---- the search, row by row
 pub spot-is : (o : Option (ℕ × ℕ)) (r i j : ℕ) → i ≡ j → o ≡ some (r, j) → At r i ≡ spotOf o
 spot-is o r i j e f = ap (At r) e ∙ sym (ap spotOf f)
 
--- no row before r has one
-abbrev pub Clear : List ℕ → List ℕ → Port → List ℕ → ℕ → Type 0
-Clear core round s ws r = first (inRow (bad core round s ws) (kindOf s .tuples)) r ≡ none
+pub spot-next : (o : Option (ℕ × ℕ)) (r i j : ℕ) → i ≡ j → o ≡ some (r, j + 1) → At r (i + 1) ≡ spotOf o
+spot-next o r i j e f = spot-is o r (i + 1) (j + 1) (ap (λ (k : ℕ). k + 1) e) f
 
-module _ (core round : List ℕ) (s q : Port) (t : Two s q) (w : ℕ) (ew : w ≡ layoutOf s .width) (ws : List ℕ) (r : ℕ) where
-  rows-are : length ws / w ≡ rows (kindOf s .layout) ws
-  rows-are = λ i. length ws / ((ew ∙ (λ j. t .layout j .width)) i)
+pub index-small : (t : Table) (i : ℕ) → i ≡ firstIndex t → i ≤ 2
+unfolding firstIndex
+index-small Core i e = omega arith
+index-small Round i e = omega arith
 
-  pub clear-end : r ≤ length ws / w → length ws / w ≤ r → Clear core round s ws r → firstUnbalanced (coreKind 24) roundKind core round (kindOf s) ws ≡ none
-  clear-end l g f = in-none (bad core round s ws) (kindOf s .tuples) r (rows (kindOf s .layout) ws) (omega (arith, rows-are)) (omega (arith, rows-are)) f
+module _ (nr : ℕ) (core round : List ℕ) (t : Table) (ws : List ℕ) where
+  -- no row before r has one
+  abbrev pub Clear : ℕ → Type 0
+  Clear r = first (inRow (bad nr core round t ws) (kindOf nr t .tuples)) r ≡ none
 
-  module _ (f : Clear core round s ws r) (x : List ℕ) (ex : x ≡ rowAt w ws r) where
-    here : x ≡ row (layoutOf s) ws r
-    here = ex ∙ ap (λ (k : ℕ). rowAt k ws r) ew
+  abbrev two : Two nr core round t
+  two = two-of nr core round t
 
-    last : w - 1 ≡ layoutOf s .mu
-    last = omega (arith, mu-is s)
+  rows-are : (n : ℕ) → n ≡ rows (layoutOf t) ws → n ≡ rows (kindOf nr t .layout) ws
+  rows-are n e = e ∙ sym (λ i. rows (layout-is nr t i) ws)
 
-    is-on : word x (w - 1) ≡ 1 → active (layoutOf s) ws r ≡ true
-    unfolding isActive
-    is-on e = eq-eqb (word (row (layoutOf s) ws r) (layoutOf s .mu)) 1 ((λ i. word (sym here i) (sym last i)) ∙ e)
+  pub clear-end : (r n : ℕ) → n ≡ rows (layoutOf t) ws → r ≤ n → n ≤ r → Clear r → firstUnbalanced (coreKind nr) roundKind core round (kindOf nr t) ws ≡ none
+  clear-end r n e l g f = in-none (bad nr core round t ws) (kindOf nr t .tuples) r (rows (kindOf nr t .layout) ws) (omega (arith, rows-are n e)) (omega (arith, rows-are n e)) f
 
-    is-off : (word x (w - 1) ≡ 1 → ⊥) → active (layoutOf s) ws r ≡ false
-    unfolding isActive
-    is-off n = ne-eqb (word (row (layoutOf s) ws r) (layoutOf s .mu)) 1 (λ e. n ((λ i. word (here i) (last i)) ∙ e))
+  module _ (r : ℕ) (f : Clear r) where
+    pub spot-off : active (layoutOf t) ws r ≡ false → Clear (r + 1)
+    spot-off e =
+        first-more (inRow (bad nr core round t ws) (kindOf nr t .tuples)) r f
+        (two-none (bad nr core round t ws) (kindOf nr t .tuples) (firstIndex t) (firstIndex t + 1) r (omega arith) (two .inside) (two .other ws r) (two .early ws r ∙ rw e) (two .late ws r ∙ rw e))
 
-    pub spot-off : (word x (w - 1) ≡ 1 → ⊥) → Clear core round s ws (r + 1)
-    spot-off n =
-        let e = is-off n in
-        first-more (inRow (bad core round s ws) (kindOf s .tuples)) r f
-        (two-none (bad core round s ws) (kindOf s .tuples) (indexOf s) (indexOf q) r (t .order) (t .inside) (t .other core round ws r) (t .early core round ws r ∙ rw e) (t .late core round ws r ∙ rw e))
+    module _ (on : active (layoutOf t) ws r ≡ true) (x : List ℕ) (ex : x ≡ row (layoutOf t) ws r) (d : Bool) (ed : d ≡ odd nr core round (tupleOf (firstPort nr t) x)) where
+      at-early : bad nr core round t ws r (firstIndex t) ≡ d
+      at-early = two .early ws r ∙ rw on (sym (ed ∙ ap (λ (y : List ℕ). odd nr core round (tupleOf (firstPort nr t) y)) ex))
 
-    module _ (on : word x (w - 1) ≡ 1) (d : Bool) (ed : d ≡ odd core round s x) where
-      at-early : bad core round s ws r (indexOf s) ≡ d
-      at-early = t .early core round ws r ∙ rw (is-on on) (sym (ed ∙ ap (odd core round s) here))
+      pub spot-early : (n : ℕ) → n ≡ rows (layoutOf t) ws → r < n → d ≡ true → firstUnbalanced (coreKind nr) roundKind core round (kindOf nr t) ws ≡ some (r, firstIndex t)
+      spot-early n e l z =
+          first-hit (inRow (bad nr core round t ws) (kindOf nr t .tuples)) r (rows (kindOf nr t .layout) ws) (r, firstIndex t) (omega (arith, rows-are n e)) f
+          (two-early (bad nr core round t ws) (kindOf nr t .tuples) (firstIndex t) (firstIndex t + 1) r (omega arith) (two .inside) (two .other ws r) (at-early ∙ z))
 
-      pub spot-early : r < length ws / w → d ≡ true → firstUnbalanced (coreKind 24) roundKind core round (kindOf s) ws ≡ some (r, indexOf s)
-      spot-early l z =
-          first-hit (inRow (bad core round s ws) (kindOf s .tuples)) r (rows (kindOf s .layout) ws) (r, indexOf s) (omega (arith, rows-are)) f
-          (two-early (bad core round s ws) (kindOf s .tuples) (indexOf s) (indexOf q) r (t .order) (t .inside) (t .other core round ws r) (at-early ∙ z))
+      module _ (z : d ≡ false) (b : Bool) (eb : b ≡ odd nr core round (tupleOf (secondPort t) x)) where
+        at-late : bad nr core round t ws r (firstIndex t + 1) ≡ b
+        at-late = two .late ws r ∙ rw on (sym (eb ∙ ap (λ (y : List ℕ). odd nr core round (tupleOf (secondPort t) y)) ex))
 
-      module _ (z : d ≡ false) (b : Bool) (eb : b ≡ odd core round q x) where
-        at-late : bad core round s ws r (indexOf q) ≡ b
-        at-late = t .late core round ws r ∙ rw (is-on on) (sym (eb ∙ ap (odd core round q) here))
+        pub spot-late : (n : ℕ) → n ≡ rows (layoutOf t) ws → r < n → b ≡ true → firstUnbalanced (coreKind nr) roundKind core round (kindOf nr t) ws ≡ some (r, firstIndex t + 1)
+        spot-late n e l y =
+            first-hit (inRow (bad nr core round t ws) (kindOf nr t .tuples)) r (rows (kindOf nr t .layout) ws) (r, firstIndex t + 1) (omega (arith, rows-are n e)) f
+            (two-late (bad nr core round t ws) (kindOf nr t .tuples) (firstIndex t) (firstIndex t + 1) r (omega arith) (two .inside) (two .other ws r) (at-early ∙ z) (at-late ∙ y))
 
-        pub spot-late : r < length ws / w → b ≡ true → firstUnbalanced (coreKind 24) roundKind core round (kindOf s) ws ≡ some (r, indexOf q)
-        spot-late l y =
-            first-hit (inRow (bad core round s ws) (kindOf s .tuples)) r (rows (kindOf s .layout) ws) (r, indexOf q) (omega (arith, rows-are)) f
-            (two-late (bad core round s ws) (kindOf s .tuples) (indexOf s) (indexOf q) r (t .order) (t .inside) (t .other core round ws r) (at-early ∙ z) (at-late ∙ y))
-
-        pub spot-on : b ≡ false → Clear core round s ws (r + 1)
+        pub spot-on : b ≡ false → Clear (r + 1)
         spot-on y =
-            first-more (inRow (bad core round s ws) (kindOf s .tuples)) r f
-            (two-none (bad core round s ws) (kindOf s .tuples) (indexOf s) (indexOf q) r (t .order) (t .inside) (t .other core round ws r) (at-early ∙ z) (at-late ∙ y))
+            first-more (inRow (bad nr core round t ws) (kindOf nr t .tuples)) r f
+            (two-none (bad nr core round t ws) (kindOf nr t .tuples) (firstIndex t) (firstIndex t + 1) r (omega arith) (two .inside) (two .other ws r) (at-early ∙ z) (at-late ∙ y))

@@ -2,10 +2,12 @@
 // left.
 use judge_counts::Counts;
 use judge_counts::count;
-use judge_links::row_at;
-use judge_links::width_of;
 use judge_scan::Spot;
+use judge_scan::is_active;
+use judge_scan::row_at;
+use judge_scan::width_of;
 use judge_tuples::Port;
+use verdict::Table;
 ghost use mathlib.Core.Path.{_≡_};
 ghost use mathlib.Core.Bool.{not};
 ghost use Prim.Native.Nat.{_+_, _^_, _≤_, _<_};
@@ -15,9 +17,10 @@ ghost use Rattle.verdict.specs.Kind.{rows};
 ghost use Rattle.verdict.specs.Verdict.{uneven, firstUnbalanced};
 ghost use Rattle.verdict.specs.CoreAndRound.{coreLayout, roundLayout, coreKind, roundKind};
 ghost use Rattle.judge_scan.specs.Spot.{spotOf};
-ghost use Rattle.judge_tuples.specs.Port.{widthOf, tupleOf};
+ghost use Rattle.judge_scan.specs.Tables.{kindOf, layoutOf};
+ghost use Rattle.judge_tuples.specs.Port.{tupleOf};
 ghost use Rattle.judge_links.specs.Even.{Even};
-ghost use Rattle.judge_bus.specs.Pair.{kindOf, indexOf, Pair};
+ghost use Rattle.judge_bus.specs.Order.{firstPort, secondPort, firstIndex};
 
 // Whether the counts of both tables are different numbers of sends and receives.
 fn differ(t: Counts, u: Counts) -> bool
@@ -33,70 +36,86 @@ struct Unbalanced {
     second: bool,
 }
 
-// Which of the tuples s and q of the row x are. What the walk passed is even, so only the rows that it left are
+// The tuples of a row on the bus in the order of their indexes: a core row's send comes first, a round row's receive.
+fn first_port(nr: usize, table: Table) -> Port
+    ensures { λ r. ⌜ r ≡ firstPort nr table ⌝ }
+{
+    match table {
+        Table::Core => Port::CoreSend(nr),
+        Table::Round => Port::RoundReceive,
+    }
+}
+
+fn second_port(table: Table) -> Port
+    ensures { λ r. ⌜ r ≡ secondPort table ⌝ }
+{
+    match table {
+        Table::Core => Port::CoreReceive,
+        Table::Round => Port::RoundSend,
+    }
+}
+
+// The index of the first of them; that of the second is the next.
+fn first_index(table: Table) -> usize
+    ensures { λ r. ⌜ r ≡ firstIndex table ⌝ }
+{
+    match table {
+        Table::Core => 2,
+        Table::Round => 0,
+    }
+}
+
+// Which of the two tuples of the row x of a table are. What the walk passed is even, so only the rows that it left are
 // counted.
 fn unbalanced_tuples(
+    nr: usize,
     core: &[u64],
     round: &[u64],
     a: usize,
     b: usize,
     x: &[u64],
-    s: Port,
-    q: Port,
+    table: Table,
 ) -> Unbalanced
-    requires { ⌜ (a ≤ rows coreLayout (now core)) × (b ≤ rows roundLayout (now round)) × Even (now core) (now round) a b × (widthOf s ≤ length (now x)) × (widthOf q ≤ length (now x)) ⌝ }
-    ensures { λ r. ⌜ (r .first ≡ uneven (coreKind 24) roundKind (now (core .entry)) (now (round .entry)) (tupleOf s (now (x .entry)))) × (r .second ≡ uneven (coreKind 24) roundKind (now (core .entry)) (now (round .entry)) (tupleOf q (now (x .entry)))) ⌝ }
+    requires { ⌜ (a ≤ rows coreLayout (now core)) × (b ≤ rows roundLayout (now round)) × Even nr (now core) (now round) a b × (layoutOf table .width ≤ length (now x)) ⌝ }
+    ensures { λ r. ⌜ (r .first ≡ uneven (coreKind nr) roundKind (now (core .entry)) (now (round .entry)) (tupleOf (firstPort nr table) (now (x .entry)))) × (r .second ≡ uneven (coreKind nr) roundKind (now (core .entry)) (now (round .entry)) (tupleOf (secondPort table) (now (x .entry)))) ⌝ }
 {
-    let t = count(core, a, Port::CoreSend, Port::CoreReceive, x, s, q);
-    let u = count(round, b, Port::RoundSend, Port::RoundReceive, x, s, q);
+    let s = first_port(nr, table);
+    let q = second_port(table);
+    let t = count(nr, core, Table::Core, a, x, s, q);
+    let u = count(nr, round, Table::Round, b, x, s, q);
     Unbalanced {
         first: differ(t.first, u.first),
         second: differ(t.second, u.second),
     }
 }
 
-// The index of the tuple in its row.
-fn index_of(port: Port) -> usize
-    ensures { λ r. ⌜ r ≡ indexOf port ⌝ }
-{
-    match port {
-        Port::CoreSend => 2,
-        Port::CoreReceive => 3,
-        Port::RoundReceive => 0,
-        Port::RoundSend => 1,
-    }
-}
-
-// The first active row of a table, the core table or the round table, with an unbalanced tuple: tuple s, or else tuple
-// q. MU is the last word of a row of either table.
-fn first_unbalanced(
+// The first active row of a table, the core table or the round table, with an unbalanced tuple, and that tuple.
+pub fn first_unbalanced(
+    nr: usize,
     core: &[u64],
     round: &[u64],
     a: usize,
     b: usize,
-    table: &[u64],
-    s: Port,
-    q: Port,
+    words: &[u64],
+    table: Table,
 ) -> Spot
-    requires { ⌜ (a ≤ rows coreLayout (now core)) × (b ≤ rows roundLayout (now round)) × Even (now core) (now round) a b × Pair s q ⌝ }
-    ensures { λ r. ⌜ r ≡ spotOf (firstUnbalanced (coreKind 24) roundKind (now (core .entry)) (now (round .entry)) (kindOf s) (now (table .entry))) ⌝ }
+    requires { ⌜ (a ≤ rows coreLayout (now core)) × (b ≤ rows roundLayout (now round)) × Even nr (now core) (now round) a b ⌝ }
+    ensures { λ r. ⌜ r ≡ spotOf (firstUnbalanced (coreKind nr) roundKind (now (core .entry)) (now (round .entry)) (kindOf nr table) (now (words .entry))) ⌝ }
 {
-    let width = width_of(s);
-    let mu = width - 1;
-    let rows = table.len() / width;
+    let rows = words.len() / width_of(table);
+    let index = first_index(table);
     let mut found = Spot::Nowhere;
     let mut row = 0;
     'rows: while row < rows {
-        let x = row_at(table, width, row);
-        if x[mu] == 1 {
-            let u = unbalanced_tuples(core, round, a, b, x, s, q);
+        if is_active(words, table, row) {
+            let x = row_at(words, table, row);
+            let u = unbalanced_tuples(nr, core, round, a, b, x, table);
             if u.first {
-                let index = index_of(s);
                 found = Spot::At { row, index };
                 break 'rows;
             }
             if u.second {
-                let index = index_of(q);
+                let index = index + 1;
                 found = Spot::At { row, index };
                 break 'rows;
             }
@@ -104,28 +123,4 @@ fn first_unbalanced(
         row += 1;
     }
     found
-}
-
-// The first active core row with an unbalanced tuple: tuple 2, its send, or else tuple 3, its receive.
-pub fn first_core_unbalanced(core: &[u64], round: &[u64], a: usize, b: usize) -> Spot
-    requires { ⌜ (a ≤ rows coreLayout (now core)) × (b ≤ rows roundLayout (now round)) × Even (now core) (now round) a b ⌝ }
-    ensures { λ r. ⌜ r ≡ spotOf (firstUnbalanced (coreKind 24) roundKind (now (core .entry)) (now (round .entry)) (coreKind 24) (now (core .entry))) ⌝ }
-{
-    first_unbalanced(core, round, a, b, core, Port::CoreSend, Port::CoreReceive)
-}
-
-// The first active round row with one: tuple 0, its receive, or else tuple 1, its send.
-pub fn first_round_unbalanced(core: &[u64], round: &[u64], a: usize, b: usize) -> Spot
-    requires { ⌜ (a ≤ rows coreLayout (now core)) × (b ≤ rows roundLayout (now round)) × Even (now core) (now round) a b ⌝ }
-    ensures { λ r. ⌜ r ≡ spotOf (firstUnbalanced (coreKind 24) roundKind (now (core .entry)) (now (round .entry)) roundKind (now (round .entry))) ⌝ }
-{
-    first_unbalanced(
-        core,
-        round,
-        a,
-        b,
-        round,
-        Port::RoundReceive,
-        Port::RoundSend,
-    )
 }

@@ -1,20 +1,40 @@
 // How often rows send and receive the tuples of a row on the Keccak bus.
-use judge_links::row_at;
-use judge_links::width_of;
+use judge_scan::is_active;
+use judge_scan::row_at;
+use judge_scan::same_stamp;
+use judge_scan::width_of;
 use judge_tuples::Port;
-use judge_tuples::same_stamp;
 use judge_tuples::same_tuple;
+use verdict::Table;
 ghost use mathlib.Core.Path.{_≡_};
-ghost use mathlib.Core.Bool.{_&&_};
 ghost use Prim.Native.Nat.{_+_, _^_, _≤_, _<_};
-ghost use lib.Dec.{eqb};
 ghost use lib.ListN.{length};
-ghost use Rattle.lists.specs.Tab.{pick, word};
+ghost use Rattle.lists.specs.Tab.{pick};
 ghost use Rattle.lists.specs.Select.{wordsTest};
-ghost use Rattle.verdict.specs.Kind.{rows, sameStamp};
+ghost use Rattle.verdict.specs.Kind.{rows, stampedAt};
+ghost use Rattle.judge_scan.specs.Tables.{layoutOf};
 ghost use Rattle.judge_tuples.specs.Port.{widthOf, tupleOf};
-ghost use Rattle.judge_links.specs.Even.{layoutOf};
-ghost use Rattle.judge_counts.specs.Counting.{withRow, CountedRows};
+ghost use Rattle.judge_counts.specs.Counting.{sentBy, receivedBy, withRow, countsTo};
+
+// The tuple that a row of a table sends, with nr rounds to come.
+fn sent_by(nr: usize, table: Table) -> Port
+    ensures { λ r. ⌜ r ≡ sentBy nr table ⌝ }
+{
+    match table {
+        Table::Core => Port::CoreSend(nr),
+        Table::Round => Port::RoundSend,
+    }
+}
+
+// The one that it receives.
+fn received_by(table: Table) -> Port
+    ensures { λ r. ⌜ r ≡ receivedBy table ⌝ }
+{
+    match table {
+        Table::Core => Port::CoreReceive,
+        Table::Round => Port::RoundReceive,
+    }
+}
 
 // How often rows send a tuple, and how often they receive it.
 pub struct Counts {
@@ -52,35 +72,36 @@ fn add(y: &[u64], send: Port, receive: Port, x: &[u64], s: Port, t: Counts) -> C
     }
 }
 
-// Whether the row y has the timestamp of the row x and is active. MU comes last: in a round row it stands 1,479 words
-// after the timestamp begins, on another page.
-fn of_call(x: &[u64], y: &[u64], mu: usize) -> bool
-    requires { ⌜ (2 ≤ length (now x)) × (2 ≤ length (now y)) × (mu < length (now y)) ⌝ }
-    ensures { λ r. ⌜ r ≡ (eqb (word (now (y .entry)) mu) 1 && sameStamp (now (x .entry)) (now (y .entry))) ⌝ }
+// Whether a row has the timestamp of the row x and is active. MU comes last: in a round row it stands 1,479 words after
+// the timestamp begins, on another page.
+fn of_call(x: &[u64], words: &[u64], table: Table, row: usize) -> bool
+    requires { ⌜ (2 ≤ length (now x)) × (row < rows (layoutOf table) (now words)) ⌝ }
+    ensures { λ r. ⌜ r ≡ stampedAt (layoutOf table) (now (words .entry)) (now (x .entry)) row ⌝ }
 {
+    let y = row_at(words, table, row);
     if !same_stamp(x, y) {
         return false;
     }
-    y[mu] == 1
+    is_active(words, table, row)
 }
 
 // How often the rows of a table from `from` on send the tuples s and q of the row x, and receive them. Both tuples have
-// the row's timestamp, so one test of it passes over a row for both. MU is the last word of a row of either table.
+// the row's timestamp, so one test of it passes over a row for both.
 pub fn count(
-    table: &[u64],
+    nr: usize,
+    words: &[u64],
+    table: Table,
     from: usize,
-    send: Port,
-    receive: Port,
     x: &[u64],
     s: Port,
     q: Port,
 ) -> Both
-    requires { ⌜ (from ≤ rows (layoutOf send) (now table)) × (widthOf receive ≡ widthOf send) × (widthOf s ≤ length (now x)) × (widthOf q ≤ length (now x)) ⌝ }
-    ensures { λ r. ⌜ CountedRows send receive (now (table .entry)) (tupleOf s (now (x .entry))) from (rows (layoutOf send) (now (table .entry))) (r .first) × CountedRows send receive (now (table .entry)) (tupleOf q (now (x .entry))) from (rows (layoutOf send) (now (table .entry))) (r .second) ⌝ }
+    requires { ⌜ (from ≤ rows (layoutOf table) (now words)) × (widthOf s ≤ length (now x)) × (widthOf q ≤ length (now x)) ⌝ }
+    ensures { λ r. ⌜ (r .first ≡ countsTo nr table (now (words .entry)) (tupleOf s (now (x .entry))) from (rows (layoutOf table) (now (words .entry)))) × (r .second ≡ countsTo nr table (now (words .entry)) (tupleOf q (now (x .entry))) from (rows (layoutOf table) (now (words .entry)))) ⌝ }
 {
-    let width = width_of(send);
-    let mu = width - 1;
-    let rows = table.len() / width;
+    let send = sent_by(nr, table);
+    let receive = received_by(table);
+    let rows = words.len() / width_of(table);
     let mut first = Counts {
         sent: 0,
         received: 0,
@@ -91,8 +112,8 @@ pub fn count(
     };
     let mut row = from;
     while row < rows {
-        let y = row_at(table, width, row);
-        if of_call(x, y, mu) {
+        if of_call(x, words, table, row) {
+            let y = row_at(words, table, row);
             first = add(y, send, receive, x, s, first);
             second = add(y, send, receive, x, q, second);
         }

@@ -1,7 +1,7 @@
 -- What the chains, the walk and the counts on the Keccak bus cite.
---     row-wide, width-is, mu-is    a row is as long as its tuples need, and MU is its last word
---     linked                       what the code compares is what the rows send and receive
---     even-to, to-even             the tuples by port are those of the two kinds by index
+--     row-wide          a row is as long as its tuples need
+--     linked            what the code compares is what the rows send and receive
+--     even-to, to-even  the tuples by port are those of the two kinds by index
 use mathlib.Core.Path.{_≡_, refl, sym, ap, subst, _∙_}
 use mathlib.Core.Bool.{Bool}
 use mathlib.Core.List.{List}
@@ -23,27 +23,9 @@ use Rattle.judge_links.proofs.Walk.{EvenTo}
 use Rattle.judge_tuples.specs.Port.{tupleOf, widthOf}
 use Rattle.judge_tuples.specs.declared.Port.{Port}
 use Rattle.judge_tuples.specs.declared.Port.the-variants.{CoreSend, CoreReceive, RoundReceive, RoundSend}
-use Rattle.judge_links.specs.Even.{layoutOf, hasTuple, Even, Started}
+use Rattle.judge_links.specs.Even.{hasTuple, Even, Started}
 
 -- ---- rows by port
-pub width-is : (s : Port) → widthOf s ≡ layoutOf s .width
-unfolding widthOf layoutOf
-width-is CoreSend = refl
-width-is CoreReceive = refl
-width-is RoundReceive = refl
-width-is RoundSend = refl
-
-pub mu-is : (s : Port) → layoutOf s .mu + 1 ≡ layoutOf s .width
-unfolding layoutOf
-mu-is CoreSend = refl
-mu-is CoreReceive = refl
-mu-is RoundReceive = refl
-mu-is RoundSend = refl
-
--- what a match has found
-pub told-width : {s q : Port} → s ≡ q → layoutOf q .width ≡ layoutOf s .width
-told-width e = ap (λ (s : Port). layoutOf s .width) (sym e)
-
 pub row-wide : (s : Port) (w : ℕ) (x ws : List ℕ) (r : ℕ) → widthOf s ≤ w → x ≡ rowAt w ws r → widthOf s ≤ length x
 row-wide s w x ws r l e = omega (arith, ap length e, length-rowAt w ws r)
 
@@ -57,13 +39,13 @@ unfolding Started
 started-in round last r e s = subst (Started round) e s
 
 -- ---- the tuples of the two kinds by port
-pub core-sends : (core v : List ℕ) → hasTuple coreLayout CoreSend core v ≡ activeTupleAt (coreKind 24) 2 core v
+pub core-sends : (nr : ℕ) (core v : List ℕ) → hasTuple coreLayout (CoreSend nr) core v ≡ activeTupleAt (coreKind nr) 2 core v
 unfolding hasTuple activeTupleAt tupleOf coreTuple followedBy
-core-sends core v = refl
+core-sends nr core v = refl
 
-pub core-receives : (core v : List ℕ) → hasTuple coreLayout CoreReceive core v ≡ activeTupleAt (coreKind 24) 3 core v
+pub core-receives : (nr : ℕ) (core v : List ℕ) → hasTuple coreLayout CoreReceive core v ≡ activeTupleAt (coreKind nr) 3 core v
 unfolding hasTuple activeTupleAt tupleOf coreTuple followedBy
-core-receives core v = refl
+core-receives nr core v = refl
 
 pub round-sends : (round v : List ℕ) → hasTuple roundLayout RoundSend round v ≡ activeTupleAt roundKind 1 round v
 unfolding hasTuple activeTupleAt tupleOf roundTuple followedBy
@@ -76,13 +58,13 @@ round-receives round v = refl
 pub counts : {f g : ℕ → Bool} → f ≡ g → (n : ℕ) → countBelow f n ≡ countBelow g n
 counts e n = ap (λ (f : ℕ → Bool). countBelow f n) e
 
-module _ (core round : List ℕ) (a b : ℕ) where
-  pub even-to : Even core round a b → EvenTo (core-bus 24) round-bus core round a b
+module _ (nr : ℕ) (core round : List ℕ) (a b : ℕ) where
+  pub even-to : Even nr core round a b → EvenTo (core-bus nr) round-bus core round a b
   unfolding Even EvenTo
   even-to h v =
-      omega (arith, h v, counts (core-sends core v) a, counts (core-receives core v) a, counts (round-sends round v) b, counts (round-receives round v) b)
+      omega (arith, h v, counts (core-sends nr core v) a, counts (core-receives nr core v) a, counts (round-sends round v) b, counts (round-receives round v) b)
 
-  pub to-even : EvenTo (core-bus 24) round-bus core round a b → Even core round a b
+  pub to-even : EvenTo (core-bus nr) round-bus core round a b → Even nr core round a b
   unfolding Even EvenTo
   to-even h v =
-      omega (arith, h v, counts (core-sends core v) a, counts (core-receives core v) a, counts (round-sends round v) b, counts (round-receives round v) b)
+      omega (arith, h v, counts (core-sends nr core v) a, counts (core-receives nr core v) a, counts (round-sends round v) b, counts (round-receives round v) b)

@@ -1,4 +1,4 @@
--- What rows send and receive on the Keccak bus, and what is owed in the chain of a core row.
+-- What rows send and receive on the Keccak bus of nr rounds, and what is owed in the chain of a core row.
 --     Even       the first rows of both tables send and receive the same tuples, each equally often
 --     owedBy     the tuple that the next row of a chain has to receive
 use mathlib.Core.Path.{_≡_}
@@ -15,27 +15,20 @@ use Rattle.judge_tuples.specs.Port.{tupleOf}
 use Rattle.judge_tuples.specs.declared.Port.{Port}
 use Rattle.judge_tuples.specs.declared.Port.the-variants.{CoreSend, CoreReceive, RoundReceive, RoundSend}
 
--- the layout of the rows that have such a tuple
-unfoldable pub layoutOf : Port → Layout
-layoutOf CoreSend = coreLayout
-layoutOf CoreReceive = coreLayout
-layoutOf RoundReceive = roundLayout
-layoutOf RoundSend = roundLayout
-
 -- whether row r of a table is active and has, as its tuple `port`, the tuple v
 unfoldable pub hasTuple : Layout → Port → List ℕ → List ℕ → ℕ → Bool
 hasTuple A port ws v r = active A ws r && wordsTest v (tupleOf port (row A ws r))
 
 -- each tuple is sent as often as received by the first a core rows and the first b round rows
-unfoldable pub Even : List ℕ → List ℕ → ℕ → ℕ → Type 0
-Even core round a b =
-    (v : List ℕ) → countBelow (hasTuple coreLayout CoreSend core v) a + countBelow (hasTuple roundLayout RoundSend round v) b
+unfoldable pub Even : ℕ → List ℕ → List ℕ → ℕ → ℕ → Type 0
+Even nr core round a b =
+    (v : List ℕ) → countBelow (hasTuple coreLayout (CoreSend nr) core v) a + countBelow (hasTuple roundLayout RoundSend round v) b
     ≡ countBelow (hasTuple coreLayout CoreReceive core v) a + countBelow (hasTuple roundLayout RoundReceive round v) b
 
 -- the tuple that is owed in the chain of core row a: what the last round row of the chain sent, or what row a sent
-unfoldable pub owedBy : List ℕ → ℕ → List ℕ → Place → List ℕ
-owedBy core a round Nowhere = tupleOf CoreSend (row coreLayout core a)
-owedBy core a round (At r) = tupleOf RoundSend (row roundLayout round r)
+unfoldable pub owedBy : ℕ → List ℕ → ℕ → List ℕ → Place → List ℕ
+owedBy nr core a round Nowhere = tupleOf (CoreSend nr) (row coreLayout core a)
+owedBy nr core a round (At r) = tupleOf RoundSend (row roundLayout round r)
 
 -- the last round row of a chain, where there is one, is in the table
 unfoldable pub Started : List ℕ → Place → Type 0

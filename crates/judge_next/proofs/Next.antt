@@ -27,7 +27,7 @@ pub around-in : (x n k r : ℕ) → k < n → r ≡ x % n → r < n
 around-in x n k r l e = subst (λ (m : ℕ). m < n) (sym e) (mod-lt x (omega arith))
 
 -- ---- the rows of a chain
-module _ (core : List ℕ) (a : ℕ) (round : List ℕ) where
+module _ (nr : ℕ) (core : List ℕ) (a : ℕ) (round : List ℕ) where
   pub follows : (last : Place) (q : ℕ) → q < rows roundLayout round → active roundLayout round q ≡ true →
-      wordsTest (owedBy core a round last) (tupleOf RoundReceive (row roundLayout round q)) ≡ true → Follows core a round last q
+      wordsTest (owedBy nr core a round last) (tupleOf RoundReceive (row roundLayout round q)) ≡ true → Follows nr core a round last q
   follows last q l e t = record { active = active-is roundLayout round q l e; receives = words-sound _ _ (T-of _ t) }

@@ -1,9 +1,10 @@
 // The next round row in the chain of a core row, wherever it stands.
 use judge_links::takes;
-use judge_scan::round_active;
+use judge_scan::is_active;
 use keccak;
 use keccak_rnd;
 use lists::Place;
+use verdict::Table;
 ghost use mathlib.Core.Path.{_≡_};
 ghost use mathlib.Core.Bool.{true};
 ghost use Prim.Native.Nat.{_+_, _%_, _≤_, _<_};
@@ -14,17 +15,17 @@ ghost use Rattle.chains.specs.Chain.{Follows, IfFound};
 
 // Whether round row q is active and receives what is owed. The first word of a timestamp, one word along a chain, tells
 // most rows apart; MU stands far behind it in the row, so it is read last.
-fn is_next(core: &[u64], a: usize, round: &[u64], last: Place, q: usize) -> bool
+fn is_next(nr: usize, core: &[u64], a: usize, round: &[u64], last: Place, q: usize) -> bool
     requires { ⌜ (a < rows coreLayout (now core)) × (q < rows roundLayout (now round)) × Started (now round) last ⌝ }
-    ensures { λ r. ⌜ (r ≡ true → Follows (now (core .entry)) a (now (round .entry)) last q) ⌝ }
+    ensures { λ r. ⌜ (r ≡ true → Follows nr (now (core .entry)) a (now (round .entry)) last q) ⌝ }
 {
     if round[q * keccak_rnd::NUM_COLUMNS] != core[a * keccak::NUM_COLUMNS] {
         return false;
     }
-    if !takes(core, a, round, last, q) {
+    if !takes(nr, core, a, round, last, q) {
         return false;
     }
-    round_active(round, q)
+    is_active(round, Table::Round, q)
 }
 
 // Row x of n rows, where the first comes after the last.
@@ -37,19 +38,19 @@ fn around(x: usize, n: usize) -> usize
 
 // The next row of a chain. The search begins at row `from` and goes both ways: rows in the writer's order, or in the
 // reversed one, are found at once.
-pub fn next_row(core: &[u64], a: usize, round: &[u64], last: Place, from: usize) -> Place
+pub fn next_row(nr: usize, core: &[u64], a: usize, round: &[u64], last: Place, from: usize) -> Place
     requires { ⌜ (a < rows coreLayout (now core)) × Started (now round) last × (from ≤ rows roundLayout (now round)) ⌝ }
-    ensures { λ r. ⌜ IfFound (Follows (now (core .entry)) a (now (round .entry)) last) r ⌝ }
+    ensures { λ r. ⌜ IfFound (Follows nr (now (core .entry)) a (now (round .entry)) last) r ⌝ }
 {
     let rows = round.len() / keccak_rnd::NUM_COLUMNS;
     let mut k = 0;
     while k < rows {
         let after = around(from + k, rows);
-        if is_next(core, a, round, last, after) {
+        if is_next(nr, core, a, round, last, after) {
             return Place::At(after);
         }
         let before = around(from + rows - 1 - k, rows);
-        if is_next(core, a, round, last, before) {
+        if is_next(nr, core, a, round, last, before) {
             return Place::At(before);
         }
         k += 1;

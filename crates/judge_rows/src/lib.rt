@@ -1,134 +1,99 @@
 // The first failure of a table. Each row is handed, as the part of the slice that it is, to a function that fills a word
-// for each value or each lookup, 0 where it is good; the scan is left at the first word that is not 0.
+// for each value or each tuple, 0 where it is good; the scan is left at the first word that is not 0.
 use judge_scan::Spot;
+use judge_scan::width_of;
 use keccak;
 use keccak_lookups::put_core_lookups;
 use keccak_rnd;
 use keccak_rnd_lookups::put_round_lookups;
 use keccak_rnd_values::put_round_values;
 use keccak_values::put_core_values;
+use verdict::Table;
 ghost use mathlib.Core.Path.{_≡_};
+ghost use Prim.Native.Nat.{ℕ, _≤_};
 ghost use lib.ListN.{length};
 ghost use Rattle.lists.specs.Tab.{word};
+ghost use Rattle.field.specs.Elements.{ElementRow};
 ghost use Rattle.residue.specs.Residue.{orAll};
-ghost use Rattle.verdict.specs.Verdict.{firstValue, firstLookup};
-ghost use Rattle.verdict.specs.CoreAndRound.{coreKind, roundKind};
+ghost use Rattle.keccak_rnd.specs.Tuples.{NUM-TUPLES};
 ghost use Rattle.verdict.specs.Kind.{Elements};
 ghost use Rattle.judge_scan.specs.Spot.{spotOf};
+ghost use Rattle.judge_scan.specs.Tables.{kindOf, layoutOf};
+ghost use Rattle.judge_rows.specs.Checks.{sizeOf, firstFailure, Tells};
 
-// The OR of words: 0 where none is left to look for.
-fn or_of(words: &[u64]) -> u64
-    ensures { λ r. ⌜ r ≡ orAll (length (now (words .entry))) (word (now (words .entry))) ⌝ }
+// What is looked at in a row: its values, or its tuples.
+pub enum Check {
+    Values,
+    Lookups,
+}
+
+// The OR of n words: 0 where none is left to look for.
+fn or_of(words: &[u64], n: usize) -> u64
+    requires { ⌜ n ≤ length (now words) ⌝ }
+    ensures { λ r. ⌜ r ≡ orAll n (word (now (words .entry))) ⌝ }
 {
     let mut all: u64 = 0;
     let mut i: usize = 0;
-    while i < words.len() {
+    while i < n {
         all = words[i] | all;
         i += 1;
     }
     all
 }
 
-// The first row of a core table with a value that is not 0, and the first such value in it.
-pub fn first_core_value(core: &[u64]) -> Spot
-    requires { ⌜ Elements (now core) ⌝ }
-    ensures { λ r. ⌜ r ≡ spotOf (firstValue (coreKind 24) (now (core .entry))) ⌝ }
+// How many there are of them in a row.
+fn size_of(table: Table, check: Check) -> usize
+    ensures { λ r. ⌜ ((nr : ℕ) → r ≡ sizeOf (kindOf nr table) check) ⌝ }
 {
-    let rows = core.len() / keccak::NUM_COLUMNS;
-    let mut core_values = [0u64; 52];
-    let mut found = Spot::Nowhere;
-    let mut row = 0;
-    'rows: while row < rows {
-        let start = row * keccak::NUM_COLUMNS;
-        let end = start + keccak::NUM_COLUMNS;
-        put_core_values(&core[start..end], &mut core_values);
-        if or_of(&core_values) != 0 {
-            let mut index = 0;
-            while index < 52 {
-                if core_values[index] != 0 {
-                    found = Spot::At { row, index };
-                    break 'rows;
-                }
-                index += 1;
-            }
-        }
-        row += 1;
+    match check {
+        Check::Values => match table {
+            Table::Core => keccak::NUM_VALUES,
+            Table::Round => keccak_rnd::NUM_VALUES,
+        },
+        Check::Lookups => match table {
+            Table::Core => keccak::NUM_TUPLES,
+            Table::Round => keccak_rnd::NUM_TUPLES,
+        },
     }
-    found
 }
 
-// The first row of a core table with a tuple that needs a match and has none, and the first such tuple in it.
-pub fn first_core_lookup(core: &[u64]) -> Spot
-    ensures { λ r. ⌜ r ≡ spotOf (firstLookup (coreKind 24) (now (core .entry))) ⌝ }
+// A word for each of them, 0 where it is good, into the first words of `out`.
+fn put_words(row: &[u64], table: Table, check: Check, out: &mut [u64])
+    requires { ⌜ ElementRow (layoutOf table .width) (now row) × (NUM-TUPLES ≤ length (now out)) ⌝ }
+    ensures { λ _. ⌜ ((nr : ℕ) → Tells (kindOf nr table) check (now (row .entry)) (now (out .entry)) (now (out .exit))) ⌝ }
 {
-    let rows = core.len() / keccak::NUM_COLUMNS;
-    let mut core_lookups = [0u64; 84];
-    let mut found = Spot::Nowhere;
-    let mut row = 0;
-    'rows: while row < rows {
-        let start = row * keccak::NUM_COLUMNS;
-        let end = start + keccak::NUM_COLUMNS;
-        put_core_lookups(&core[start..end], &mut core_lookups);
-        if or_of(&core_lookups) != 0 {
-            let mut index = 0;
-            while index < 84 {
-                if core_lookups[index] != 0 {
-                    found = Spot::At { row, index };
-                    break 'rows;
-                }
-                index += 1;
-            }
-        }
-        row += 1;
+    match check {
+        Check::Values => match table {
+            Table::Core => put_core_values(row, out),
+            Table::Round => put_round_values(row, out),
+        },
+        Check::Lookups => match table {
+            Table::Core => put_core_lookups(row, out),
+            Table::Round => put_round_lookups(row, out),
+        },
     }
-    found
 }
 
-// The first row of a round table with a value that is not 0, and the first such value in it.
-pub fn first_round_value(round: &[u64]) -> Spot
-    requires { ⌜ Elements (now round) ⌝ }
-    ensures { λ r. ⌜ r ≡ spotOf (firstValue roundKind (now (round .entry))) ⌝ }
+// The first row of a table with one that is not good, and the first such one in it. Nothing that is looked at depends on
+// the number of rounds.
+pub fn first_failure(words: &[u64], table: Table, check: Check) -> Spot
+    requires { ⌜ Elements (now words) ⌝ }
+    ensures { λ r. ⌜ ((nr : ℕ) → r ≡ spotOf (firstFailure (kindOf nr table) check (now (words .entry)))) ⌝ }
 {
-    let rows = round.len() / keccak_rnd::NUM_COLUMNS;
-    let mut round_values = [0u64; 141];
+    let width = width_of(table);
+    let size = size_of(table, check);
+    let rows = words.len() / width;
+    let mut checks = [0u64; keccak_rnd::NUM_TUPLES];
     let mut found = Spot::Nowhere;
     let mut row = 0;
     'rows: while row < rows {
-        let start = row * keccak_rnd::NUM_COLUMNS;
-        let end = start + keccak_rnd::NUM_COLUMNS;
-        put_round_values(&round[start..end], &mut round_values);
-        if or_of(&round_values) != 0 {
+        let start = row * width;
+        let end = start + width;
+        put_words(&words[start..end], table, check, &mut checks);
+        if or_of(&checks, size) != 0 {
             let mut index = 0;
-            while index < 141 {
-                if round_values[index] != 0 {
-                    found = Spot::At { row, index };
-                    break 'rows;
-                }
-                index += 1;
-            }
-        }
-        row += 1;
-    }
-    found
-}
-
-// The first row of a round table with a tuple that needs a match and has none, and the first such tuple in it.
-pub fn first_round_lookup(round: &[u64]) -> Spot
-    requires { ⌜ Elements (now round) ⌝ }
-    ensures { λ r. ⌜ r ≡ spotOf (firstLookup roundKind (now (round .entry))) ⌝ }
-{
-    let rows = round.len() / keccak_rnd::NUM_COLUMNS;
-    let mut round_lookups = [0u64; 1031];
-    let mut found = Spot::Nowhere;
-    let mut row = 0;
-    'rows: while row < rows {
-        let start = row * keccak_rnd::NUM_COLUMNS;
-        let end = start + keccak_rnd::NUM_COLUMNS;
-        put_round_lookups(&round[start..end], &mut round_lookups);
-        if or_of(&round_lookups) != 0 {
-            let mut index = 0;
-            while index < 1031 {
-                if round_lookups[index] != 0 {
+            while index < size {
+                if checks[index] != 0 {
                     found = Spot::At { row, index };
                     break 'rows;
                 }

@@ -1,1 +1,3 @@
 pub mod Scan
+pub mod Rising
+pub mod Stamps

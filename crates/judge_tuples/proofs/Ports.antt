@@ -22,7 +22,8 @@ use Rattle.keccak_rnd.specs.Tuples.{out, roundReceived, roundSent}
 use Rattle.keccak_rnd.proofs.Active.{of-200}
 use Rattle.keccak_rnd.proofs.Step.{keccak-same}
 use Rattle.verdict.specs.Kind.{sameStamp}
-use Rattle.judge_tuples.specs.Port.{tupleOf, widthOf, roundOf, laneAt, restAt, wordsDiffer, sameState}
+use Rattle.judge_scan.specs.Tables.{layoutOf}
+use Rattle.judge_tuples.specs.Port.{tupleOf, tableOf, widthOf, roundOf, laneAt, restAt, wordsDiffer, sameState}
 use Rattle.judge_tuples.specs.declared.Port.{Port}
 use Rattle.judge_tuples.specs.declared.Port.the-variants.{CoreSend, CoreReceive, RoundReceive, RoundSend}
 
@@ -59,15 +60,15 @@ told-round x e = ap (λ (s : Port). roundOf s x) (sym e)
 
 -- the columns of a tuple are in its row
 lane-in : (s : Port) → laneAt s + 8 ≤ widthOf s
-unfolding laneAt widthOf
-lane-in CoreSend = omega arith
+unfolding laneAt widthOf tableOf layoutOf
+lane-in (CoreSend nr) = omega arith
 lane-in CoreReceive = omega arith
 lane-in RoundReceive = omega arith
 lane-in RoundSend = omega arith
 
 rest-in : (s : Port) → (restAt s + 200 ≤ widthOf s) × (3 ≤ widthOf s) × (widthOf s ≤ 1480)
-unfolding restAt widthOf
-rest-in CoreSend = (omega arith, omega arith, omega arith)
+unfolding restAt widthOf tableOf layoutOf
+rest-in (CoreSend nr) = (omega arith, omega arith, omega arith)
 rest-in CoreReceive = (omega arith, omega arith, omega arith)
 rest-in RoundReceive = (omega arith, omega arith, omega arith)
 rest-in RoundSend = (omega arith, omega arith, omega arith)
@@ -101,7 +102,7 @@ handed-on x zero (suc j) b hi hj hb =
 
 pub tuple-is : (s : Port) (x : List ℕ) → tupleOf s x ≡ keccakValues (word x 0) (word x 1) (roundOf s x) (cell s x)
 unfolding tupleOf roundOf coreSent coreReceived roundReceived roundSent laneAt restAt
-tuple-is CoreSend x = keccak-same _ _ _ _ _ (λ i j b hi hj hb. plain CoreSend 10 x refl refl i j b)
+tuple-is (CoreSend nr) x = keccak-same _ _ _ _ _ (λ i j b hi hj hb. plain (CoreSend nr) 10 x refl refl i j b)
 tuple-is CoreReceive x = keccak-same _ _ _ _ _ (λ i j b hi hj hb. plain CoreReceive 210 x refl refl i j b)
 tuple-is RoundReceive x = keccak-same _ _ _ _ _ (λ i j b hi hj hb. plain RoundReceive 3 x refl refl i j b)
 tuple-is RoundSend x = keccak-same _ _ _ _ _ (handed-on x)
@@ -115,15 +116,6 @@ either false false f g = refl
 and-and : (a b c : Bool) → (a && (b && c)) ≡ ((a && b) && c)
 and-and true b c = refl
 and-and false b c = refl
-
--- two timestamps: the low words decide, then the high ones
-pub low-apart : (x y : List ℕ) → (word x 0 ≡ word y 0 → ⊥) → false ≡ sameStamp x y
-unfolding sameStamp
-low-apart x y n = sym (rw (ne-eqb (word x 0) (word y 0) n))
-
-pub by-high : (x y : List ℕ) → word x 0 ≡ word y 0 → eqb (word x 1) (word y 1) ≡ sameStamp x y
-unfolding sameStamp
-by-high x y e = sym (rw (eq-eqb (word x 0) (word y 0) e))
 
 -- the states of two tuples in the order of the bus
 abbrev spread : Port → List ℕ → List ℕ

@@ -1,7 +1,8 @@
--- The four Keccak tuples of core rows and round rows, and the columns that they are made of.
+-- The four Keccak tuples of core rows and round rows, and the columns that they are made of. What a core row sends depends
+-- on the number of rounds, nr.
 use mathlib.Core.Bool.{Bool, not, _&&_}
 use mathlib.Core.List.{List}
-use Prim.Native.Nat.{ℕ, _+_}
+use Prim.Native.Nat.{ℕ, _+_, _-_}
 use lib.Dec.{eqb}
 use Rattle.lists.specs.Tab.{word}
 use Rattle.lists.specs.First.{anyBelow}
@@ -10,39 +11,45 @@ use Rattle.keccak.specs.Columns as core
 use Rattle.keccak.specs.Tuples.{coreSent, coreReceived}
 use Rattle.keccak_rnd.specs.Columns as round
 use Rattle.keccak_rnd.specs.Tuples.{roundReceived, roundSent}
+use Rattle.verdict.specs.declared.Table.{Table}
+use Rattle.verdict.specs.declared.Table.the-variants.{Core, Round}
+use Rattle.judge_scan.specs.Tables.{layoutOf}
 use Rattle.judge_tuples.specs.declared.Port.{Port}
 use Rattle.judge_tuples.specs.declared.Port.the-variants.{CoreSend, CoreReceive, RoundReceive, RoundSend}
 
 -- the values of the tuple, as the bus has them
 unfoldable pub tupleOf : Port → List ℕ → List ℕ
-tupleOf CoreSend x = coreSent 24 x
+tupleOf (CoreSend nr) x = coreSent nr x
 tupleOf CoreReceive x = coreReceived x
 tupleOf RoundReceive x = roundReceived x
 tupleOf RoundSend x = roundSent x
 
--- how many words its row has
+-- the table whose rows have it, and how many words such a row has
+unfoldable pub tableOf : Port → Table
+tableOf (CoreSend nr) = Core
+tableOf CoreReceive = Core
+tableOf RoundReceive = Round
+tableOf RoundSend = Round
+
 unfoldable pub widthOf : Port → ℕ
-widthOf CoreSend = core.NUM-COLUMNS
-widthOf CoreReceive = core.NUM-COLUMNS
-widthOf RoundReceive = round.NUM-COLUMNS
-widthOf RoundSend = round.NUM-COLUMNS
+widthOf s = layoutOf (tableOf s) .width
 
 -- the round that it names
 unfoldable pub roundOf : Port → List ℕ → ℕ
-roundOf CoreSend x = 0
+roundOf (CoreSend nr) x = 24 - nr
 roundOf CoreReceive x = 24
 roundOf RoundReceive x = word x round.ROUND
 roundOf RoundSend x = fadd (word x round.ROUND) 1
 
 -- where its state stands: the first eight words, lane (0, 0), and the others, counted from where the first would stand
 unfoldable pub laneAt : Port → ℕ
-laneAt CoreSend = core.INPUT-STATE
+laneAt (CoreSend nr) = core.INPUT-STATE
 laneAt CoreReceive = core.OUTPUT-STATE
 laneAt RoundReceive = round.START
 laneAt RoundSend = round.IOTA
 
 unfoldable pub restAt : Port → ℕ
-restAt CoreSend = core.INPUT-STATE
+restAt (CoreSend nr) = core.INPUT-STATE
 restAt CoreReceive = core.OUTPUT-STATE
 restAt RoundReceive = round.START
 restAt RoundSend = round.CHI

@@ -1,21 +1,21 @@
 // The Keccak tuples of core rows and round rows, compared by the columns that they are made of.
 use field::Fe;
+use judge_scan::same_stamp;
 use keccak;
 use keccak_rnd;
 ghost use mathlib.Core.Path.{_≡_};
 ghost use mathlib.Core.Bool.{not};
-ghost use Prim.Native.Nat.{_+_, _≤_};
+ghost use Prim.Native.Nat.{_+_, _-_, _≤_};
 ghost use lib.ListN.{length};
 ghost use Rattle.lists.specs.First.{anyBelow};
 ghost use Rattle.lists.specs.Select.{wordsTest};
 ghost use Rattle.field.specs.Field.{fadd};
-ghost use Rattle.verdict.specs.Kind.{sameStamp};
 ghost use Rattle.judge_tuples.specs.Port.{widthOf, laneAt, restAt, roundOf, tupleOf, wordsDiffer, sameState};
 
-// The four Keccak tuples: a core row sends INPUT and receives OUTPUT, a round row receives START and sends the state
-// after its round.
+// The four Keccak tuples: a core row sends INPUT, with so many rounds to come, and receives OUTPUT; a round row receives
+// START and sends the state after its round.
 pub enum Port {
-    CoreSend,
+    CoreSend(usize),
     CoreReceive,
     RoundReceive,
     RoundSend,
@@ -27,7 +27,7 @@ fn lane_at(port: Port) -> usize
     ensures { λ r. ⌜ r ≡ laneAt port ⌝ }
 {
     match port {
-        Port::CoreSend => keccak::INPUT_STATE,
+        Port::CoreSend(_) => keccak::INPUT_STATE,
         Port::CoreReceive => keccak::OUTPUT_STATE,
         Port::RoundReceive => keccak_rnd::START,
         Port::RoundSend => keccak_rnd::IOTA,
@@ -38,7 +38,7 @@ fn rest_at(port: Port) -> usize
     ensures { λ r. ⌜ r ≡ restAt port ⌝ }
 {
     match port {
-        Port::CoreSend => keccak::INPUT_STATE,
+        Port::CoreSend(_) => keccak::INPUT_STATE,
         Port::CoreReceive => keccak::OUTPUT_STATE,
         Port::RoundReceive => keccak_rnd::START,
         Port::RoundSend => keccak_rnd::CHI,
@@ -56,14 +56,25 @@ fn next(round: u64) -> u64
     }
 }
 
+// The round at which nr rounds begin: the last one is always round 23.
+fn first_round(nr: usize) -> u64
+    ensures { λ r. ⌜ r ≡ 24 - nr ⌝ }
+{
+    if nr < keccak_rnd::ROUNDS {
+        (keccak_rnd::ROUNDS - nr) as u64
+    } else {
+        0
+    }
+}
+
 // The round that a tuple names.
 fn round_of(row: &[u64], port: Port) -> u64
     requires { ⌜ widthOf port ≤ length (now row) ⌝ }
     ensures { λ r. ⌜ r ≡ roundOf port (now (row .entry)) ⌝ }
 {
     match port {
-        Port::CoreSend => 0,
-        Port::CoreReceive => 24,
+        Port::CoreSend(nr) => first_round(nr),
+        Port::CoreReceive => keccak_rnd::ROUNDS as u64,
         Port::RoundReceive => row[keccak_rnd::ROUND],
         Port::RoundSend => next(row[keccak_rnd::ROUND]),
     }
@@ -97,17 +108,6 @@ fn same_state(x: &[u64], s: Port, y: &[u64], q: Port) -> bool
     let from = rest_at(s) + 8;
     let to = rest_at(q) + 8;
     same_words(x, from, y, to, 192)
-}
-
-// Whether two rows have one timestamp: both words.
-pub fn same_stamp(x: &[u64], y: &[u64]) -> bool
-    requires { ⌜ (2 ≤ length (now x)) × (2 ≤ length (now y)) ⌝ }
-    ensures { λ r. ⌜ r ≡ sameStamp (now (x .entry)) (now (y .entry)) ⌝ }
-{
-    if x[0] != y[0] {
-        return false;
-    }
-    x[1] == y[1]
 }
 
 // Whether tuple s of the row x is tuple q of the row y. Timestamps come first: most rows differ there.

@@ -9,6 +9,6 @@ use Rattle.verdict.specs.CoreAndRound.{roundLayout}
 use Rattle.judge_links.specs.Even.{Even}
 
 -- the chain of core row a from round row b on ends before row n
-unfoldable pub Reaches : List ℕ → ℕ → List ℕ → ℕ → Place → Type 0
-Reaches core a round b Nowhere = Unit {0}
-Reaches core a round b (At n) = (n ≤ rows roundLayout round) × (Even core round a b → Even core round (a + 1) n)
+unfoldable pub Reaches : ℕ → List ℕ → ℕ → List ℕ → ℕ → Place → Type 0
+Reaches nr core a round b Nowhere = Unit {0}
+Reaches nr core a round b (At n) = (n ≤ rows roundLayout round) × (Even nr core round a b → Even nr core round (a + 1) n)

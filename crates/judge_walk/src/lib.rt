@@ -1,11 +1,11 @@
 // The walk along the Keccak bus over rows in the writer's order: how far both tables balance among themselves.
 use judge_links::ends;
 use judge_links::takes;
-use judge_scan::core_active;
-use judge_scan::round_active;
+use judge_scan::is_active;
 use keccak;
 use keccak_rnd;
 use lists::Place;
+use verdict::Table;
 ghost use mathlib.Core.Path.{_≡_};
 ghost use mathlib.Core.Bool.{true};
 ghost use Prim.Native.Nat.{_+_, _≤_, _<_};
@@ -16,20 +16,21 @@ ghost use Rattle.judge_walk.specs.Reach.{Reaches};
 
 // The round row after the chain of core row a that begins at row b: each active row receives what the one before it
 // sent, the first what the core row sent, and the core row receives what the last one sent.
-fn chain(core: &[u64], a: usize, round: &[u64], b: usize) -> Place
+fn chain(nr: usize, core: &[u64], a: usize, round: &[u64], b: usize) -> Place
     requires { ⌜ (a < rows coreLayout (now core)) × (active coreLayout (now core) a ≡ true) × (b ≤ rows roundLayout (now round)) ⌝ }
-    ensures { λ r. ⌜ Reaches (now (core .entry)) a (now (round .entry)) b r ⌝ }
+    ensures { λ r. ⌜ Reaches nr (now (core .entry)) a (now (round .entry)) b r ⌝ }
 {
     let rows = round.len() / keccak_rnd::NUM_COLUMNS;
     let mut last = Place::Nowhere;
     let mut q = b;
     while q < rows {
-        if round_active(round, q) {
-            if !takes(core, a, round, last, q) {
+        if is_active(round, Table::Round, q) {
+            if !takes(nr, core, a, round, last, q) {
                 return Place::Nowhere;
             }
             if ends(core, a, round, q) {
-                return Place::At(q + 1);
+                let next = q + 1;
+                return Place::At(next);
             }
             last = Place::At(q);
         }
@@ -39,14 +40,14 @@ fn chain(core: &[u64], a: usize, round: &[u64], b: usize) -> Place
 }
 
 // The first round row from b on that is active, or the end.
-fn skipped(core: &[u64], a: usize, round: &[u64], b: usize) -> usize
-    requires { ⌜ (b ≤ rows roundLayout (now round)) × Even (now core) (now round) a b ⌝ }
-    ensures { λ r. ⌜ (r ≤ rows roundLayout (now (round .entry))) × Even (now (core .entry)) (now (round .entry)) a r ⌝ }
+fn skipped(nr: usize, core: &[u64], a: usize, round: &[u64], b: usize) -> usize
+    requires { ⌜ (b ≤ rows roundLayout (now round)) × Even nr (now core) (now round) a b ⌝ }
+    ensures { λ r. ⌜ (r ≤ rows roundLayout (now (round .entry))) × Even nr (now (core .entry)) (now (round .entry)) a r ⌝ }
 {
     let rows = round.len() / keccak_rnd::NUM_COLUMNS;
     let mut q = b;
     while q < rows {
-        if round_active(round, q) {
+        if is_active(round, Table::Round, q) {
             return q;
         }
         q += 1;
@@ -61,16 +62,16 @@ pub struct Walked {
 }
 
 // The walk stops at the first core row that has no chain where it should begin.
-pub fn walk(core: &[u64], round: &[u64]) -> Walked
+pub fn walk(nr: usize, core: &[u64], round: &[u64]) -> Walked
     ensures ends { λ r. ⌜ (r .core ≤ rows coreLayout (now (core .entry))) × (r .round ≤ rows roundLayout (now (round .entry))) ⌝ }
-    ensures even { λ r. ⌜ Even (now (core .entry)) (now (round .entry)) (r .core) (r .round) ⌝ }
+    ensures even { λ r. ⌜ Even nr (now (core .entry)) (now (round .entry)) (r .core) (r .round) ⌝ }
 {
     let rows = core.len() / keccak::NUM_COLUMNS;
     let mut a = 0;
     let mut b = 0;
     'calls: while a < rows {
-        if core_active(core, a) {
-            match chain(core, a, round, b) {
+        if is_active(core, Table::Core, a) {
+            match chain(nr, core, a, round, b) {
                 Place::At(next) => {
                     b = next;
                 }
@@ -83,6 +84,6 @@ pub fn walk(core: &[u64], round: &[u64]) -> Walked
     }
     Walked {
         core: a,
-        round: skipped(core, a, round, b),
+        round: skipped(nr, core, a, round, b),
     }
 }

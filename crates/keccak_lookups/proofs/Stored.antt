@@ -43,9 +43,9 @@ module _ (row : List ℕ) where
   align-stored l e = ap (set l 54) e
 
   -- ---- tuples of which nothing is asked
-  zero-of : (i : ℕ) {t : Tuple} → coreTuple 24 0 row i ≡ t → residueOn (t .bus) (t .values) ≡ 0 → 0 ≡ residues (coreTuple 24 0 row) i
+  zero-of : (nr i : ℕ) {t : Tuple} → coreTuple nr 0 row i ≡ t → residueOn (t .bus) (t .values) ≡ 0 → 0 ≡ residues (coreTuple nr 0 row) i
   unfolding residues
-  zero-of i {t} e f = free t f ∙ ap residue (sym e)
+  zero-of nr i {t} e f = free t f ∙ ap residue (sym e)
 
   ecall-free : residueOn (ecallTuple 0 row .bus) (ecallTuple 0 row .values) ≡ 0
   unfolding residueOn ecallTuple
@@ -63,23 +63,23 @@ module _ (row : List ℕ) where
   unfolding residueOn laneMemw residues
   lane-free i = free (laneMemw row i) refl
 
-  head-free : (i : ℕ) → i < 4 → 0 ≡ residues (coreTuple 24 0 row) i
-  head-free zero h = zero-of 0 (is-ecall 24 0 row 0 refl) ecall-free
-  head-free (suc zero) h = zero-of 1 (is-addr 24 0 row 1 refl) addr-free
-  head-free (suc (suc zero)) h = zero-of 2 (is-sent 24 0 row 2 refl) (keccak-free (coreSent 24 row))
-  head-free (suc (suc (suc zero))) h = zero-of 3 (is-received 24 0 row 3 refl) (keccak-free (coreReceived row))
-  head-free (suc (suc (suc (suc i)))) h = absurd (omega arith)
+  head-free : (nr i : ℕ) → i < 4 → 0 ≡ residues (coreTuple nr 0 row) i
+  head-free nr zero h = zero-of nr 0 (is-ecall nr 0 row 0 refl) ecall-free
+  head-free nr (suc zero) h = zero-of nr 1 (is-addr nr 0 row 1 refl) addr-free
+  head-free nr (suc (suc zero)) h = zero-of nr 2 (is-sent nr 0 row 2 refl) (keccak-free (coreSent nr row))
+  head-free nr (suc (suc (suc zero))) h = zero-of nr 3 (is-received nr 0 row 3 refl) (keccak-free (coreReceived row))
+  head-free nr (suc (suc (suc (suc i)))) h = absurd (omega arith)
 
   -- ---- one group behind the other
   pub all-stored : (l : List ℕ) {a b c d e : List ℕ} → 84 ≤ length l → a ≡ sets l 0 (tab 4 (λ k. 0))
       → b ≡ sets a 4 (tab 50 (residues (λ i. pointerTuple row (i / 2) (i % 2)))) → c ≡ sets b 54 (tab 1 (residues (λ i. alignTuple row)))
       → d ≡ sets c 55 (tab 4 (residues (addrBytesTuple row))) → e ≡ sets d 59 (tab 25 (λ k. 0))
-      → Marked 84 (coreTuple 24 0 row) l e
-  all-stored l {a} {b} {c} {d} {e} long p q r s t =
-      marked 84 (coreTuple 24 0 row) l e long
-      (stored-rest l 0 4 80 (coreTuple 24 0 row) (followedBy 50 (λ i. pointerTuple row (i / 2) (i % 2)) (followedBy 1 (λ i. alignTuple row) (followedBy 4 (addrBytesTuple row) (laneMemw row))))
-      (λ k h. tuples-from 24 0 row 4 k)
-      (p ∙ ap (sets l 0) (tab-same 4 (λ k. 0) (residues (coreTuple 24 0 row)) head-free))
+      → (nr : ℕ) → Marked 84 (coreTuple nr 0 row) l e
+  all-stored l {a} {b} {c} {d} {e} long p q r s t nr =
+      marked 84 (coreTuple nr 0 row) l e long
+      (stored-rest l 0 4 80 (coreTuple nr 0 row) (followedBy 50 (λ i. pointerTuple row (i / 2) (i % 2)) (followedBy 1 (λ i. alignTuple row) (followedBy 4 (addrBytesTuple row) (laneMemw row))))
+      (λ k h. tuples-from nr 0 row 4 k)
+      (p ∙ ap (sets l 0) (tab-same 4 (λ k. 0) (residues (coreTuple nr 0 row)) (head-free nr)))
       (stored-then a 4 50 30 (λ i. pointerTuple row (i / 2) (i % 2)) (followedBy 1 (λ i. alignTuple row) (followedBy 4 (addrBytesTuple row) (laneMemw row))) q
       (stored-then b 54 1 29 (λ i. alignTuple row) (followedBy 4 (addrBytesTuple row) (laneMemw row)) r
       (stored-then c 55 4 25 (addrBytesTuple row) (laneMemw row) s

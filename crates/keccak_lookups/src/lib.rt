@@ -9,7 +9,7 @@ use residue::bytes_residue;
 use residue::half_residue;
 use residue::is_wh_residue;
 ghost use mathlib.Core.Path.{_≡_};
-ghost use Prim.Native.Nat.{_/_, _%_, _≤_};
+ghost use Prim.Native.Nat.{ℕ, _/_, _%_, _≤_};
 ghost use lib.ListN.{length};
 ghost use lib.Seq.{sets};
 ghost use Rattle.lists.specs.Tab.{tab};
@@ -54,10 +54,10 @@ fn put_address(row: &[u64], out: &mut [u64])
 }
 
 // The words of a row's tuples, into the first 84 of `out`. Four before the pointers', and the lanes in memory behind the
-// address's, need no match here.
+// address's, need no match here, so the number of rounds is not asked for.
 pub fn put_core_lookups(row: &[u64], out: &mut [u64])
     requires { ⌜ (NUM-COLUMNS ≤ length (now row)) × (NUM-TUPLES ≤ length (now out)) ⌝ }
-    ensures { λ _. ⌜ Marked NUM-TUPLES (coreTuple 24 0 (now (row .entry))) (now (out .entry)) (now (out .exit)) ⌝ }
+    ensures { λ _. ⌜ ((nr : ℕ) → Marked NUM-TUPLES (coreTuple nr 0 (now (row .entry))) (now (out .entry)) (now (out .exit))) ⌝ }
 {
     put_zeros(out, 0, 4);
     put_pointers(row, out);

@@ -5,32 +5,34 @@ use Rattle.lists.proofs.First.{place-at, place-nowhere}
 use Rattle.verdict.specs.Verdict.{fromCoreValue, fromCoreLookup, fromRepeat}
 use Rattle.verdict.proofs.Failures.{no-repeat}
 use Rattle.verdict.proofs.Stages.{passes, answers}
+use Rattle.judge_scan.specs.Tables.{kindOf}
+use Rattle.judge_rows.specs.Checks.{firstFailure}
 use Rattle.judge_scan.proofs.Scan.{spot-at, spot-nowhere}
 use Rattle.judge.proofs.from_core_value.Statement.{statement}
 use Rattle.judge.proofs.from_core_value.Tie as tie
 
-first-core-value-requires : tie.Need-first-core-value-requires
-first-core-value-requires c κs = search needs
+first-failure-requires : tie.Need-first-failure-requires
+first-failure-requires c κs = c .before .before .pre .1
 
 enum-known-row : tie.Need-enum-known-row
 enum-known-row c = search needs
 
 returns : tie.Need-returns
-unfolding fromCoreValue
-returns c = sym (answers _ _ _ _ (spot-at _ (sym (c .before .row .given .1) ∙ c .before .before .before .first-core-value .ensures)))
+unfolding fromCoreValue kindOf firstFailure
+returns c = sym (answers _ _ _ _ (spot-at _ (sym (c .before .row .given .1) ∙ c .before .before .before .first-failure .ensures _)))
 
 enum-told : tie.Need-enum-told
 enum-told c = search needs
 
-first-core-lookup-requires : tie.Need-first-core-lookup-requires
-first-core-lookup-requires c κs = search needs
+first-failure-requires-2 : tie.Need-first-failure-requires-2
+first-failure-requires-2 c κs = c .before .before .before .before .before .pre .1
 
 enum-known-row-2 : tie.Need-enum-known-row-2
 enum-known-row-2 c = search needs
 
 returns-2 : tie.Need-returns-2
-unfolding fromCoreValue fromCoreLookup
-returns-2 c = sym (passes _ _ _ (spot-nowhere _ (sym (c .before .before .before .before .enum-told .given .1) ∙ c .before .before .before .before .before .before .first-core-value .ensures)) ∙ answers _ _ _ _ (spot-at _ (sym (c .before .row2 .given .1) ∙ c .before .before .before .first-core-lookup .ensures)))
+unfolding fromCoreValue fromCoreLookup kindOf firstFailure
+returns-2 c = sym (passes _ _ _ (spot-nowhere _ (sym (c .before .before .before .before .enum-told .given .1) ∙ c .before .before .before .before .before .before .first-failure .ensures _)) ∙ answers _ _ _ _ (spot-at _ (sym (c .before .row2 .given .1) ∙ c .before .before .before .first-failure2 .ensures _)))
 
 enum-told-2 : tie.Need-enum-told-2
 enum-told-2 c = search needs
@@ -42,10 +44,10 @@ enum-known-row-3 : tie.Need-enum-known-row-3
 enum-known-row-3 c = search needs
 
 returns-3 : tie.Need-returns-3
-unfolding fromCoreValue fromCoreLookup fromRepeat
+unfolding fromCoreValue fromCoreLookup fromRepeat kindOf firstFailure
 returns-3 c =
-    sym (passes _ _ _ (spot-nowhere _ (sym (c .before .before .before .before .before .before .before .enum-told .given .1) ∙ c .before .before .before .before .before .before .before .before .before .first-core-value .ensures))
-    ∙ passes _ _ _ (spot-nowhere _ (sym (c .before .before .before .before .enum-told2 .given .1) ∙ c .before .before .before .before .before .before .first-core-lookup .ensures))
+    sym (passes _ _ _ (spot-nowhere _ (sym (c .before .before .before .before .before .before .before .enum-told .given .1) ∙ c .before .before .before .before .before .before .before .before .before .first-failure .ensures _))
+    ∙ passes _ _ _ (spot-nowhere _ (sym (c .before .before .before .before .enum-told2 .given .1) ∙ c .before .before .before .before .before .before .first-failure2 .ensures _))
     ∙ answers _ _ _ _ (place-at _ (sym (c .before .row3 .given .1) ∙ c .before .before .before .first-repeat .ensures)))
 
 enum-told-3 : tie.Need-enum-told-3
@@ -53,27 +55,28 @@ enum-told-3 c = search needs
 
 from-round-value-requires : tie.Need-from-round-value-requires
 from-round-value-requires c κs = (
-  c .before .before .before .before .before .before .before .before .before .before .before .pre .1,
+  c .before .before .before .before .before .before .before .before .before .before .before .pre .0,
+  c .before .before .before .before .before .before .before .before .before .before .before .pre .2,
   no-repeat _ _ .0 (place-nowhere _ (sym (c .enum-told3 .given .1) ∙ c .before .before .first-repeat .ensures)),
 )
 
 returns-4 : tie.Need-returns-4
-unfolding fromCoreValue fromCoreLookup fromRepeat
+unfolding fromCoreValue fromCoreLookup fromRepeat kindOf firstFailure
 returns-4 c =
     c .from-round-value .ensures
-    ∙ sym (passes _ _ _ (spot-nowhere _ (sym (c .before .before .before .before .before .before .before .enum-told .given .1) ∙ c .before .before .before .before .before .before .before .before .before .first-core-value .ensures))
-    ∙ passes _ _ _ (spot-nowhere _ (sym (c .before .before .before .before .enum-told2 .given .1) ∙ c .before .before .before .before .before .before .first-core-lookup .ensures))
+    ∙ sym (passes _ _ _ (spot-nowhere _ (sym (c .before .before .before .before .before .before .before .enum-told .given .1) ∙ c .before .before .before .before .before .before .before .before .before .first-failure .ensures _))
+    ∙ passes _ _ _ (spot-nowhere _ (sym (c .before .before .before .before .enum-told2 .given .1) ∙ c .before .before .before .before .before .before .first-failure2 .ensures _))
     ∙ passes _ _ _ (place-nowhere _ (sym (c .before .enum-told3 .given .1) ∙ c .before .before .before .first-repeat .ensures)))
 
 pub from-core-value-spec : {M : Type 1} → statement M
 from-core-value-spec =
     tie.close
     (tie.spec
-    first-core-value-requires
+    first-failure-requires
     enum-known-row
     returns
     enum-told
-    first-core-lookup-requires
+    first-failure-requires-2
     enum-known-row-2
     returns-2
     enum-told-2

@@ -1,5 +1,6 @@
 -- `judge::verdict` meets its contract: whole rows, then field elements, then the stages on rows.
 use mathlib.Core.Path.{sym, _∙_}
+use native.Mathlib.Omega.{arith}
 use borrow.Author.Needs.{needs}
 use Rattle.lists.proofs.First.{place-at, place-nowhere}
 use Rattle.field.proofs.NotElement.{all-elements}
@@ -46,7 +47,7 @@ enum-told-2 : tie.Need-enum-told-2
 enum-told-2 c = search needs
 
 from-core-value-requires : tie.Need-from-core-value-requires
-from-core-value-requires c κs = (all-elements _ _ (place-nowhere _ (sym (c .before .before .before .enum-told .given .1) ∙ c .before .before .before .before .before .first-not-element .ensures)), all-elements _ _ (place-nowhere _ (sym (c .enum-told2 .given .1) ∙ c .before .before .first-not-element2 .ensures)))
+from-core-value-requires c κs = (omega arith, all-elements _ _ (place-nowhere _ (sym (c .before .before .before .enum-told .given .1) ∙ c .before .before .before .before .before .first-not-element .ensures)), all-elements _ _ (place-nowhere _ (sym (c .enum-told2 .given .1) ∙ c .before .before .first-not-element2 .ensures)))
 
 returns-5 : tie.Need-returns-5
 unfolding fromCoreWords fromRoundWords

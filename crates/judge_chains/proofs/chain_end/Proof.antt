@@ -1,4 +1,4 @@
--- `judge_chains::chain_end` meets its contract: 24 rows and their end.
+-- `judge_chains::chain_end` meets its contract: nr rows and their end.
 use mathlib.Core.Path.{sym, _∙_}
 use native.Mathlib.Omega.{arith}
 use borrow.Author.Needs.{needs}
@@ -14,13 +14,13 @@ enum-known-r : tie.Need-enum-known-r
 enum-known-r c = search needs
 
 ends-requires : tie.Need-ends-requires
-ends-requires c κs = (c .before .before .before .before .before .before .pre .0, last-in _ _ _ _ (found-is _ _ _ (c .before .r .given .1) (c .before .before .before .chain-rows .ensures)))
+ends-requires c κs = (c .before .before .before .before .before .before .pre .0, last-in _ _ _ _ _ (found-is _ _ _ (c .before .r .given .1) (c .before .before .before .chain-rows .ensures)))
 
-add-t8 : tie.Need-add-t8
-add-t8 c = omega (arith, last-in _ _ _ _ (found-is _ _ _ (c .before .before .before .r .given .1) (c .before .before .before .before .before .chain-rows .ensures)))
+add-t9 : tie.Need-add-t9
+add-t9 c = omega (arith, last-in _ _ _ _ _ (found-is _ _ _ (c .before .before .before .r .given .1) (c .before .before .before .before .before .chain-rows .ensures)))
 
 returns : tie.Need-returns
-returns c = found-at _ _ (ends-chain _ _ _ _ (found-is _ _ _ (c .before .before .before .r .given .1) (c .before .before .before .before .before .chain-rows .ensures)) (sym (c .before .ends .ensures) ∙ c .if1 .taken))
+returns c = found-at _ _ (ends-chain _ _ _ _ _ (found-is _ _ _ (c .before .before .before .r .given .1) (c .before .before .before .before .before .chain-rows .ensures)) (sym (c .before .ends .ensures) ∙ c .if1 .taken))
 
 enum-told : tie.Need-enum-told
 enum-told c = search needs
@@ -38,7 +38,7 @@ chain-end-spec =
     chain-rows-requires
     enum-known-r
     ends-requires
-    add-t8
+    add-t9
     returns
     enum-told
     returns-2

@@ -9,13 +9,13 @@ use Rattle.judge_chains.proofs.chain_rows.Statement.{statement}
 use Rattle.judge_chains.proofs.chain_rows.Tie as tie
 
 abbrev Inv-loop : tie.InvT-loop
-Inv-loop core a round from last₀ q₀ n₀ last q n = (n ≤ 24) × Rows core a round n last q
+Inv-loop nr core a round from last₀ q₀ n₀ last q n = (n ≤ nr) × Rows nr core a round n last q
 
 abbrev μ-loop : tie.MeasureT-loop
-μ-loop core a round from last₀ q₀ n₀ last q n = 24 - n
+μ-loop nr core a round from last₀ q₀ n₀ last q n = nr - n
 
 loop-holds : tie.Need-loop-holds Inv-loop μ-loop
-loop-holds c = (omega arith, rows-start _ _ _ _ (c .before .before .pre .1))
+loop-holds c = (omega arith, rows-start _ _ _ _ _ (c .before .before .pre .1))
 
 next-row-requires : tie.Need-next-row-requires Inv-loop μ-loop
 next-row-requires c κs = let h = c .before .loop .inv .1 in (c .before .before .before .before .pre .0, h .started, h .inside)
@@ -39,10 +39,10 @@ loop-less : tie.Need-loop-less Inv-loop μ-loop
 loop-less c = omega arith
 
 loop-again : tie.Need-loop-again Inv-loop μ-loop
-loop-again c = (omega arith, rows-next _ _ _ _ _ _ (c .before .before .before .before .before .loop .inv .1) _ _ (c .before .r .given .1) (c .before .before .before .next-row .ensures) _ _ refl refl)
+loop-again c = (omega arith, rows-next _ _ _ _ _ _ _ (c .before .before .before .before .before .loop .inv .1) _ _ (c .before .r .given .1) (c .before .before .before .next-row .ensures) _ _ refl refl)
 
 returns-2 : tie.Need-returns-2 Inv-loop μ-loop
-returns-2 c = rows-end _ _ _ _ _ _ (c .before .loop .inv .0) (c .loop-test .left) (c .before .loop .inv .1)
+returns-2 c = rows-end _ _ _ _ _ _ _ (c .before .loop .inv .0) (c .loop-test .left) (c .before .loop .inv .1)
 
 pub chain-rows-spec : {M : Type 1} → statement M
 chain-rows-spec =

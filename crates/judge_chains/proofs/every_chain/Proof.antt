@@ -5,17 +5,22 @@ use native.Mathlib.Omega.{arith}
 use borrow.Author.Needs.{needs}
 use Rattle.lists.proofs.First.{counted-le}
 use Rattle.lists.proofs.Tests.{true-not-false}
+use Rattle.judge_chains.proofs.Search.{rows-few}
+use Rattle.judge_scan.specs.Tables.{layoutOf}
 use Rattle.judge_chains.proofs.every_chain.Statement.{statement}
 use Rattle.judge_chains.proofs.every_chain.Tie as tie
 
-active-round-rows-requires : tie.Need-active-round-rows-requires
-active-round-rows-requires c κs = search needs
+active-rows-requires : tie.Need-active-rows-requires
+unfolding layoutOf
+active-rows-requires c κs = search needs
 
-active-core-rows-requires : tie.Need-active-core-rows-requires
-active-core-rows-requires c κs = search needs
+active-rows-requires-2 : tie.Need-active-rows-requires-2
+unfolding layoutOf
+active-rows-requires-2 c κs = search needs
 
 mul-if1 : tie.Need-mul-if1
-mul-if1 c = omega (arith, counted-le _ (c .active-core-rows .ensures))
+unfolding layoutOf
+mul-if1 c = omega (arith, rows-few _ _ _ (c .before .before .before .before .pre) (counted-le _ (c .active-rows2 .ensures)))
 
 returns : tie.Need-returns
 returns c = λ e. absurd (true-not-false (sym e))
@@ -24,18 +29,19 @@ all-chains-requires : tie.Need-all-chains-requires
 all-chains-requires c κs = search needs
 
 returns-2 : tie.Need-returns-2
+unfolding layoutOf
 returns-2 c =
     λ e. record {
       chains = c .all-chains .ensures e;
-      number = sym (c .before .before .before .active-round-rows .ensures) ∙ c .before .if1 .left ∙ ap (λ (k : ℕ). 24 * k) (c .before .before .active-core-rows .ensures);
+      number = sym (c .before .before .before .active-rows .ensures) ∙ c .before .if1 .left ∙ ap (λ (k : ℕ). c .before .before .before .before .before .before .args .nr * k) (c .before .before .active-rows2 .ensures);
     }
 
 pub every-chain-spec : {M : Type 1} → statement M
 every-chain-spec =
     tie.close
     (tie.spec
-    active-round-rows-requires
-    active-core-rows-requires
+    active-rows-requires
+    active-rows-requires-2
     mul-if1
     returns
     all-chains-requires

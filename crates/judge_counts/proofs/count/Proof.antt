@@ -1,91 +1,100 @@
 -- `judge_counts::count` meets its contract: a row that is not of the call neither sends one of the tuples nor receives it.
-use mathlib.Core.Path.{refl}
 use mathlib.Core.Logic.{inl, inr}
+use mathlib.Core.Path.{_∙_}
 use Prim.Native.Nat.{_≤_, _-_}
 use native.Mathlib.Omega.{arith}
 use denote.Ref.{now}
-use lib.ListN.{length}
+use Rattle.judge_scan.proofs.Scan.{wide, rows-as, rows-small}
 use Rattle.judge_tuples.specs.Port.{tupleOf}
 use Rattle.judge_tuples.proofs.Ports.{front-fits}
-use Rattle.judge_counts.specs.Counting.{CountedRows}
-use Rattle.judge_counts.proofs.Counting.{counts-start, below, wide, from-in, row-as-wide, row-long, rows-small, row-added, row-passed, rows-end}
+use Rattle.judge_counts.proofs.Counting.{CountedRows, counts-start, sends-fit, receives-fit, counts-small, row-added, row-passed, counted-is}
 use Rattle.judge_counts.proofs.count.Statement.{statement}
 use Rattle.judge_counts.proofs.count.Tie as tie
 
 abbrev Inv-loop : tie.InvT-loop
-Inv-loop table from send receive x s q width mu rows first₀ second₀ row₀ first second row =
-    (row ≤ rows) × CountedRows send receive table (tupleOf s x) from row first × CountedRows send receive table (tupleOf q x) from row second
+Inv-loop nr words table from x s q send receive rows first₀ second₀ row₀ first second row =
+    (row ≤ rows) × CountedRows nr table words (tupleOf s x) from row first × CountedRows nr table words (tupleOf q x) from row second
 
 abbrev μ-loop : tie.MeasureT-loop
-μ-loop table from send receive x s q width mu rows first₀ second₀ row₀ first second row = rows - row
+μ-loop nr words table from x s q send receive rows first₀ second₀ row₀ first second row = rows - row
+
+sent-by-requires : tie.Need-sent-by-requires Inv-loop μ-loop
+sent-by-requires c κs = tt
+
+received-by-requires : tie.Need-received-by-requires Inv-loop μ-loop
+received-by-requires c κs = tt
 
 width-of-requires : tie.Need-width-of-requires Inv-loop μ-loop
 width-of-requires c κs = tt
 
-sub-mu : tie.Need-sub-mu Inv-loop μ-loop
-sub-mu c = let h = wide _ _ (c .width-of .ensures) in omega arith
-
 div-rows : tie.Need-div-rows Inv-loop μ-loop
-div-rows c = let h = wide _ _ (c .width-of .ensures) in omega arith
+div-rows c = let g = wide (c .before .before .before .before .before .args .table) in omega (arith, c .width-of .ensures)
 
 loop-holds : tie.Need-loop-holds Inv-loop μ-loop
-loop-holds c = (from-in _ _ (c .width-of .ensures) (now (c .before .before .before .args .table)) _ (c .before .before .before .pre .0), counts-start _ _ _, counts-start _ _ _)
-
-row-at-requires : tie.Need-row-at-requires Inv-loop μ-loop
-row-at-requires c κs = c .loop-test .taken
+loop-holds c = (omega (arith, c .before .before .before .before .before .pre .0, rows-as _ _ (c .width-of .ensures) (now (c .before .before .before .before .before .args .words))), counts-start _ _ _, counts-start _ _ _)
 
 of-call-requires : tie.Need-of-call-requires Inv-loop μ-loop
 of-call-requires c κs =
-    let h = front-fits _ _ (c .before .before .before .before .before .before .pre .2) in
-    let g = wide _ _ (c .before .before .before .width-of .ensures) in
-    let l = row-long _ _ _ _ (c .row-at .ensures) in (omega arith, omega arith, omega arith)
+    let h = front-fits _ _ (c .before .before .before .before .before .before .before .pre .1) in
+    (omega arith, omega (arith, c .loop-test .taken, rows-as _ _ (c .before .before .width-of .ensures) (now (c .before .before .before .before .before .before .before .args .words))))
+
+row-at-requires : tie.Need-row-at-requires Inv-loop μ-loop
+row-at-requires c κs = omega (arith, c .before .before .loop-test .taken, rows-as _ _ (c .before .before .before .before .width-of .ensures) (now (c .before .before .before .before .before .before .before .before .before .args .words)))
 
 add-requires : tie.Need-add-requires Inv-loop μ-loop
 add-requires c κs =
-    let e = c .before .before .before .before .before .width-of .ensures in
-    let y = c .before .before .row-at .ensures in
-    let h = c .before .before .before .before .before .before .before .before .pre in
-    let n = rows-small _ _ e _ _ _ _ _ _ (c .before .before .before .before .loop .inv .1) (c .before .before .before .loop-test .taken) (omega arith) in
-    (row-as-wide _ _ e _ _ _ _ y refl, row-as-wide _ _ e _ _ _ _ y (h .1), h .2, n .0, n .1)
+    let w = c .before .before .before .before .before in
+    let y = c .row-at .ensures in
+    let h = w .before .before .before .before .before .pre in
+    let l = rows-as _ _ (w .width-of .ensures) (now (w .before .before .before .before .before .args .words)) in
+    let n = counts-small _ _ _ _ _ _ _ (c .before .before .before .before .loop .inv .1) (omega (arith, c .before .before .before .loop-test .taken)) (omega arith) in
+    (sends-fit _ _ _ _ y _ _ (w .before .before .sent-by .ensures), receives-fit _ _ _ _ y _ (w .before .received-by .ensures), h .1, n .0, n .1)
 
 add-requires-2 : tie.Need-add-requires-2 Inv-loop μ-loop
 add-requires-2 c κs =
-    let e = c .before .before .before .before .before .before .width-of .ensures in
-    let y = c .before .before .before .row-at .ensures in
-    let h = c .before .before .before .before .before .before .before .before .before .pre in
-    let n = rows-small _ _ e _ _ _ _ _ _ (c .before .before .before .before .before .loop .inv .2) (c .before .before .before .before .loop-test .taken) (omega arith) in
-    (row-as-wide _ _ e _ _ _ _ y refl, row-as-wide _ _ e _ _ _ _ y (h .1), h .3, n .0, n .1)
+    let w = c .before .before .before .before .before .before in
+    let y = c .before .row-at .ensures in
+    let h = w .before .before .before .before .before .pre in
+    let l = rows-as _ _ (w .width-of .ensures) (now (w .before .before .before .before .before .args .words)) in
+    let n = counts-small _ _ _ _ _ _ _ (c .before .before .before .before .before .loop .inv .2) (omega (arith, c .before .before .before .before .loop-test .taken)) (omega arith) in
+    (sends-fit _ _ _ _ y _ _ (w .before .before .sent-by .ensures), receives-fit _ _ _ _ y _ (w .before .received-by .ensures), h .2, n .0, n .1)
 
 add-row : tie.Need-add-row Inv-loop μ-loop
-add-row c = let h = below (length (now (c .before .before .before .before .before .before .before .before .args .table))) _ _ (c .before .before .before .loop-test .taken) in omega arith
+add-row c =
+    let w = c .before .before .before .before in
+    let ws = now (w .before .before .before .before .before .args .words) in
+    let g = rows-small _ _ (w .width-of .ensures) ws in let h = rows-as _ _ (w .width-of .ensures) ws in omega arith
 
 loop-less : tie.Need-loop-less Inv-loop μ-loop
 loop-less c = omega arith
 
 loop-again : tie.Need-loop-again Inv-loop μ-loop
 loop-again c =
-    let v = c .before .before .before .before .loop .inv in
-    let e = c .before .before .before .before .before .width-of .ensures in
-    let y = c .before .before .row-at .ensures in
+    let v = c .before .before .before .loop .inv in
+    let w = c .before .before .before .before in
     let b = c .before .of-call .ensures in
+    let s = w .before .before .sent-by .ensures in
+    let r = w .before .received-by .ensures in
     elim (c .if1 .came) [
-      | inl w ↦ (
+      | inl z ↦ (
         omega arith,
-        row-added _ _ e _ _ _ y _ _ b _ _ _ _ _ (v .1) _ (w .0 .taken) (w .3) (w .1 .ensures),
-        row-added _ _ e _ _ _ y _ _ b _ _ _ _ _ (v .2) _ (w .0 .taken) (w .4) (w .2 .ensures),
+        row-added _ _ _ _ _ _ b _ _ _ _ (v .1) _ (z .1 .ensures) _ _ s r _ (z .0 .taken) (z .4) (z .2 .ensures),
+        row-added _ _ _ _ _ _ b _ _ _ _ (v .2) _ (z .1 .ensures) _ _ s r _ (z .0 .taken) (z .5) (z .3 .ensures),
       )
-      | inr w ↦ (
+      | inr z ↦ (
         omega arith,
-        row-passed _ _ e _ _ _ y _ _ b _ _ _ _ _ (v .1) (w .0 .left) (w .1),
-        row-passed _ _ e _ _ _ y _ _ b _ _ _ _ _ (v .2) (w .0 .left) (w .2),
+        row-passed _ _ _ _ _ _ b _ _ _ _ (v .1) (z .0 .left) (z .1),
+        row-passed _ _ _ _ _ _ b _ _ _ _ (v .2) (z .0 .left) (z .2),
       )
     ]
 
 returns : tie.Need-returns Inv-loop μ-loop
 returns c =
     let v = c .before .loop .inv in
-    let e = c .before .before .width-of .ensures in
-    (rows-end _ _ e _ _ _ _ _ _ (v .1) (v .0) (c .loop-test .left), rows-end _ _ e _ _ _ _ _ _ (v .2) (v .0) (c .loop-test .left))
+    let w = c .before .before in
+    let h = w .before .before .before .before .before .pre in
+    let e = rows-as _ _ (w .width-of .ensures) (now (w .before .before .before .before .before .args .words)) in
+    (counted-is _ _ _ _ _ _ _ _ (h .0) (omega arith) (omega arith) (v .1), counted-is _ _ _ _ _ _ _ _ (h .0) (omega arith) (omega arith) (v .2))
 
 pub count-spec : {M : Type 1} → statement M
 count-spec =
@@ -93,12 +102,13 @@ count-spec =
     (tie.spec
     Inv-loop
     μ-loop
+    sent-by-requires
+    received-by-requires
     width-of-requires
-    sub-mu
     div-rows
     loop-holds
-    row-at-requires
     of-call-requires
+    row-at-requires
     add-requires
     add-requires-2
     add-row

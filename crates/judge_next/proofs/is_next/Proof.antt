@@ -4,6 +4,7 @@ use native.Mathlib.Omega.{arith}
 use borrow.Author.Tests.{not-false}
 use Rattle.lists.proofs.Tests.{true-not-false}
 use Rattle.judge_next.proofs.Next.{follows}
+use Rattle.judge_scan.specs.Tables.{layoutOf}
 use Rattle.judge_next.proofs.is_next.Statement.{statement}
 use Rattle.judge_next.proofs.is_next.Tie as tie
 
@@ -34,11 +35,13 @@ takes-requires c κs = c .before .before .before .before .before .pre
 returns-2 : tie.Need-returns-2
 returns-2 c = λ e. absurd (true-not-false (sym e))
 
-round-active-requires : tie.Need-round-active-requires
-round-active-requires c κs = c .before .before .before .before .before .before .before .pre .1
+is-active-requires : tie.Need-is-active-requires
+unfolding layoutOf
+is-active-requires c κs = c .before .before .before .before .before .before .before .pre .1
 
 returns-3 : tie.Need-returns-3
-returns-3 c = λ e. follows _ _ _ _ _ (c .before .before .before .before .before .before .before .before .pre .1) (sym (c .round-active .ensures) ∙ e) (sym (c .before .before .takes .ensures) ∙ not-false _ (c .before .if2 .left))
+unfolding layoutOf
+returns-3 c = λ e. follows _ _ _ _ _ _ (c .before .before .before .before .before .before .before .before .pre .1) (sym (c .is-active .ensures) ∙ e) (sym (c .before .before .takes .ensures) ∙ not-false _ (c .before .if2 .left))
 
 pub is-next-spec : {M : Type 1} → statement M
 is-next-spec =
@@ -53,5 +56,5 @@ is-next-spec =
     returns
     takes-requires
     returns-2
-    round-active-requires
+    is-active-requires
     returns-3)

@@ -7,10 +7,10 @@ use Rattle.judge_next.proofs.next_row.Statement.{statement}
 use Rattle.judge_next.proofs.next_row.Tie as tie
 
 abbrev Inv-loop : tie.InvT-loop
-Inv-loop core a round last from rows k₀ k = Unit {0}
+Inv-loop nr core a round last from rows k₀ k = Unit {0}
 
 abbrev μ-loop : tie.MeasureT-loop
-μ-loop core a round last from rows k₀ k = rows - k
+μ-loop nr core a round last from rows k₀ k = rows - k
 
 loop-holds : tie.Need-loop-holds Inv-loop μ-loop
 loop-holds c = tt

@@ -10,13 +10,13 @@ use Rattle.judge_rows.proofs.or_of.Statement.{statement}
 use Rattle.judge_rows.proofs.or_of.Tie as tie
 
 abbrev Inv-loop : tie.InvT-loop
-Inv-loop words all₀ i₀ all i = (i ≤ length words) × (all ≡ orAll i (word words))
+Inv-loop words n all₀ i₀ all i = (i ≤ n) × (n ≤ length words) × (all ≡ orAll i (word words))
 
 abbrev μ-loop : tie.MeasureT-loop
-μ-loop words all₀ i₀ all i = length words - i
+μ-loop words n all₀ i₀ all i = n - i
 
 loop-holds : tie.Need-loop-holds Inv-loop μ-loop
-loop-holds c = (omega arith, or-start _)
+loop-holds c = (omega arith, c .pre, or-start _)
 
 mul-all : tie.Need-mul-all Inv-loop μ-loop
 mul-all c = omega arith
@@ -31,10 +31,10 @@ loop-less : tie.Need-loop-less Inv-loop μ-loop
 loop-less c = omega arith
 
 loop-again : tie.Need-loop-again Inv-loop μ-loop
-loop-again c = (omega arith, or-more _ _ _ (c .before .before .loop .inv .1))
+loop-again c = (omega arith, c .before .before .loop .inv .1, or-more _ _ _ (c .before .before .loop .inv .2))
 
 returns : tie.Need-returns Inv-loop μ-loop
-returns c = or-end _ _ _ _ (c .before .loop .inv .0) (c .loop-test .left) (c .before .loop .inv .1)
+returns c = or-end _ _ _ _ (c .before .loop .inv .0) (c .loop-test .left) (c .before .loop .inv .2)
 
 pub or-of-spec : {M : Type 1} → statement M
 or-of-spec =

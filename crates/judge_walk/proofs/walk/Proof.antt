@@ -8,23 +8,26 @@ use borrow.Author.Needs.{needs}
 use Rattle.verdict.specs.Kind.{rows}
 use Rattle.judge_links.specs.Even.{Even}
 use Rattle.judge_walk.proofs.Owing.{walk-start, walk-on, walk-off}
+use Rattle.judge_scan.specs.Tables.{layoutOf}
 use Rattle.judge_walk.proofs.walk.Statement.{statement}
 use Rattle.judge_walk.proofs.walk.Tie as tie
 
 abbrev Inv-calls : tie.InvT-calls
-Inv-calls core round rows a₀ b₀ a b = (a ≤ rows) × (b ≤ length round / 1480) × Even core round a b
+Inv-calls nr core round rows a₀ b₀ a b = (a ≤ rows) × (b ≤ length round / 1480) × Even nr core round a b
 
 abbrev μ-calls : tie.MeasureT-calls
-μ-calls core round rows a₀ b₀ a b = rows - a
+μ-calls nr core round rows a₀ b₀ a b = rows - a
 
 calls-holds : tie.Need-calls-holds Inv-calls μ-calls
-calls-holds c = (omega arith, omega arith, walk-start _ _)
+calls-holds c = (omega arith, omega arith, walk-start _ _ _)
 
-core-active-requires : tie.Need-core-active-requires Inv-calls μ-calls
-core-active-requires c κs = c .calls-test .taken
+is-active-requires : tie.Need-is-active-requires Inv-calls μ-calls
+unfolding layoutOf
+is-active-requires c κs = c .calls-test .taken
 
 chain-requires : tie.Need-chain-requires Inv-calls μ-calls
-chain-requires c κs = (c .before .before .calls-test .taken, sym (c .before .core-active .ensures) ∙ c .if1 .taken, c .before .before .before .calls .inv .1)
+unfolding layoutOf
+chain-requires c κs = (c .before .before .calls-test .taken, sym (c .before .is-active .ensures) ∙ c .if1 .taken, c .before .before .before .calls .inv .1)
 
 enum-known-next : tie.Need-enum-known-next Inv-calls μ-calls
 enum-known-next c = search needs
@@ -39,13 +42,14 @@ calls-less : tie.Need-calls-less Inv-calls μ-calls
 calls-less c = omega arith
 
 calls-again : tie.Need-calls-again Inv-calls μ-calls
+unfolding layoutOf
 calls-again c =
     let h = c .before .before .before .calls .inv in
-    let e = sym (c .before .core-active .ensures) in
+    let e = sym (c .before .is-active .ensures) in
     let x =
     ⊎-elim
-    (λ w. walk-on _ _ _ _ _ _ _ (w .3 .given .1) (w .1 .ensures) (w .5) (h .2))
-    (λ w. walk-off _ _ _ _ _ (e ∙ w .0 .left) (w .1) (h .1) (h .2))
+    (λ w. walk-on _ _ _ _ _ _ _ _ (w .3 .given .1) (w .1 .ensures) (w .5) (h .2))
+    (λ w. walk-off _ _ _ _ _ _ (e ∙ w .0 .left) (w .1) (h .1) (h .2))
     (c .if1 .came) in
     (omega arith, x .0, x .1)
 
@@ -62,7 +66,7 @@ walk-spec =
     Inv-calls
     μ-calls
     calls-holds
-    core-active-requires
+    is-active-requires
     chain-requires
     enum-known-next
     enum-told
