@@ -8,7 +8,7 @@ use mathlib.Core.Path.{_≡_, refl, ap, _∙_}
 use Prim.Native.Nat.{ℕ, _+_, _*_, _≤_, _<_}
 use native.Mathlib.Omega.{arith}
 use Rattle.lists.specs.Tab.{word, tab, tabFrom}
-use Rattle.lists.specs.Sum.{sum}
+use Rattle.lists.specs.Sum.{sumBelow}
 use Rattle.lists.proofs.Sum.{sum-part, sum-const}
 use Rattle.lookup.specs.Tuple.{Tuple, onBus, busSum, sameSide, sameBus}
 use Rattle.lookup.specs.declared.Bus.{Bus}
@@ -46,11 +46,11 @@ module _ (s : Side) (b : Bus) where
       ∙ omega arith
 
   pub bitwise-line : (mu : ℕ → ℕ → ℕ) (i : ℕ) → busSum s b 10 (bitwiseAt mu i) ≡ bitwiseLine s b (mu i)
-  unfolding busSum sum bitwiseAt kindAt bitwiseRow rowOfXYZ tab tabFrom
+  unfolding busSum sumBelow bitwiseAt kindAt bitwiseRow rowOfXYZ tab tabFrom
   bitwise-line mu i = omega arith
 
   pub constant-line : (mu : ℕ → ℕ) (r : ℕ) → busSum s b 1 (constantAt mu r) ≡ constantLine s b (mu r)
-  unfolding busSum sum constantAt rcTuple
+  unfolding busSum sumBelow constantAt rcTuple
   constant-line mu r = ap (λ (t : Tuple). 0 + onBus s b t) (rc-tuple _ (mu r)) ∙ omega arith
 
   -- ---- their most

@@ -16,7 +16,7 @@ use Rattle.lookup.specs.declared.Bus.the-variants.{Keccak}
 use Rattle.lookup.specs.declared.Side.{Side}
 use Rattle.lookup.specs.declared.Side.the-variants.{Sender, Receiver}
 use Rattle.lookup.proofs.Buses.{bus-decides}
-use Rattle.verdict.specs.Kind.{Kind, rows, row, isActive, onKeccak, keccakTest, carries, carried, OnBus}
+use Rattle.verdict.specs.Kind.{Kind, rows, row, isActive, onKeccak, keccakTest, activeTuple, activeTuples, OnBus}
 use Rattle.verdict.proofs.Tuples.{place, at-place}
 use Rattle.bus_sums.specs.Sums.{share, shares, tupleAt, tableShare}
 use Rattle.bus_sums.proofs.Shares.{share-most, share-none}
@@ -67,11 +67,11 @@ module _ (K : Kind) (ws : List ℕ) {S R : ℕ} (bus : OnBus K S R) (bits : (r :
       by Sender = ap (λ (t : Tuple). t .multiplicity) (bus .send x)
       by Receiver = ap (λ (t : Tuple). t .multiplicity) (bus .receive x)
 
-  pub carried-share : (s : Side) (v : List ℕ) → tableShare s Keccak v K ws ≡ carried K s ws v
-  unfolding shares carried carries tupleAt isActive
-  carried-share s v =
+  pub active-tuples-share : (s : Side) (v : List ℕ) → tableShare s Keccak v K ws ≡ activeTuples K s ws v
+  unfolding shares activeTuples activeTuple tupleAt isActive
+  active-tuples-share s v =
       sum-same (rows (K .layout) ws) _ _
       (λ r l.
-      sum-same (K .tuples) (λ i. share s Keccak v (K .tuple (row (K .layout) ws r) i)) (λ i. pick (carries K s ws v r i) 1 0)
+      sum-same (K .tuples) (λ i. share s Keccak v (K .tuple (row (K .layout) ws r) i)) (λ i. pick (activeTuple K s ws v r i) 1 0)
       (λ i g. share-test s v (K .tuple (row (K .layout) ws r) i) (word (row (K .layout) ws r) (K .layout .mu)) (bits r l) (mu-times (row (K .layout) ws r) i))
-      ∙ sum-tests (carries K s ws v r) (K .tuples))
+      ∙ sum-tests (activeTuple K s ws v r) (K .tuples))

@@ -9,7 +9,7 @@ use lib.Dec.{T, eqb, eqb→eq, eqb-refl}
 use lib.ListN.{getD}
 use lib.Seq.{getD-append-add}
 use Rattle.lists.specs.Tab.{word, tab, pick}
-use Rattle.lists.specs.Sum.{sum}
+use Rattle.lists.specs.Sum.{sumBelow}
 use Rattle.lists.proofs.Laws.{getD-tab}
 use Rattle.lists.proofs.Sum.{and-left, and-right, and-both}
 use Rattle.lookup.specs.Tuple.{Tuple, receiver}
@@ -96,7 +96,7 @@ module _ (times : Bus → List ℕ → ℕ) where
       received-at : bitwiseShare Receiver b v charged ≡ times b v
       unfolding shares
       received-at =
-          sum-place 1048576 (placeRow b v) (λ r. sum 10 (λ i. share Receiver b v (bitwiseAt charged r i))) (at .row-lt)
+          sum-place 1048576 (placeRow b v) (λ r. sumBelow 10 (λ i. share Receiver b v (bitwiseAt charged r i))) (at .row-lt)
           (λ r l n. sum-zero 10 (λ i. share Receiver b v (bitwiseAt charged r i)) (λ i m. share-none Receiver b v (bitwiseAt charged r i) (λ o. n (at-row r i (charge-some r i m o .0)))))
           ∙ sum-place 10 (placeKind b v) (λ i. share Receiver b v (bitwiseAt charged (placeRow b v) i)) (at .kind-lt)
           (λ i m n. share-none Receiver b v (bitwiseAt charged (placeRow b v) i) (λ o. n (at-kind (placeRow b v) i (charge-some (placeRow b v) i m o .0))))
@@ -125,9 +125,9 @@ module _ (times : Bus → List ℕ → ℕ) where
         (e, subst (λ (u : List ℕ). 1 ≤ times KeccakRc u) (sym e) (subst (λ (n : ℕ). 1 ≤ n) (ap (λ (t : Tuple). t .multiplicity) (constant-at r j)) (o .some)))
 
     constant-in : RcFound v → constantsShare Receiver KeccakRc v chargedConstant ≡ times KeccakRc v
-    unfolding shares sum chargedConstant
+    unfolding shares sumBelow chargedConstant
     constant-in f =
-        sum-place 32 (f .index) (λ r. sum 1 (λ j. share Receiver KeccakRc v (constantAt chargedConstant r j))) (f .index-lt)
+        sum-place 32 (f .index) (λ r. sumBelow 1 (λ j. share Receiver KeccakRc v (constantAt chargedConstant r j))) (f .index-lt)
         (λ r l n. sum-zero 1 (λ j. share Receiver KeccakRc v (constantAt chargedConstant r j))
         (λ j m. share-none Receiver KeccakRc v (constantAt chargedConstant r j) (λ o. n (sym (rc-round r) ∙ ap (λ (u : List ℕ). getD u 0 0) (sym (constant-some r j o .0) ∙ sym is) ∙ rc-round (f .index)))))
         ∙ sum-place 1 0 (λ j. share Receiver KeccakRc v (constantAt chargedConstant (f .index) j)) (omega arith) (λ j m n. absurd (n (omega arith)))

@@ -17,14 +17,14 @@ use Rattle.lookup.specs.declared.Side.{Side}
 use Rattle.templates.specs.Templates.{isBit}
 use Rattle.keccak.specs.Values.{coreValue}
 use Rattle.keccak_rnd.specs.Values.{roundValue}
-use Rattle.verdict.specs.Kind.{Kind, rows, row, carried, Elements}
+use Rattle.verdict.specs.Kind.{Kind, rows, row, activeTuples, Elements}
 use Rattle.verdict.specs.CoreAndRound.{coreLayout, roundLayout, coreKind, roundKind}
 use Rattle.verdict.proofs.Tuples.{core-bus, round-bus}
 use Rattle.bus_sums.specs.Sums.{tupleAt, tableShare, Constrained}
 use Rattle.bus_sums.proofs.Bit.{bit-is}
 use Rattle.bus_sums.proofs.Shares.{shares-line}
 use Rattle.bus_sums.proofs.Buses.{core-line, round-line, core-most, round-most}
-use Rattle.bus_sums.proofs.Carried.{carried-share}
+use Rattle.bus_sums.proofs.Carried.{active-tuples-share}
 
 -- ---- MU is a bit, by the constraints
 pub row-below : (K : Kind) (ws : List ℕ) → Elements ws → (r k : ℕ) → r < rows (K .layout) ws → k < K .layout .width → word (row (K .layout) ws r) k < p
@@ -56,8 +56,8 @@ module _ (nr : ℕ) (core : List ℕ) (c : Constrained (coreKind nr) core) where
       let a = shares-line s b v (rows coreLayout core) 84 (tupleAt (coreKind nr) core) 84 (λ r l. omega (arith, core-line s b nr (row coreLayout core r), core-most s b _ (core-mu r l))) in
       omega (arith, a, c .few)
 
-  pub core-carried : (s : Side) (v : List ℕ) → tableShare s Keccak v (coreKind nr) core ≡ carried (coreKind nr) s core v
-  core-carried = carried-share (coreKind nr) core (core-bus nr) core-mu
+  pub core-carried : (s : Side) (v : List ℕ) → tableShare s Keccak v (coreKind nr) core ≡ activeTuples (coreKind nr) s core v
+  core-carried = active-tuples-share (coreKind nr) core (core-bus nr) core-mu
 
 module _ (round : List ℕ) (c : Constrained roundKind round) where
   pub round-mu : (r : ℕ) → r < rows roundLayout round → word (row roundLayout round r) 1479 < 2
@@ -69,5 +69,5 @@ module _ (round : List ℕ) (c : Constrained roundKind round) where
       let a = shares-line s b v (rows roundLayout round) 1031 (tupleAt roundKind round) 1031 (λ r l. omega (arith, round-line s b (row roundLayout round r), round-most s b _ (round-mu r l))) in
       omega (arith, a, c .few)
 
-  pub round-carried : (s : Side) (v : List ℕ) → tableShare s Keccak v roundKind round ≡ carried roundKind s round v
-  round-carried = carried-share roundKind round round-bus round-mu
+  pub round-carried : (s : Side) (v : List ℕ) → tableShare s Keccak v roundKind round ≡ activeTuples roundKind s round v
+  round-carried = active-tuples-share roundKind round round-bus round-mu

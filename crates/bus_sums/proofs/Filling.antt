@@ -20,7 +20,7 @@ use Rattle.lookup.specs.declared.Side.{Side}
 use Rattle.lookup.specs.declared.Side.the-variants.{Sender, Receiver}
 use Rattle.bitwise.specs.Found.{BitwiseFound}
 use Rattle.matching.specs.Matching.{FoundOn}
-use Rattle.verdict.specs.Kind.{Kind, rows, MatchedAt, Balanced, carried, Whole, Elements}
+use Rattle.verdict.specs.Kind.{Kind, rows, MatchedAt, Balanced, activeTuples, Whole, Elements}
 use Rattle.verdict.specs.CoreAndRound.{coreKind, roundKind}
 use Rattle.bus_sums.specs.Buses.{isWhLine}
 use Rattle.bus_sums.specs.Sums.{Fillings, tupleAt, tableShare, isWhLayout, isWhKind, busTotal, Constrained, Agree, InField, nobody}
@@ -122,8 +122,8 @@ module _ (nr : ℕ) (core round is-wh : List ℕ) where
   pub keccak-agree : Constrained (coreKind nr) core → Constrained roundKind round → Balanced (coreKind nr) roundKind core round → (v : List ℕ) → Agree nr core round filled nobody Keccak v
   unfolding Balanced
   keccak-agree cc cr balanced v =
-      let c : (s : Side) → tableShare s Keccak v (coreKind nr) core ≡ carried (coreKind nr) s core v = λ s. core-carried nr core cc s v in
-      let d : (s : Side) → tableShare s Keccak v roundKind round ≡ carried roundKind s round v = λ s. round-carried round cr s v in
+      let c : (s : Side) → tableShare s Keccak v (coreKind nr) core ≡ activeTuples (coreKind nr) s core v = λ s. core-carried nr core cc s v in
+      let d : (s : Side) → tableShare s Keccak v roundKind round ≡ activeTuples roundKind s round v = λ s. round-carried round cr s v in
       let all : (s : Side) → busTotal nr core round filled s Keccak v ≡ tableShare s Keccak v (coreKind nr) core + tableShare s Keccak v roundKind round = keccak-total nr core round filled v in
       ap (λ (n : ℕ). n % p) (omega (arith, all Sender, all Receiver, c Sender, c Receiver, d Sender, d Receiver, balanced v))
 

@@ -8,7 +8,7 @@ use Prim.Native.Nat.{ℕ, zero, suc, _+_, _-_, _*_, _/_, _%_, _^_, _≤_, _<_}
 use native.Mathlib.Nat.{mod-eq-of-lt}
 use native.Mathlib.Omega.{arith}
 use Rattle.lists.specs.Tab.{word, tableOf, cellsOf, pick}
-use Rattle.lists.specs.Sum.{sum}
+use Rattle.lists.specs.Sum.{sumBelow}
 use Rattle.lists.specs.Select.{wordsTest}
 use Rattle.lists.proofs.Laws.{rowAt-table, length-table, getD-tab}
 use Rattle.lists.proofs.Sum.{sum-same, sum-then, sum-part}
@@ -62,7 +62,7 @@ pair-tuple x i l = pair-received (pairOf x i) 4 (omega arith) ∙ ap (λ (w : �
 
 -- what it receives on the bus is what the core row sends for that pointer
 pair-share : (v x : List ℕ) (i : ℕ) → word x (state-ptr i 0 + 2) < p
-    → sum 5 (λ j. share Receiver IsWh v (isWhTuple (pairOf x i) j)) ≡ share Sender IsWh v (pointerTuple x i 0)
+    → sumBelow 5 (λ j. share Receiver IsWh v (isWhTuple (pairOf x i) j)) ≡ share Sender IsWh v (pointerTuple x i 0)
 unfolding share pointerTuple
 pair-share v x i l =
     sum-place 5 4 (λ j. share Receiver IsWh v (isWhTuple (pairOf x i) j)) (omega arith)
@@ -75,7 +75,7 @@ low-off v x i zero n = absurd (n refl)
 low-off v x i (suc j) n = off Sender IsWh v _ refl
 
 -- what a core row sends on that bus is what its pointers send
-pub core-sends : (nr : ℕ) (v x : List ℕ) → sum 84 (λ j. share Sender IsWh v (coreTuple nr 0 x j)) ≡ sum 25 (λ i. share Sender IsWh v (pointerTuple x i 0))
+pub core-sends : (nr : ℕ) (v x : List ℕ) → sumBelow 84 (λ j. share Sender IsWh v (coreTuple nr 0 x j)) ≡ sumBelow 25 (λ i. share Sender IsWh v (pointerTuple x i 0))
 unfolding coreTuple ecallTuple addrMemw laneMemw alignTuple addrBytesTuple
 core-sends nr v x =
     sum-part H 1 83 0 _ _ _ (λ i. off Sender IsWh v _ refl)
@@ -92,10 +92,10 @@ core-sends nr v x =
     H : Tuple → ℕ
     H t = share Sender IsWh v t
 
-    pointers : sum 50 (λ i. H (pointerTuple x (i / 2) (i % 2))) ≡ sum 25 (λ i. H (pointerTuple x i 0))
+    pointers : sumBelow 50 (λ i. H (pointerTuple x (i / 2) (i % 2))) ≡ sumBelow 25 (λ i. H (pointerTuple x i 0))
     pointers =
         sum-flat 25 2 (λ r j. H (pointerTuple x r j))
-        ∙ sum-same 25 (λ r. sum 2 (λ j. H (pointerTuple x r j))) (λ i. H (pointerTuple x i 0))
+        ∙ sum-same 25 (λ r. sumBelow 2 (λ j. H (pointerTuple x r j))) (λ i. H (pointerTuple x i 0))
         (λ r l. sum-place 2 0 (λ j. H (pointerTuple x r j)) (omega arith) (λ j g n. low-off v x r j n))
 
 -- ---- the table
@@ -115,22 +115,22 @@ module _ (core : List ℕ) where
   pairs-row k l = rowAt-table height 4 pairAtPlace k l refl
 
   pairs-shares : (s : Side) (b : Bus) (v : List ℕ)
-      → tableShare s b v isWhKind (pairsOf core) ≡ sum (rows coreLayout core) (λ r. sum 25 (λ i. sum 5 (λ j. share s b v (isWhTuple (pairOf (row coreLayout core r) i) j))))
+      → tableShare s b v isWhKind (pairsOf core) ≡ sumBelow (rows coreLayout core) (λ r. sumBelow 25 (λ i. sumBelow 5 (λ j. share s b v (isWhTuple (pairOf (row coreLayout core r) i) j))))
   unfolding shares tupleAt
   pairs-shares s b v =
-      ap (λ (m : ℕ). sum m (λ r. sum 5 (λ i. share s b v (tupleAt isWhKind (pairsOf core) r i)))) pairs-rows
-      ∙ sum-same height (λ r. sum 5 (λ i. share s b v (tupleAt isWhKind (pairsOf core) r i))) (λ k. sum 5 (λ j. share s b v (isWhTuple (pairAtPlace k) j)))
-      (λ k l. ap (λ (y : List ℕ). sum 5 (λ j. share s b v (isWhTuple y j))) (pairs-row k l))
-      ∙ sum-flat (rows coreLayout core) 25 (λ r i. sum 5 (λ j. share s b v (isWhTuple (pairOf (row coreLayout core r) i) j)))
+      ap (λ (m : ℕ). sumBelow m (λ r. sumBelow 5 (λ i. share s b v (tupleAt isWhKind (pairsOf core) r i)))) pairs-rows
+      ∙ sum-same height (λ r. sumBelow 5 (λ i. share s b v (tupleAt isWhKind (pairsOf core) r i))) (λ k. sumBelow 5 (λ j. share s b v (isWhTuple (pairAtPlace k) j)))
+      (λ k l. ap (λ (y : List ℕ). sumBelow 5 (λ j. share s b v (isWhTuple y j))) (pairs-row k l))
+      ∙ sum-flat (rows coreLayout core) 25 (λ r i. sumBelow 5 (λ j. share s b v (isWhTuple (pairOf (row coreLayout core r) i) j)))
 
   pub pairs-received : Elements core → (nr : ℕ) (v : List ℕ)
       → tableShare Receiver IsWh v isWhKind (pairsOf core) ≡ tableShare Sender IsWh v (coreKind nr) core
   unfolding shares tupleAt
   pairs-received below nr v =
       pairs-shares Receiver IsWh v
-      ∙ sum-same (rows coreLayout core) (λ r. sum 25 (λ i. sum 5 (λ j. share Receiver IsWh v (isWhTuple (pairOf (row coreLayout core r) i) j)))) (λ r. sum 84 (λ i. share Sender IsWh v (tupleAt (coreKind nr) core r i)))
+      ∙ sum-same (rows coreLayout core) (λ r. sumBelow 25 (λ i. sumBelow 5 (λ j. share Receiver IsWh v (isWhTuple (pairOf (row coreLayout core r) i) j)))) (λ r. sumBelow 84 (λ i. share Sender IsWh v (tupleAt (coreKind nr) core r i)))
       (λ r l.
-      sum-same 25 (λ i. sum 5 (λ j. share Receiver IsWh v (isWhTuple (pairOf (row coreLayout core r) i) j))) (λ i. share Sender IsWh v (pointerTuple (row coreLayout core r) i 0))
+      sum-same 25 (λ i. sumBelow 5 (λ j. share Receiver IsWh v (isWhTuple (pairOf (row coreLayout core r) i) j))) (λ i. share Sender IsWh v (pointerTuple (row coreLayout core r) i 0))
       (λ i g. pair-share v (row coreLayout core r) i (row-below (coreKind nr) core below r (state-ptr i 0 + 2) l (omega arith)))
       ∙ sym (core-sends nr v (row coreLayout core r)))
 

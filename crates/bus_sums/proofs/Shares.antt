@@ -13,7 +13,7 @@ use native.Mathlib.Omega.{arith}
 use lib.Arith.{digits-div, digits-mod}
 use lib.Dec.{T}
 use Rattle.lists.specs.Tab.{pick}
-use Rattle.lists.specs.Sum.{sum}
+use Rattle.lists.specs.Sum.{sumBelow}
 use Rattle.lists.specs.Select.{wordsTest}
 use Rattle.lists.proofs.Count.{sum-find}
 use Rattle.lists.proofs.Sum.{sum-add, sum-same, sum-const, and-left, and-right}
@@ -29,25 +29,25 @@ use Rattle.lookup.proofs.Buses.{bus-decides}
 use Rattle.bus_sums.specs.Sums.{share, shares}
 
 -- ---- sums
-pub sum-hit : (n : ℕ) (f : ℕ → ℕ) (k : ℕ) → k < n → f k ≤ sum n f
-unfolding sum
+pub sum-hit : (n : ℕ) (f : ℕ → ℕ) (k : ℕ) → k < n → f k ≤ sumBelow n f
+unfolding sumBelow
 sum-hit zero f k l = absurd (omega arith)
 sum-hit (suc n) f k l = elim (eq-or-lt-of-le (le-of-suc-le-suc l)) [
   | inl e ↦ let q : f k ≡ f n = ap f e in omega arith
   | inr g ↦ omega (arith, sum-hit n f k g)
 ]
 
-pub sum-le : (n : ℕ) (f g : ℕ → ℕ) → ((k : ℕ) → k < n → f k ≤ g k) → sum n f ≤ sum n g
-unfolding sum
+pub sum-le : (n : ℕ) (f g : ℕ → ℕ) → ((k : ℕ) → k < n → f k ≤ g k) → sumBelow n f ≤ sumBelow n g
+unfolding sumBelow
 sum-le zero f g h = omega arith
 sum-le (suc n) f g h = omega (arith, sum-le n f g (λ k l. h k (omega arith)), h n (omega arith))
 
-pub sum-zero : (n : ℕ) (f : ℕ → ℕ) → ((k : ℕ) → k < n → f k ≡ 0) → sum n f ≡ 0
+pub sum-zero : (n : ℕ) (f : ℕ → ℕ) → ((k : ℕ) → k < n → f k ≡ 0) → sumBelow n f ≡ 0
 sum-zero n f h = sum-same n f (λ k. 0) h ∙ sum-const n 0 ∙ mul-zero n
 
 -- where f is 0 but at one index
-pub sum-place : (n k : ℕ) (f : ℕ → ℕ) → k < n → ((j : ℕ) → j < n → (j ≡ k → ⊥) → f j ≡ 0) → sum n f ≡ f k
-unfolding sum
+pub sum-place : (n k : ℕ) (f : ℕ → ℕ) → k < n → ((j : ℕ) → j < n → (j ≡ k → ⊥) → f j ≡ 0) → sumBelow n f ≡ f k
+unfolding sumBelow
 sum-place zero k f l h = absurd (omega arith)
 sum-place (suc n) k f l h = elim (eq-or-lt-of-le (le-of-suc-le-suc l)) [
   | inl e ↦ let q : f k ≡ f n = ap f e in let z = sum-zero n f (λ j g. h j (omega arith) (λ c. omega arith)) in omega (arith, q, z)
@@ -55,11 +55,11 @@ sum-place (suc n) k f l h = elim (eq-or-lt-of-le (le-of-suc-le-suc l)) [
 ]
 
 -- n times m entries, by their quotient and remainder
-pub sum-flat : (n m : ℕ) (f : ℕ → ℕ → ℕ) → sum (n * m) (λ k. f (k / m) (k % m)) ≡ sum n (λ r. sum m (f r))
-unfolding sum
-sum-flat zero m f = ap (λ (k : ℕ). sum k (λ k. f (k / m) (k % m))) (zero-mul m)
+pub sum-flat : (n m : ℕ) (f : ℕ → ℕ → ℕ) → sumBelow (n * m) (λ k. f (k / m) (k % m)) ≡ sumBelow n (λ r. sumBelow m (f r))
+unfolding sumBelow
+sum-flat zero m f = ap (λ (k : ℕ). sumBelow k (λ k. f (k / m) (k % m))) (zero-mul m)
 sum-flat (suc n) m f =
-    ap (λ (k : ℕ). sum k (λ k. f (k / m) (k % m))) (suc-mul n m)
+    ap (λ (k : ℕ). sumBelow k (λ k. f (k / m) (k % m))) (suc-mul n m)
     ∙ sum-add (n * m) m (λ k. f (k / m) (k % m))
     ∙ ap₂ _+_ (sum-flat n m f) (sum-same m (λ k. f ((n * m + k) / m) ((n * m + k) % m)) (f n) (λ k l. ap₂ f (digits-div n l) (digits-mod n l)))
 
@@ -138,7 +138,7 @@ module _ (s : Side) (b : Bus) (v : List ℕ) (n m : ℕ) (t : ℕ → ℕ → Tu
   pub shares-find : 1 ≤ shares s b v n m t → (r i : ℕ) × (r < n) × (i < m) × On s b v (t r i)
   unfolding shares
   shares-find h =
-      let f = sum-find (λ r. sum m (λ i. share s b v (t r i))) n h in
+      let f = sum-find (λ r. sumBelow m (λ i. share s b v (t r i))) n h in
       let g = sum-find (λ i. share s b v (t (f .0) i)) m (f .2) in
       (f .0, g .0, f .1, g .1, share-on s b v (t (f .0) (g .0)) (g .2))
 
@@ -146,7 +146,7 @@ module _ (s : Side) (b : Bus) (v : List ℕ) (n m : ℕ) (t : ℕ → ℕ → Tu
   unfolding shares
   shares-hit r i hr hi =
       let a = sum-hit m (λ i. share s b v (t r i)) i hi in
-      let c = sum-hit n (λ r. sum m (λ i. share s b v (t r i))) r hr in
+      let c = sum-hit n (λ r. sumBelow m (λ i. share s b v (t r i))) r hr in
       omega (arith, a, c)
 
   -- for its own values
@@ -162,9 +162,9 @@ module _ (s : Side) (b : Bus) (v : List ℕ) (n m : ℕ) (t : ℕ → ℕ → Tu
   pub shares-line : (c : ℕ) → ((r : ℕ) → r < n → busSum s b m (t r) ≤ c) → shares s b v n m t ≤ n * c
   unfolding shares busSum
   shares-line c h =
-      let rows : (r : ℕ) → r < n → sum m (λ i. share s b v (t r i)) ≤ c =
+      let rows : (r : ℕ) → r < n → sumBelow m (λ i. share s b v (t r i)) ≤ c =
       λ r l. omega (arith, sum-le m (λ i. share s b v (t r i)) (λ i. onBus s b (t r i)) (λ i g. share-le s b v (t r i)), h r l) in
-      omega (arith, sum-le n (λ r. sum m (λ i. share s b v (t r i))) (λ r. c) rows, sum-const n c)
+      omega (arith, sum-le n (λ r. sumBelow m (λ i. share s b v (t r i))) (λ r. c) rows, sum-const n c)
 
   pub no-line : ((r : ℕ) → r < n → busSum s b m (t r) ≡ 0) → shares s b v n m t ≡ 0
   no-line h = let a = shares-line 0 (λ r l. omega (arith, h r l)) in omega (arith, a)

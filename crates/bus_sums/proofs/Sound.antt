@@ -24,7 +24,7 @@ use Rattle.bitwise.specs.Found.{BitwiseFound}
 use Rattle.keccak_rc.specs.Found.{RcFound}
 use Rattle.matching.specs.Matching.{FoundOn}
 use Rattle.matching.proofs.Matching.{half-of}
-use Rattle.verdict.specs.Kind.{Kind, rows, row, Lookups, Balanced, carried}
+use Rattle.verdict.specs.Kind.{Kind, rows, row, Lookups, Balanced, activeTuples}
 use Rattle.verdict.specs.CoreAndRound.{coreKind, roundKind}
 use Rattle.bus_sums.specs.Buses.{isWhLine}
 use Rattle.bus_sums.specs.Sums.{Fillings, tupleAt, tableShare, bitwiseAt, constantAt, isWhLayout, isWhKind, busTotal, Ours, SumsHold}
@@ -168,8 +168,8 @@ module _ (nr : ℕ) (core round : List ℕ) (w : Fillings) (others : Bus → Lis
   pub balanced : Balanced (coreKind nr) roundKind core round
   unfolding Balanced
   balanced v =
-      let c : (s : Side) → tableShare s Keccak v (coreKind nr) core ≡ carried (coreKind nr) s core v = λ s. core-carried nr core (h .core-constrained) s v in
-      let d : (s : Side) → tableShare s Keccak v roundKind round ≡ carried roundKind s round v = λ s. round-carried round (h .round-constrained) s v in
+      let c : (s : Side) → tableShare s Keccak v (coreKind nr) core ≡ activeTuples (coreKind nr) s core v = λ s. core-carried nr core (h .core-constrained) s v in
+      let d : (s : Side) → tableShare s Keccak v roundKind round ≡ activeTuples roundKind s round v = λ s. round-carried round (h .round-constrained) s v in
       let all : (s : Side) → total s Keccak v ≡ tableShare s Keccak v (coreKind nr) core + tableShare s Keccak v roundKind round = keccak-total nr core round w v in
       let few : total Receiver Keccak v < p = omega (arith, core-few nr core (h .core-constrained) Receiver Keccak v, round-few round (h .round-constrained) Receiver Keccak v, all Receiver) in
       let both : total Sender Keccak v + others Keccak v ≡ total Receiver Keccak v = sym (mod-eq-of-lt (sent-few Keccak v (few-pairs Keccak))) ∙ h .agree Keccak tt v ∙ mod-eq-of-lt few in

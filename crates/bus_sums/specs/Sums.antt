@@ -13,7 +13,7 @@ use mathlib.Core.Path.{_≡_}
 use mathlib.Core.List.{List, [], _∷_, _++_}
 use Prim.Native.Nat.{ℕ, _+_, _%_, _^_, _≤_, _<_}
 use Rattle.lists.specs.Tab.{pick, tab}
-use Rattle.lists.specs.Sum.{sum}
+use Rattle.lists.specs.Sum.{sumBelow}
 use Rattle.lists.specs.Select.{wordsTest}
 use Rattle.field.specs.Field.{p}
 use Rattle.lookup.specs.Tuple.{Tuple, onBus}
@@ -40,7 +40,7 @@ share s b v t = pick (wordsTest v (t .values)) (onBus s b t) 0
 
 -- what n rows of m tuples each add, tuple i of row r being t r i
 unfoldable pub shares : Side → Bus → List ℕ → ℕ → ℕ → (ℕ → ℕ → Tuple) → ℕ
-shares s b v n m t = sum n (λ r. sum m (λ i. share s b v (t r i)))
+shares s b v n m t = sumBelow n (λ r. sumBelow m (λ i. share s b v (t r i)))
 
 -- tuple i of row r of a table of some kind, and what the table adds
 unfoldable pub tupleAt : Kind → List ℕ → ℕ → ℕ → Tuple

@@ -11,8 +11,8 @@ use native.Mathlib.Nat.{add-zero, mul-zero, mul-one, zero-mul, add-mul, mul-add}
 use native.Mathlib.Omega.{arith}
 use lib.Dec.{T, eqb, ltb, eqb→eq}
 use lib.ListN.{length, List·getD-append}
-use Rattle.lists.specs.Tab.{word, pick, tab, tabFrom, then, tableOf, cellsOf}
-use Rattle.lists.specs.Sum.{sum, all}
+use Rattle.lists.specs.Tab.{word, pick, tab, tabFrom, followedBy, tableOf, cellsOf}
+use Rattle.lists.specs.Sum.{sumBelow, allBelow}
 use Rattle.lists.specs.Select.{wordsTest}
 use Rattle.lists.proofs.Laws.{getD-tab, length-tab, length-table, rowAt-table}
 use Rattle.lists.proofs.Sum.{sum-same, sum-const, all-at, and-left, and-right}
@@ -75,22 +75,22 @@ times x i =
     Times t = t .multiplicity ≡ word x 485
 
 -- a sum of multiples
-sum-times : (n c : ℕ) (f : ℕ → ℕ) → sum n (λ k. c * f k) ≡ c * sum n f
-unfolding sum
+sum-times : (n c : ℕ) (f : ℕ → ℕ) → sumBelow n (λ k. c * f k) ≡ c * sumBelow n f
+unfolding sumBelow
 sum-times zero c f = sym (mul-zero c)
-sum-times (suc n) c f = ap (λ (x : ℕ). x + c * f n) (sum-times n c f) ∙ sym (mul-add c (sum n f) (f n))
+sum-times (suc n) c f = ap (λ (x : ℕ). x + c * f n) (sum-times n c f) ∙ sym (mul-add c (sumBelow n f) (f n))
 
-times-sum : (n c : ℕ) (f : ℕ → ℕ) → sum n (λ k. f k * c) ≡ sum n f * c
-unfolding sum
+times-sum : (n c : ℕ) (f : ℕ → ℕ) → sumBelow n (λ k. f k * c) ≡ sumBelow n f * c
+unfolding sumBelow
 times-sum zero c f = sym (zero-mul c)
-times-sum (suc n) c f = ap (λ (x : ℕ). x + f n * c) (times-sum n c f) ∙ sym (add-mul (sum n f) (f n) c)
+times-sum (suc n) c f = ap (λ (x : ℕ). x + f n * c) (times-sum n c f) ∙ sym (add-mul (sumBelow n f) (f n) c)
 
 -- whether two tuples are alike but for their multiplicities
 abbrev alike : Tuple → Tuple → Bool
 alike t u = wordsTest (t .values) (u .values) && (sameSide (t .side) (u .side) && sameBus (t .bus) (u .bus))
 
-all-alike : (m : ℕ) → T (all 84 (λ i. alike (coreTuple 24 0 (crooked m) i) (coreTuple 24 0 (crooked 1) i)))
-unfolding all wordsTest coreTuple ecallTuple addrMemw laneMemw pointerTuple alignTuple addrBytesTuple coreSent coreReceived keccakValues crooked cell tab tabFrom then
+all-alike : (m : ℕ) → T (allBelow 84 (λ i. alike (coreTuple 24 0 (crooked m) i) (coreTuple 24 0 (crooked 1) i)))
+unfolding allBelow wordsTest coreTuple ecallTuple addrMemw laneMemw pointerTuple alignTuple addrBytesTuple coreSent coreReceived keccakValues crooked cell tab tabFrom followedBy
 all-alike m = tt
 
 module _ (s : Side) (b : Bus) (v : List ℕ) where
@@ -115,9 +115,9 @@ module _ (s : Side) (b : Bus) (v : List ℕ) where
 
   -- what the row adds where MU is 1
   unfoldable once : ℕ
-  once = sum 84 (λ i. share s b v (coreTuple 24 0 (crooked 1) i))
+  once = sumBelow 84 (λ i. share s b v (coreTuple 24 0 (crooked 1) i))
 
-  row-adds : (m : ℕ) → sum 84 (λ i. share s b v (coreTuple 24 0 (crooked m) i)) ≡ m * once
+  row-adds : (m : ℕ) → sumBelow 84 (λ i. share s b v (coreTuple 24 0 (crooked m) i)) ≡ m * once
   unfolding once
   row-adds m =
       sum-same 84 (λ i. share s b v (coreTuple 24 0 (crooked m) i)) (λ i. m * share s b v (coreTuple 24 0 (crooked 1) i))
@@ -128,23 +128,23 @@ module _ (s : Side) (b : Bus) (v : List ℕ) where
 
   -- n rows of it, their MUs mu 0 .. mu (n - 1)
   module _ (n : ℕ) (mu : ℕ → ℕ) where
-    adds : tableShare s b v (coreKind 24) (crookedTable n mu) ≡ sum n mu * once
+    adds : tableShare s b v (coreKind 24) (crookedTable n mu) ≡ sumBelow n mu * once
     unfolding shares tupleAt
     adds =
-        ap (λ (k : ℕ). sum k (λ r. sum 84 (λ i. share s b v (coreTuple 24 0 (row coreLayout (crookedTable n mu) r) i)))) (table-rows coreLayout (omega arith) n (λ r. crooked (mu r)))
-        ∙ sum-same n (λ r. sum 84 (λ i. share s b v (coreTuple 24 0 (row coreLayout (crookedTable n mu) r) i))) (λ r. mu r * once)
-        (λ r l. ap (λ (x : List ℕ). sum 84 (λ i. share s b v (coreTuple 24 0 x i))) (rowAt-table n 486 (λ r. crooked (mu r)) r l (crooked-length (mu r))) ∙ row-adds (mu r))
+        ap (λ (k : ℕ). sumBelow k (λ r. sumBelow 84 (λ i. share s b v (coreTuple 24 0 (row coreLayout (crookedTable n mu) r) i)))) (table-rows coreLayout (omega arith) n (λ r. crooked (mu r)))
+        ∙ sum-same n (λ r. sumBelow 84 (λ i. share s b v (coreTuple 24 0 (row coreLayout (crookedTable n mu) r) i))) (λ r. mu r * once)
+        (λ r l. ap (λ (x : List ℕ). sumBelow 84 (λ i. share s b v (coreTuple 24 0 x i))) (rowAt-table n 486 (λ r. crooked (mu r)) r l (crooked-length (mu r))) ∙ row-adds (mu r))
         ∙ times-sum n once mu
 
-    cancels : sum n mu % p ≡ 0 → tableShare s b v (coreKind 24) (crookedTable n mu) % p ≡ 0
-    cancels e = ap (λ (k : ℕ). k % p) adds ∙ mul-c (sum n mu) 0 once e ∙ ap (λ (k : ℕ). k % p) (zero-mul once)
+    cancels : sumBelow n mu % p ≡ 0 → tableShare s b v (coreKind 24) (crookedTable n mu) % p ≡ 0
+    cancels e = ap (λ (k : ℕ). k % p) adds ∙ mul-c (sumBelow n mu) 0 once e ∙ ap (λ (k : ℕ). k % p) (zero-mul once)
 
 pick-lt : (t : Bool) {a b : ℕ} → a < p → b < p → pick t a b < p
 pick-lt true h g = h
 pick-lt false h g = g
 
 -- ---- the tables
-module _ (n : ℕ) (mu : ℕ → ℕ) (some : 0 < n) (one : mu 0 ≡ 1) (small : (r : ℕ) → mu r < p) (cancel : sum n mu % p ≡ 0) where
+module _ (n : ℕ) (mu : ℕ → ℕ) (some : 0 < n) (one : mu 0 ≡ 1) (small : (r : ℕ) → mu r < p) (cancel : sumBelow n mu % p ≡ 0) where
   abbrev table : List ℕ
   table = crookedTable n mu
 
@@ -199,15 +199,15 @@ module _ (n : ℕ) (mu : ℕ → ℕ) (some : 0 < n) (one : mu 0 ≡ 1) (small :
 
 -- ---- the values
 abbrev zeros : ℕ → ℕ → Bool
-zeros n m = all n (λ i. eqb (coreValue (crooked m) i) 0)
+zeros n m = allBelow n (λ i. eqb (coreValue (crooked m) i) 0)
 
 -- all 52 where MU is 1, and the first 51 where it is p - 1
 one-zeros : T (zeros 52 1)
-unfolding all coreValue pointerValue topValue emit-add-pair carry0 add-pair-carry-hi add-terms-expr crooked cell tab tabFrom then
+unfolding allBelow coreValue pointerValue topValue emit-add-pair carry0 add-pair-carry-hi add-terms-expr crooked cell tab tabFrom followedBy
 one-zeros = tt
 
 minus-zeros : T (zeros 51 (opposite 1))
-unfolding all coreValue pointerValue topValue emit-add-pair carry0 add-pair-carry-hi add-terms-expr crooked cell tab tabFrom then
+unfolding allBelow coreValue pointerValue topValue emit-add-pair carry0 add-pair-carry-hi add-terms-expr crooked cell tab tabFrom followedBy
 minus-zeros = tt
 
 zero-at : (n m : ℕ) → T (zeros n m) → (i : ℕ) → i < n → coreValue (crooked m) i ≡ 0
@@ -215,7 +215,7 @@ zero-at n m t i l = eqb→eq (coreValue (crooked m) i) 0 (all-at n (λ i. eqb (c
 
 -- ---- THE MUS 1 AND p - 1
 pub mu-needed : Slips twoRows × ((r i : ℕ) → r < 2 → i < 52 → (r ≡ 1 → i ≡ 51 → ⊥) → ZeroAt (coreKind 24) twoRows r i)
-unfolding sum
+unfolding sumBelow
 mu-needed = (slips 2 opposite (omega arith) refl small refl, vanish)
   where
     small : (r : ℕ) → opposite r < p

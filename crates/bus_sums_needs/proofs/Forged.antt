@@ -8,7 +8,7 @@ use mathlib.Core.Path.{_≡_, refl, sym, ap, ap₂, _∙_}
 use Prim.Native.Nat.{ℕ, _+_, _-_, _%_, _^_, _≤_, _<_}
 use native.Mathlib.Omega.{arith}
 use Rattle.lists.specs.Tab.{word, pick, tab, tabFrom, rowAt}
-use Rattle.lists.specs.Sum.{sum}
+use Rattle.lists.specs.Sum.{sumBelow}
 use Rattle.lists.specs.Select.{wordsTest}
 use Rattle.lists.proofs.Tests.{not-true, T-of}
 use Rattle.lists.proofs.Select.{words-sound}
@@ -34,7 +34,7 @@ unfolding IsWhFound
 not-found f = omega (arith, f .1)
 
 -- ---- a row receives its pair
-row-received : (v x : List ℕ) (w h m : ℕ) → isWhTuple x 4 ≡ receiver IsWh m (w ∷ h ∷ []) → sum 5 (λ j. share Receiver IsWh v (isWhTuple x j)) ≡ pick (wordsTest v (w ∷ h ∷ [])) m 0
+row-received : (v x : List ℕ) (w h m : ℕ) → isWhTuple x 4 ≡ receiver IsWh m (w ∷ h ∷ []) → sumBelow 5 (λ j. share Receiver IsWh v (isWhTuple x j)) ≡ pick (wordsTest v (w ∷ h ∷ [])) m 0
 unfolding share
 row-received v x w h m e =
     sum-place 5 4 (λ j. share Receiver IsWh v (isWhTuple x j)) (omega arith)
@@ -42,7 +42,7 @@ row-received v x w h m e =
     ∙ ap (share Receiver IsWh v) e
 
 pub forged-received : (v : List ℕ) → tableShare Receiver IsWh v isWhKind forged % p ≡ (pick (wordsTest v ((p - 5) ∷ 0 ∷ [])) 1 0 + pick (wordsTest v ((2 ^ 32 - 5) ∷ 0 ∷ [])) 24 0) % p
-unfolding shares tupleAt sum rowAt tab tabFrom
+unfolding shares tupleAt sumBelow rowAt tab tabFrom
 forged-received v =
     ap₂ (λ (a b : ℕ). (a + b) % p)
     (ap₂ _+_ (ap₂ _+_ (ap₂ _+_ (ap₂ _+_ (ap₂ _+_ (ap (λ (n : ℕ). 0 + n)
@@ -85,8 +85,8 @@ three t a b c m = pick (t a) m 0 + pick (t b) m 0 + pick (t c) m 0
 unfoldable is : ℕ → ℕ → Bool
 is n y = wordsTest (n ∷ []) (y ∷ [])
 
-row-sent : (n a b c m : ℕ) → sum 5 (λ j. share Sender IsHalfword (n ∷ []) (isWhTuple (a ∷ b ∷ c ∷ m ∷ []) j)) ≡ three (is n) a b c m
-unfolding sum is
+row-sent : (n a b c m : ℕ) → sumBelow 5 (λ j. share Sender IsHalfword (n ∷ []) (isWhTuple (a ∷ b ∷ c ∷ m ∷ []) j)) ≡ three (is n) a b c m
+unfolding sumBelow is
 row-sent n a b c m = omega (arith, s₀, s₁, s₂, s₃, s₄)
   where
     x : List ℕ
@@ -112,7 +112,7 @@ unfolding is
 not-small n y l g = not-true (wordsTest (n ∷ []) (y ∷ [])) (λ e. let q : n ∷ [] ≡ y ∷ [] = words-sound (n ∷ []) (y ∷ []) (T-of _ e) in let r : n ≡ y = ap (λ (l : List ℕ). word l 0) q in omega arith)
 
 pub forged-sent : (n : ℕ) → 65536 ≤ n → tableShare Sender IsHalfword (n ∷ []) isWhKind forged % p ≡ 0
-unfolding shares tupleAt sum rowAt tab tabFrom
+unfolding shares tupleAt sumBelow rowAt tab tabFrom
 forged-sent n l =
     ap₂ (λ (a b : ℕ). (a + b) % p)
     (ap₂ _+_ (ap₂ _+_ (ap₂ _+_ (ap₂ _+_ (ap₂ _+_ (ap (λ (k : ℕ). 0 + k)

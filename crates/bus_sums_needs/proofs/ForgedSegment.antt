@@ -11,10 +11,10 @@ use borrow.Author.Tests.{ne-eqb}
 use lib.Dec.{T, eqb, ltb, eqb→eq, ltb→lt}
 use lib.ListN.{length, length-set, set}
 use lib.Seq.{getD-set-same, getD-set-other}
-use Rattle.lists.specs.Tab.{word, pick, tab, tabFrom, then, rowOf, tableOf, cellsOf}
-use Rattle.lists.specs.Sum.{sum, all}
+use Rattle.lists.specs.Tab.{word, pick, tab, tabFrom, followedBy, rowOf, tableOf, cellsOf}
+use Rattle.lists.specs.Sum.{sumBelow, allBelow}
 use Rattle.lists.specs.Select.{wordsTest}
-use Rattle.lists.specs.First.{count}
+use Rattle.lists.specs.First.{countBelow}
 use Rattle.lists.proofs.Sum.{all-at}
 use Rattle.lists.proofs.Laws.{getD-tab, length-tab, length-table, rowAt-table}
 use Rattle.lists.proofs.Then.{by-le}
@@ -40,7 +40,7 @@ use Rattle.keccak.specs.Height.{height, next-power-of-two, doubled}
 use Rattle.keccak.proofs.Cells.{length-core, core-words}
 use Rattle.keccak.proofs.Height.{height-le}
 use Rattle.keccak_rnd.specs.Row.{roundTable, roundHeight, roundRowAt}
-use Rattle.verdict.specs.Kind.{rows, row, isActive, active, Passes, Balanced, carried}
+use Rattle.verdict.specs.Kind.{rows, row, isActive, active, Passes, Balanced, activeTuples}
 use Rattle.verdict.specs.CoreAndRound.{coreLayout, roundLayout, coreKind, roundKind, verdictAt}
 use Rattle.verdict.specs.Claims.{Addressed}
 use Rattle.verdict.specs.declared.Verdict.the-variants.{Holds}
@@ -48,7 +48,7 @@ use Rattle.verdict.specs.Honest.{RightOperation, zeroState}
 use Rattle.verdict.proofs.Failures.{verdict-says}
 use Rattle.verdict.proofs.Honest.{written-holds}
 use Rattle.verdict.proofs.Tables.{table-rows, table-whole}
-use Rattle.verdict.proofs.Tuples.{place, carriesAt, carried-count, core-bus}
+use Rattle.verdict.proofs.Tuples.{place, activeTupleAt, active-tuples-count, core-bus}
 use Rattle.bus_sums.specs.Sums.{share, shares, Fillings, tupleAt, tableShare, isWhLayout, isWhKind, Ours, Constrained, Agree, nobody}
 use Rattle.bus_sums.proofs.Shares.{On, not-zero, shares-find}
 use Rattle.bus_sums.proofs.Rows.{sides-differ}
@@ -58,12 +58,12 @@ use Rattle.bus_sums_needs.specs.Forged.{forged, operation, bent, bentCor
 use Rattle.bus_sums_needs.proofs.Forged.{forged-received, forged-sent}
 
 -- ---- the row
-values : T (all 52 (λ i. eqb (coreValue bent i) 0))
-unfolding all coreValue pointerValue topValue emit-add-pair carry0 add-pair-carry-hi add-terms-expr bent coreRow coreGroups rowOf pointerLimb limbAt wordAt tab tabFrom then
+values : T (allBelow 52 (λ i. eqb (coreValue bent i) 0))
+unfolding allBelow coreValue pointerValue topValue emit-add-pair carry0 add-pair-carry-hi add-terms-expr bent coreRow coreGroups rowOf pointerLimb limbAt wordAt tab tabFrom followedBy
 values = tt
 
-found : T (all 84 (λ i. pick (eqb i 4) true (matched (coreTuple 24 0 bent i))))
-unfolding all foundOn aluFound aluOp areBytesFound halfFound isWhFound coreTuple ecallTuple addrMemw laneMemw pointerTuple alignTuple addrBytesTuple bent coreRow coreGroups rowOf pointerLimb limbAt wordAt tab tabFrom then
+found : T (allBelow 84 (λ i. pick (eqb i 4) true (matched (coreTuple 24 0 bent i))))
+unfolding allBelow foundOn aluFound aluOp areBytesFound halfFound isWhFound coreTuple ecallTuple addrMemw laneMemw pointerTuple alignTuple addrBytesTuple bent coreRow coreGroups rowOf pointerLimb limbAt wordAt tab tabFrom followedBy
 found = tt
 
 sent-same : coreSent 24 bent ≡ coreSent 24 (coreRow operation)
@@ -111,11 +111,11 @@ row-is r l = rowAt-table 1 486 (λ r. bent) r l bent-length
 
 -- what a table of one active row carries
 one-row : (ws x : List ℕ) → rows coreLayout ws ≡ 1 → row coreLayout ws 0 ≡ x → word x 485 ≡ 1 → (s : Side) (v : List ℕ) →
-    carried (coreKind 24) s ws v ≡ pick (wordsTest v (coreTuple 24 0 x (place (core-bus 24) s) .values)) 1 0
-unfolding carriesAt count isActive
+    activeTuples (coreKind 24) s ws v ≡ pick (wordsTest v (coreTuple 24 0 x (place (core-bus 24) s) .values)) 1 0
+unfolding activeTupleAt countBelow isActive
 one-row ws x e f m s v =
-    carried-count (core-bus 24) s ws v
-    ∙ ap (count (carriesAt (coreKind 24) (place (core-bus 24) s) ws v)) e
+    active-tuples-count (core-bus 24) s ws v
+    ∙ ap (countBelow (activeTupleAt (coreKind 24) (place (core-bus 24) s) ws v)) e
     ∙ ap (λ (y : List ℕ). pick (eqb (word y 485) 1 && wordsTest v (coreTuple 24 0 y (place (core-bus 24) s) .values)) 1 0) f
     ∙ ap (λ (n : ℕ). pick (eqb n 1 && wordsTest v (coreTuple 24 0 x (place (core-bus 24) s) .values)) 1 0) m
 
@@ -154,11 +154,11 @@ unfolding coreRow coreGroups rowOf tab tabFrom
 written-mu = refl
 
 same-tuple : (s : Side) → coreTuple 24 0 bent (place (core-bus 24) s) .values ≡ coreTuple 24 0 (coreRow operation) (place (core-bus 24) s) .values
-unfolding coreTuple then
+unfolding coreTuple followedBy
 same-tuple Sender = sent-same
 same-tuple Receiver = received-same
 
-same-carried : (s : Side) (v : List ℕ) → carried (coreKind 24) s bentCore v ≡ carried (coreKind 24) s written v
+same-carried : (s : Side) (v : List ℕ) → activeTuples (coreKind 24) s bentCore v ≡ activeTuples (coreKind 24) s written v
 same-carried s v =
     one-row bentCore bent rows-are (row-is 0 (omega arith)) mu-is s v
     ∙ ap (λ (u : List ℕ). pick (wordsTest v u) 1 0) (same-tuple s)
@@ -193,7 +193,7 @@ round-constrained =
 
 -- ---- what is sent is found, but for the pair
 pair-bus : coreTuple 24 0 bent 4 .bus ≡ IsWh
-unfolding coreTuple then pointerTuple
+unfolding coreTuple followedBy pointerTuple
 pair-bus = refl
 
 core-found : (b : Bus) → (b ≡ IsWh → ⊥) → (v : List ℕ) → 1 ≤ tableShare Sender b v (coreKind 24) bentCore → FoundOn b v
@@ -216,21 +216,21 @@ round-found : (b : Bus) (v : List ℕ) → 1 ≤ tableShare Sender b v roundKind
 round-found b = table-found roundKind bentRound b (λ r i lr li e. round-passes .lookups r i lr li)
 
 -- the IS_WH table receives the pairs that the row sends
-pairs-sent : (v : List ℕ) → sum 25 (λ i. share Sender IsWh v (pointerTuple bent i 0)) ≡ pick (wordsTest v ((p - 5) ∷ 0 ∷ [])) 1 0 + pick (wordsTest v ((2 ^ 32 - 5) ∷ 0 ∷ [])) 24 0
-unfolding sum share pointerTuple bent coreRow coreGroups rowOf pointerLimb limbAt tab tabFrom
+pairs-sent : (v : List ℕ) → sumBelow 25 (λ i. share Sender IsWh v (pointerTuple bent i 0)) ≡ pick (wordsTest v ((p - 5) ∷ 0 ∷ [])) 1 0 + pick (wordsTest v ((2 ^ 32 - 5) ∷ 0 ∷ [])) 24 0
+unfolding sumBelow share pointerTuple bent coreRow coreGroups rowOf pointerLimb limbAt tab tabFrom
 pairs-sent v = cases (wordsTest v ((p - 5) ∷ 0 ∷ [])) (wordsTest v ((2 ^ 32 - 5) ∷ 0 ∷ []))
   where
-    cases : (a d : Bool) → sum 25 (λ i. pick (pick (eqb i 0) a d) 1 0) ≡ pick a 1 0 + pick d 24 0
+    cases : (a d : Bool) → sumBelow 25 (λ i. pick (pick (eqb i 0) a d) 1 0) ≡ pick a 1 0 + pick d 24 0
     cases true true = refl
     cases true false = refl
     cases false true = refl
     cases false false = refl
 
 core-pairs : (v : List ℕ) → tableShare Sender IsWh v (coreKind 24) bentCore ≡ pick (wordsTest v ((p - 5) ∷ 0 ∷ [])) 1 0 + pick (wordsTest v ((2 ^ 32 - 5) ∷ 0 ∷ [])) 24 0
-unfolding shares tupleAt sum
+unfolding shares tupleAt sumBelow
 core-pairs v =
-    ap (λ (n : ℕ). sum n (λ r. sum 84 (λ i. share Sender IsWh v (coreTuple 24 0 (row coreLayout bentCore r) i)))) rows-are
-    ∙ ap (λ (x : List ℕ). 0 + sum 84 (λ i. share Sender IsWh v (coreTuple 24 0 x i))) (row-is 0 (omega arith))
+    ap (λ (n : ℕ). sumBelow n (λ r. sumBelow 84 (λ i. share Sender IsWh v (coreTuple 24 0 (row coreLayout bentCore r) i)))) rows-are
+    ∙ ap (λ (x : List ℕ). 0 + sumBelow 84 (λ i. share Sender IsWh v (coreTuple 24 0 x i))) (row-is 0 (omega arith))
     ∙ ap (λ (n : ℕ). 0 + n) (core-sends 24 v bent ∙ pairs-sent v)
     ∙ omega arith
 
@@ -257,8 +257,8 @@ halves-found v l =
 abbrev fillings : Fillings
 fillings = filled 24 bentCore bentRound forged
 
-forged-below : T (all 28 (λ k. ltb (word forged k) p))
-unfolding all
+forged-below : T (allBelow 28 (λ k. ltb (word forged k) p))
+unfolding allBelow
 forged-below = tt
 
 agrees : (b : Bus) → Ours b → (b ≡ IsB20 → ⊥) → (v : List ℕ) → Agree 24 bentCore bentRound fillings nobody b v
