@@ -37,8 +37,3 @@ EachChain nr core round = (a : ℕ) → Active coreLayout core a → Chain nr co
 pub record Chained (nr : ℕ) (core round : List ℕ) : Type 0 where
   pub chains : EachChain nr core round
   pub number : actives roundLayout round ≡ nr * actives coreLayout core
-
--- where a search found a place, it is one that was looked for
-unfoldable pub IfFound : (ℕ → Type 0) → Place → Type 0
-IfFound P Nowhere = Unit {0}
-IfFound P (At k) = P k

@@ -1,1 +1,3 @@
-pub mod Search
+pub mod Next
+pub mod Turns
+pub mod Chained

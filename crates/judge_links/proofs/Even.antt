@@ -1,9 +1,10 @@
 -- What the chains, the walk and the counts on the Keccak bus cite.
 --     row-wide          a row is as long as its tuples need
 --     linked            what the code compares is what the rows send and receive
+--     on-at, on-nowhere, on-found   what follows from the answer of a search
 --     even-to, to-even  the tuples by port are those of the two kinds by index
 use mathlib.Core.Path.{_≡_, refl, sym, ap, subst, _∙_}
-use mathlib.Core.Bool.{Bool}
+use mathlib.Core.Bool.{Bool, true, false}
 use mathlib.Core.List.{List}
 use Prim.Native.Nat.{ℕ, _+_, _-_, _≤_, _<_}
 use native.Mathlib.Omega.{arith}
@@ -11,8 +12,9 @@ use lib.ListN.{length}
 use Rattle.lists.specs.Tab.{followedBy, rowAt}
 use Rattle.lists.specs.First.{countBelow}
 use Rattle.lists.proofs.Laws.{length-rowAt}
+use Rattle.lists.proofs.Tests.{true-not-false}
 use Rattle.lists.specs.declared.Place.{Place}
-use Rattle.lists.specs.declared.Place.the-variants.{At}
+use Rattle.lists.specs.declared.Place.the-variants.{At, Nowhere}
 use Rattle.lists.specs.Select.{wordsTest}
 use Rattle.keccak.specs.Tuples.{coreTuple}
 use Rattle.keccak_rnd.specs.Tuples.{roundTuple}
@@ -23,7 +25,7 @@ use Rattle.judge_links.proofs.Walk.{EvenTo}
 use Rattle.judge_tuples.specs.Port.{tupleOf, widthOf}
 use Rattle.judge_tuples.specs.declared.Port.{Port}
 use Rattle.judge_tuples.specs.declared.Port.the-variants.{CoreSend, CoreReceive, RoundReceive, RoundSend}
-use Rattle.judge_links.specs.Even.{hasTuple, Even, Started}
+use Rattle.judge_links.specs.Even.{hasTuple, Even, Started, onPlace}
 
 -- ---- rows by port
 pub row-wide : (s : Port) (w : ℕ) (x ws : List ℕ) (r : ℕ) → widthOf s ≤ w → x ≡ rowAt w ws r → widthOf s ≤ length x
@@ -37,6 +39,41 @@ linked s q t x u y v z h e f g = h ∙ (λ i. wordsTest ((ap (tupleOf s) e ∙ s
 pub started-in : (round : List ℕ) (last : Place) (r : ℕ) → last ≡ At r → Started round last → r < rows roundLayout round
 unfolding Started
 started-in round last r e s = subst (Started round) e s
+
+pub started-at : (round : List ℕ) (last : Place) (r : ℕ) → last ≡ At r → r < rows roundLayout round → Started round last
+unfolding Started
+started-at round last r e l = subst (Started round) (sym e) l
+
+pub started-nowhere : (round : List ℕ) → Started round Nowhere
+unfolding Started
+started-nowhere round = tt
+
+-- ---- the answer of a search
+isAt : Place → Bool
+isAt Nowhere = false
+isAt (At k) = true
+
+module _ {A : Type 0} (f : ℕ → A) (d : A) where
+  pub on-at : {p : Place} {k : ℕ} → p ≡ At k → onPlace f d p ≡ f k
+  unfolding onPlace
+  on-at e = ap (onPlace f d) e
+
+  pub on-nowhere : {p : Place} → p ≡ Nowhere → onPlace f d p ≡ d
+  unfolding onPlace
+  on-nowhere e = ap (onPlace f d) e
+
+  -- where the outcome is not that of a search that found nothing
+  pub on-found : (p : Place) (y : A) → onPlace f d p ≡ y → (d ≡ y → ⊥) → (k : ℕ) × (p ≡ At k) × (f k ≡ y)
+  unfolding onPlace
+  on-found Nowhere y e n = absurd (n e)
+  on-found (At k) y e n = (k, refl, e)
+
+pub not-at : {k : ℕ} → Nowhere ≡ At k → ⊥
+unfolding isAt
+not-at e = true-not-false (sym (ap isAt e))
+
+pub at-same : {k j : ℕ} → At k ≡ At j → k ≡ j
+at-same e = cc
 
 -- ---- the tuples of the two kinds by port
 pub core-sends : (nr : ℕ) (core v : List ℕ) → hasTuple coreLayout (CoreSend nr) core v ≡ activeTupleAt (coreKind nr) 2 core v

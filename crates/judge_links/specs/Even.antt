@@ -1,6 +1,7 @@
 -- What rows send and receive on the Keccak bus of nr rounds, and what is owed in the chain of a core row.
 --     Even       the first rows of both tables send and receive the same tuples, each equally often
---     owedBy     the tuple that the next row of a chain has to receive
+--     owedBy     the tuple that the next row of a chain has to receive; `takesAt`, `endsAt`, whether a row does
+--     onPlace    what follows from the answer of a search
 use mathlib.Core.Path.{_≡_}
 use mathlib.Core.Bool.{Bool, _&&_}
 use mathlib.Core.List.{List}
@@ -34,3 +35,15 @@ owedBy nr core a round (At r) = tupleOf RoundSend (row roundLayout round r)
 unfoldable pub Started : List ℕ → Place → Type 0
 Started round Nowhere = Unit {0}
 Started round (At r) = r < rows roundLayout round
+
+-- whether round row q receives what is owed, and whether core row a receives what round row q sends
+abbrev pub takesAt : ℕ → List ℕ → ℕ → List ℕ → Place → ℕ → Bool
+takesAt nr core a round last q = wordsTest (owedBy nr core a round last) (tupleOf RoundReceive (row roundLayout round q))
+
+abbrev pub endsAt : List ℕ → ℕ → List ℕ → ℕ → Bool
+endsAt core a round q = wordsTest (tupleOf RoundSend (row roundLayout round q)) (tupleOf CoreReceive (row coreLayout core a))
+
+-- f of the place that a search found, or d where it found none
+unfoldable pub onPlace : {A : Type 0} → (ℕ → A) → A → Place → A
+onPlace f d Nowhere = d
+onPlace f d (At k) = f k

@@ -6,17 +6,14 @@ use lists::Place;
 use verdict::Table;
 ghost use mathlib.Core.Path.{_≡_};
 ghost use Prim.Native.Nat.{_<_};
-ghost use Rattle.lists.specs.Select.{wordsTest};
-ghost use Rattle.verdict.specs.Kind.{rows, row};
+ghost use Rattle.verdict.specs.Kind.{rows};
 ghost use Rattle.verdict.specs.CoreAndRound.{coreLayout, roundLayout};
-ghost use Rattle.judge_tuples.specs.Port.{tupleOf};
-ghost use Rattle.judge_tuples.specs.declared.Port.the-variants.{CoreReceive, RoundReceive, RoundSend};
-ghost use Rattle.judge_links.specs.Even.{owedBy, Started};
+ghost use Rattle.judge_links.specs.Even.{takesAt, endsAt, Started};
 
 // Whether round row q receives what is owed: what core row a sent, or what the last row of its chain sent.
 pub fn takes(nr: usize, core: &[u64], a: usize, round: &[u64], last: Place, q: usize) -> bool
     requires { ⌜ (a < rows coreLayout (now core)) × (q < rows roundLayout (now round)) × Started (now round) last ⌝ }
-    ensures { λ r. ⌜ r ≡ wordsTest (owedBy nr (now (core .entry)) a (now (round .entry)) last) (tupleOf RoundReceive (row roundLayout (now (round .entry)) q)) ⌝ }
+    ensures { λ r. ⌜ r ≡ takesAt nr (now (core .entry)) a (now (round .entry)) last q ⌝ }
 {
     let y = row_at(round, Table::Round, q);
     match last {
@@ -34,7 +31,7 @@ pub fn takes(nr: usize, core: &[u64], a: usize, round: &[u64], last: Place, q: u
 // Whether core row a receives what round row q sends.
 pub fn ends(core: &[u64], a: usize, round: &[u64], q: usize) -> bool
     requires { ⌜ (a < rows coreLayout (now core)) × (q < rows roundLayout (now round)) ⌝ }
-    ensures { λ r. ⌜ r ≡ wordsTest (tupleOf RoundSend (row roundLayout (now (round .entry)) q)) (tupleOf CoreReceive (row coreLayout (now (core .entry)) a)) ⌝ }
+    ensures { λ r. ⌜ r ≡ endsAt (now (core .entry)) a (now (round .entry)) q ⌝ }
 {
     let x = row_at(round, Table::Round, q);
     let y = row_at(core, Table::Core, a);

@@ -7,18 +7,16 @@ use keccak_rnd;
 use lists::Place;
 use verdict::Table;
 ghost use mathlib.Core.Path.{_≡_};
-ghost use mathlib.Core.Bool.{true};
-ghost use Prim.Native.Nat.{_+_, _≤_, _<_};
-ghost use Rattle.verdict.specs.Kind.{rows, active};
+ghost use Prim.Native.Nat.{_≤_, _<_};
+ghost use Rattle.verdict.specs.Kind.{rows};
 ghost use Rattle.verdict.specs.CoreAndRound.{coreLayout, roundLayout};
-ghost use Rattle.judge_links.specs.Even.{Even};
-ghost use Rattle.judge_walk.specs.Reach.{Reaches};
+ghost use Rattle.judge_walk.specs.Walk.{chainFrom, activeFrom, walked};
 
 // The round row after the chain of core row a that begins at row b: each active row receives what the one before it
 // sent, the first what the core row sent, and the core row receives what the last one sent.
 fn chain(nr: usize, core: &[u64], a: usize, round: &[u64], b: usize) -> Place
-    requires { ⌜ (a < rows coreLayout (now core)) × (active coreLayout (now core) a ≡ true) × (b ≤ rows roundLayout (now round)) ⌝ }
-    ensures { λ r. ⌜ Reaches nr (now (core .entry)) a (now (round .entry)) b r ⌝ }
+    requires { ⌜ (a < rows coreLayout (now core)) × (b ≤ rows roundLayout (now round)) ⌝ }
+    ensures { λ r. ⌜ r ≡ chainFrom nr (now (core .entry)) a (now (round .entry)) b ⌝ }
 {
     let rows = round.len() / keccak_rnd::NUM_COLUMNS;
     let mut last = Place::Nowhere;
@@ -40,9 +38,9 @@ fn chain(nr: usize, core: &[u64], a: usize, round: &[u64], b: usize) -> Place
 }
 
 // The first round row from b on that is active, or the end.
-fn skipped(nr: usize, core: &[u64], a: usize, round: &[u64], b: usize) -> usize
-    requires { ⌜ (b ≤ rows roundLayout (now round)) × Even nr (now core) (now round) a b ⌝ }
-    ensures { λ r. ⌜ (r ≤ rows roundLayout (now (round .entry))) × Even nr (now (core .entry)) (now (round .entry)) a r ⌝ }
+fn active_from(round: &[u64], b: usize) -> usize
+    requires { ⌜ b ≤ rows roundLayout (now round) ⌝ }
+    ensures { λ r. ⌜ r ≡ activeFrom (now (round .entry)) b ⌝ }
 {
     let rows = round.len() / keccak_rnd::NUM_COLUMNS;
     let mut q = b;
@@ -63,8 +61,7 @@ pub struct Walked {
 
 // The walk stops at the first core row that has no chain where it should begin.
 pub fn walk(nr: usize, core: &[u64], round: &[u64]) -> Walked
-    ensures ends { λ r. ⌜ (r .core ≤ rows coreLayout (now (core .entry))) × (r .round ≤ rows roundLayout (now (round .entry))) ⌝ }
-    ensures even { λ r. ⌜ Even nr (now (core .entry)) (now (round .entry)) (r .core) (r .round) ⌝ }
+    ensures { λ r. ⌜ r ≡ walked nr (now (core .entry)) (now (round .entry)) ⌝ }
 {
     let rows = core.len() / keccak::NUM_COLUMNS;
     let mut a = 0;
@@ -84,6 +81,6 @@ pub fn walk(nr: usize, core: &[u64], round: &[u64]) -> Walked
     }
     Walked {
         core: a,
-        round: skipped(nr, core, a, round, b),
+        round: active_from(round, b),
     }
 }

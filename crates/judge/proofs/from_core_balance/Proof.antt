@@ -8,6 +8,8 @@ use Rattle.verdict.proofs.Stages.{passes, answers}
 use Rattle.judge_scan.specs.Tables.{kindOf, layoutOf}
 use Rattle.judge_scan.proofs.Scan.{spot-at, spot-nowhere}
 use Rattle.chains.proofs.Balance.{chained-balanced}
+use Rattle.judge_chains.proofs.Chained.{every-chained}
+use Rattle.judge_walk.proofs.Owing.{walked-even}
 use Rattle.judge.proofs.from_core_balance.Statement.{statement}
 use Rattle.judge.proofs.from_core_balance.Tie as tie
 
@@ -20,14 +22,14 @@ active-rows-requires c κs = search needs
 returns : tie.Need-returns
 unfolding fromCoreBalance fromRoundBalance layoutOf
 returns c =
-    let b = chained-balanced _ (c .before .before .before .before .before .pre .0) _ _ (c .before .before .before .before .before .pre .1) (c .before .before .every-chain .ensures (c .before .if1 .taken)) in
+    let b = chained-balanced _ (c .before .before .before .before .before .pre .0) _ _ (c .before .before .before .before .before .pre .1) (every-chained _ _ _ (sym (c .before .before .every-chain .ensures) ∙ c .before .if1 .taken)) in
     ap Holds (c .active-rows .ensures) ∙ sym (passes _ _ _ (balanced-scan _ _ _ _ _ _ b) ∙ passes _ _ _ (balanced-scan _ _ _ _ _ _ b))
 
 walk-requires : tie.Need-walk-requires
 walk-requires c κs = search needs
 
 first-unbalanced-requires : tie.Need-first-unbalanced-requires
-first-unbalanced-requires c κs = search needs
+first-unbalanced-requires c κs = walked-even _ _ _ _ (c .walk .ensures)
 
 enum-known-row : tie.Need-enum-known-row
 enum-known-row c = search needs
@@ -40,7 +42,7 @@ enum-told : tie.Need-enum-told
 enum-told c = search needs
 
 from-round-balance-requires : tie.Need-from-round-balance-requires
-from-round-balance-requires c κs = search needs
+from-round-balance-requires c κs = walked-even _ _ _ _ (c .before .before .before .walk .ensures)
 
 returns-3 : tie.Need-returns-3
 unfolding fromCoreBalance kindOf

@@ -2,34 +2,34 @@
 use mathlib.Core.Path.{sym, _∙_}
 use native.Mathlib.Omega.{arith}
 use borrow.Author.Needs.{needs}
-use Rattle.chains.proofs.Found.{found-nowhere, found-at, found-is}
-use Rattle.judge_chains.proofs.Search.{last-in, ends-chain}
+use Rattle.judge_chains.proofs.Turns.{end-none, end-at, end-not}
+use Rattle.judge_chains.proofs.Chained.{rows-in}
 use Rattle.judge_chains.proofs.chain_end.Statement.{statement}
 use Rattle.judge_chains.proofs.chain_end.Tie as tie
 
 chain-rows-requires : tie.Need-chain-rows-requires
-chain-rows-requires c κs = search needs
+chain-rows-requires c κs = c .before .before .pre
 
 enum-known-r : tie.Need-enum-known-r
 enum-known-r c = search needs
 
 ends-requires : tie.Need-ends-requires
-ends-requires c κs = (c .before .before .before .before .before .before .pre .0, last-in _ _ _ _ _ (found-is _ _ _ (c .before .r .given .1) (c .before .before .before .chain-rows .ensures)))
+ends-requires c κs = (c .before .before .before .before .before .before .pre .0, rows-in _ _ _ _ _ _ _ (c .before .before .before .chain-rows .ensures) (c .before .r .given .1))
 
-add-t9 : tie.Need-add-t9
-add-t9 c = omega (arith, last-in _ _ _ _ _ (found-is _ _ _ (c .before .before .before .r .given .1) (c .before .before .before .before .before .chain-rows .ensures)))
+add-next : tie.Need-add-next
+add-next c = omega (arith, rows-in _ _ _ _ _ _ _ (c .before .before .before .before .before .chain-rows .ensures) (c .before .before .before .r .given .1))
 
 returns : tie.Need-returns
-returns c = found-at _ _ (ends-chain _ _ _ _ _ (found-is _ _ _ (c .before .before .before .r .given .1) (c .before .before .before .before .before .chain-rows .ensures)) (sym (c .before .ends .ensures) ∙ c .if1 .taken))
+returns c = end-at _ _ _ _ _ _ (c .before .before .before .before .before .chain-rows .ensures) _ (c .before .before .before .r .given .1) (sym (c .before .ends .ensures) ∙ c .if1 .taken)
 
 enum-told : tie.Need-enum-told
 enum-told c = search needs
 
 returns-2 : tie.Need-returns-2
-returns-2 c = found-nowhere _
+returns-2 c = end-not _ _ _ _ _ _ (c .before .before .before .before .before .chain-rows .ensures) _ (c .before .before .before .r .given .1) (sym (c .before .ends .ensures) ∙ c .if1 .left)
 
 returns-3 : tie.Need-returns-3
-returns-3 c = found-nowhere _
+returns-3 c = end-none _ _ _ _ _ _ (c .before .before .chain-rows .ensures) (c .enum-told .given .1)
 
 pub chain-end-spec : {M : Type 1} → statement M
 chain-end-spec =
@@ -38,7 +38,7 @@ chain-end-spec =
     chain-rows-requires
     enum-known-r
     ends-requires
-    add-t9
+    add-next
     returns
     enum-told
     returns-2

@@ -1,9 +1,9 @@
--- `judge_next::around` meets its contract: below twice n one subtraction is the remainder.
+-- `judge_chains::around` meets its contract: below twice n one subtraction is the remainder.
 use mathlib.Core.Path.{sym}
 use native.Mathlib.Nat.{mod-eq-of-lt}
-use Rattle.judge_next.proofs.Next.{rest-of}
-use Rattle.judge_next.proofs.around.Statement.{statement}
-use Rattle.judge_next.proofs.around.Tie as tie
+use Rattle.judge_chains.proofs.Next.{rest-of}
+use Rattle.judge_chains.proofs.around.Statement.{statement}
+use Rattle.judge_chains.proofs.around.Tie as tie
 
 returns : tie.Need-returns
 returns c = sym (mod-eq-of-lt (c .if1 .taken))
