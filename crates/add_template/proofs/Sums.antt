@@ -1,4 +1,4 @@
--- The words of an operand by its kind. Assumes nothing.
+-- The words of an operand by its kind.
 use mathlib.Core.Path.{_≡_, sym, ap, subst, _∙_}
 use mathlib.Core.List.{List}
 use Prim.Native.Nat.{ℕ, _+_, _<_}

@@ -1,5 +1,5 @@
 -- What an operand asks of a row: the columns that it names are there, and those that are read as they stand are below
--- p. Assumes nothing.
+-- p.
 use Prim.Native.Nat.{ℕ, _+_, _<_}
 use mathlib.Core.List.{List}
 use lib.ListN.{length}

@@ -1,4 +1,4 @@
--- `add_term` meets its contract: one term more. Assumes nothing.
+-- `add_term` meets its contract: one term more.
 use mathlib.Core.Path.{ap, _∙_}
 use native.Mathlib.Omega.{arith}
 use borrow.Author.Needs.{needs}
