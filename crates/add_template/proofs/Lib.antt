@@ -1,1 +1,4 @@
-pub mod Values
+pub mod Signed
+pub mod Sums
+pub mod Conditions
+pub mod Within

@@ -1,9 +1,9 @@
 -- The words of the keys by their place in the flat list.
 use Prim.Native.Nat.{ℕ, _+_, _*_, _/_, _%_, _<_}
-use mathlib.Core.Path.{_≡_}
+use mathlib.Core.Path.{_≡_, _∙_}
 use native.Mathlib.Omega.{arith}
-use lib.ListN.{length}
-use Rattle.lists.proofs.Laws.{length-tab}
+use lib.ListN.{length, getD}
+use Rattle.lists.proofs.Laws.{length-tab, getD-tab}
 use Rattle.lists.proofs.Then.{at-two, at-three}
 use Rattle.is_wh.specs.Key.{of-dword}
 use Rattle.keccak.specs.Row.{is-wh-key, is-wh-keys, keyWord, keyWords, pointerKey}
@@ -30,3 +30,18 @@ operation-key op i j h =
 pub length-keys : (n : ℕ) (op : ℕ → KeccakOperation) → length (keyWords n op) ≡ n * 50
 unfolding keyWords
 length-keys n op = length-tab (n * 50) (λ k. keyWord (is-wh-keys op (k / 2)) (k % 2))
+
+-- of each key the word comes first, then the half
+pub word-first : (n : ℕ) (op : ℕ → KeccakOperation) (k : ℕ) → k < n * 25 → getD (keyWords n op) (2 * k) 0 ≡ is-wh-keys op k .word
+unfolding keyWords
+word-first n op k h =
+    let q : 2 * k / 2 ≡ k = omega arith in
+    let r : 2 * k % 2 ≡ 0 = omega arith in
+    getD-tab (n * 50) _ (2 * k) 0 (omega arith) ∙ at-two (λ (x y : ℕ). keyWord (is-wh-keys op x) y) q r
+
+pub half-second : (n : ℕ) (op : ℕ → KeccakOperation) (k : ℕ) → k < n * 25 → getD (keyWords n op) (2 * k + 1) 0 ≡ is-wh-keys op k .half
+unfolding keyWords
+half-second n op k h =
+    let q : (2 * k + 1) / 2 ≡ k = omega arith in
+    let r : (2 * k + 1) % 2 ≡ 1 = omega arith in
+    getD-tab (n * 50) _ (2 * k + 1) 0 (omega arith) ∙ at-two (λ (x y : ℕ). keyWord (is-wh-keys op x) y) q r

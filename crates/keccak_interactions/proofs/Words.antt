@@ -8,10 +8,7 @@ use Rattle.lists.specs.Sum.{sumBelow}
 use Rattle.lookup.specs.Words.{tupleWords, tuplesWords}
 use Rattle.lookup.proofs.Words.{tuples-length, words-same, words-then}
 use Rattle.keccak.specs.Tuples.{NUM-TUPLES, pointerTuple, coreTuple}
-use Rattle.keccak_lookup_tuples.proofs.Tuples.{align-length, bytes-length}
-use Rattle.keccak_memw_tuples.proofs.Tuples.{addr-length, lane-length}
-use Rattle.keccak_state_tuples.proofs.Tuples.{sent-length, received-length}
-use Rattle.keccak_tuples.proofs.Tuples.{ecall-length}
+use Rattle.keccak.proofs.Tuples.{ecall-length, addr-length, sent-length, received-length, align-length, bytes-length, lane-length}
 use Rattle.keccak_interactions.specs.Words.{NUM-WORDS}
 
 -- the 50 tuples of the pointers, two values and one by turns

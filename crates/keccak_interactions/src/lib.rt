@@ -1,9 +1,9 @@
 // tables/keccak.rs, bus_interactions: the 84 tuples of a core row, all at once.
 use answer::Answer;
-use evaluation::check_values;
 use keccak::NUM_COLUMNS;
-use keccak_tuples::NUM_TUPLES;
+use keccak::NUM_TUPLES;
 use keccak_tuples::row_tuple;
+use lookup::check::check_values;
 use lookup::header::put_header;
 ghost use mathlib.Core.Path.{_≡_};
 ghost use Prim.Native.Nat.{_+_, _<_, _≤_};
@@ -11,7 +11,7 @@ ghost use lib.ListN.{length};
 ghost use lib.Seq.{sets};
 ghost use Rattle.field.specs.Elements.{ElementRow};
 ghost use Rattle.lookup.specs.Words.{tupleWords, tuplesWords};
-ghost use Rattle.evaluation.specs.Call.{valuesAnswer};
+ghost use Rattle.lookup.specs.Values.{valuesAnswer};
 ghost use Rattle.keccak.specs.Columns.{NUM-COLUMNS};
 ghost use Rattle.keccak.specs.Tuples.{NUM-TUPLES, coreTuple};
 ghost use Rattle.keccak_interactions.specs.Words.{NUM-WORDS, coreTuplesAfter};

@@ -13,8 +13,7 @@ use Rattle.lookup.specs.declared.Bus.the-variants.{ByteAlu, IsWh, IsHalfword, K
 use Rattle.keccak.specs.Columns.{MU}
 use Rattle.keccak.specs.Tuples.{ecallTuple, addrMemw, coreSent, coreReceived, pointerTuple, alignTuple, addrBytesTuple, laneMemw, coreTuple}
 use Rattle.keccak.proofs.Places.{tuples-from}
-use Rattle.keccak_lookup_tuples.proofs.Tuples.{pointer-pair, pointer-low}
-use Rattle.keccak_tuples.proofs.Tuples.{is-ecall, is-addr, is-sent, is-received}
+use Rattle.keccak.proofs.Tuples.{is-ecall, is-addr, is-sent, is-received, pointer-pair, pointer-low}
 use Rattle.residue.specs.Residue.{residueOn, residue, residues, Marked}
 use Rattle.residue.proofs.Residue.{free}
 use Rattle.residue.proofs.Stored.{stored-then, stored-rest, marked}

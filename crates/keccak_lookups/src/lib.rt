@@ -2,7 +2,11 @@
 // or has one.
 use bits::put_zeros;
 use keccak::ADDR;
+use keccak::ADDR_TUPLES;
+use keccak::ALIGN_TUPLE;
+use keccak::LANE_TUPLES;
 use keccak::MU;
+use keccak::POINTER_TUPLES;
 use keccak::STATE_PTR;
 use residue::and_residue;
 use residue::bytes_residue;
@@ -27,8 +31,8 @@ fn put_pointers(row: &[u64], out: &mut [u64])
         let at = STATE_PTR + 3 * i;
         let pair = is_wh_residue(row[MU], row[at + 2], row[at + 1]);
         let low = half_residue(row[MU], row[at]);
-        out[4 + 2 * i] = pair;
-        out[4 + (2 * i + 1)] = low;
+        out[POINTER_TUPLES + 2 * i] = pair;
+        out[POINTER_TUPLES + (2 * i + 1)] = low;
         i += 1;
     }
 }
@@ -38,7 +42,7 @@ fn put_align(row: &[u64], out: &mut [u64])
     requires { ⌜ (NUM-COLUMNS ≤ length (now row)) × (55 ≤ length (now out)) ⌝ }
     ensures { λ _. ⌜ now (out .exit) ≡ sets (now (out .entry)) 54 (tab 1 (residues (λ i. alignTuple (now (row .entry))))) ⌝ }
 {
-    out[54] = and_residue(row[MU], row[ADDR], 7, 0);
+    out[ALIGN_TUPLE] = and_residue(row[MU], row[ADDR], 7, 0);
 }
 
 // The four pairs of the address's bytes.
@@ -48,7 +52,7 @@ fn put_address(row: &[u64], out: &mut [u64])
 {
     let mut i: usize = 0;
     while i < 4 {
-        out[55 + i] = bytes_residue(row[MU], row[ADDR + 2 * i], row[ADDR + (2 * i + 1)]);
+        out[ADDR_TUPLES + i] = bytes_residue(row[MU], row[ADDR + 2 * i], row[ADDR + (2 * i + 1)]);
         i += 1;
     }
 }
@@ -59,9 +63,9 @@ pub fn put_core_lookups(row: &[u64], out: &mut [u64])
     requires { ⌜ (NUM-COLUMNS ≤ length (now row)) × (NUM-TUPLES ≤ length (now out)) ⌝ }
     ensures { λ _. ⌜ ((nr : ℕ) → Marked NUM-TUPLES (coreTuple nr 0 (now (row .entry))) (now (out .entry)) (now (out .exit))) ⌝ }
 {
-    put_zeros(out, 0, 4);
+    put_zeros(out, 0, POINTER_TUPLES);
     put_pointers(row, out);
     put_align(row, out);
     put_address(row, out);
-    put_zeros(out, 59, 25);
+    put_zeros(out, LANE_TUPLES, 25);
 }

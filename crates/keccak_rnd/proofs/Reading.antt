@@ -22,7 +22,8 @@ use Rattle.templates.specs.Templates.{isBit}
 use Rattle.lookup.specs.Tuple.{sender, receiver}
 use Rattle.lookup.specs.declared.Bus.the-variants.{ByteAlu, KeccakRc, Keccak}
 use Rattle.lookup.specs.Call.{RestNotRead}
-use Rattle.lookup.proofs.Reading.{long-enough, tuple-rest}
+use Rattle.lookup.proofs.Values.{long-enough}
+use Rattle.lookup.proofs.Reading.{tuple-rest}
 use Rattle.keccak.specs.Height.{MIN-ROWS}
 use Rattle.keccak.specs.Row.{OP-WORDS, LAST-ADDRESS, opAt}
 use Rattle.keccak.specs.Refusals.{opCount, addressAt, highAt, operationsRefusal}

@@ -1,6 +1,5 @@
 // tables/keccak_rnd.rs, bus_interactions: the 1,031 tuples of a round row, all at once.
 use answer::Answer;
-use evaluation::check_values;
 use keccak_rnd::NUM_COLUMNS;
 use keccak_rnd_lane_words::put_ands;
 use keccak_rnd_lane_words::put_chi;
@@ -12,6 +11,7 @@ use keccak_rnd_parity_words::put_left;
 use keccak_rnd_parity_words::put_parity;
 use keccak_rnd_parity_words::put_stages;
 use keccak_rnd_tuples::row_tuple;
+use lookup::check::check_values;
 use lookup::header::put_header;
 use round_groups::put_not_pi;
 use round_groups::put_pi;
@@ -21,7 +21,7 @@ ghost use lib.ListN.{length};
 ghost use lib.Seq.{sets};
 ghost use Rattle.field.specs.Elements.{ElementRow};
 ghost use Rattle.lookup.specs.Words.{tupleWords, tuplesWords};
-ghost use Rattle.evaluation.specs.Call.{valuesAnswer};
+ghost use Rattle.lookup.specs.Values.{valuesAnswer};
 ghost use Rattle.keccak_rnd.specs.Columns.{NUM-COLUMNS};
 ghost use Rattle.keccak_rnd.specs.Tuples.{NUM-TUPLES, roundTuple};
 ghost use Rattle.round_groups.specs.Parts.{chiPart, thetaPart, parityPart};

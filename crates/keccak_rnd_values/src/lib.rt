@@ -1,12 +1,12 @@
 // tables/keccak_rnd.rs, eval: the 141 values of a round row.
 use add_template::is_bit;
 use answer::Answer;
-use evaluation::check_values;
 use groups::put_carry_values;
 use groups::put_rho_values;
 use groups::put_theta_values;
 use keccak_rnd::MU;
 use keccak_rnd::NUM_COLUMNS;
+use lookup::check::check_values;
 use round_value::element;
 ghost use mathlib.Core.Path.{_≡_};
 ghost use Prim.Native.Nat.{_≤_};
@@ -14,7 +14,7 @@ ghost use lib.ListN.{length};
 ghost use lib.Seq.{sets};
 ghost use Rattle.lists.specs.Tab.{tab};
 ghost use Rattle.field.specs.Elements.{ElementRow};
-ghost use Rattle.evaluation.specs.Call.{valuesAnswer, valuesAfter};
+ghost use Rattle.lookup.specs.Values.{valuesAnswer, valuesAfter};
 ghost use Rattle.keccak_rnd.specs.Columns.{NUM-COLUMNS};
 ghost use Rattle.keccak_rnd.specs.Values.{NUM-VALUES, roundValue};
 

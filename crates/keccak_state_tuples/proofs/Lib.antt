@@ -1,2 +1,3 @@
 pub mod Tuples
 pub mod Parts
+pub mod Accesses

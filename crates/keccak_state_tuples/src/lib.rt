@@ -1,7 +1,10 @@
-// The Keccak tuples of a core row: timestamp, round and the 200 words of a state, x outermost.
+// tables/keccak.rs, bus_interactions: the tuples of a core row that carry the state: here those on the Keccak bus, which
+// are timestamp, round and the 200 words of a state, x outermost; in `memw` those of the memory.
 use keccak::INPUT_STATE;
 use keccak::MU;
 use keccak::OUTPUT_STATE;
+use keccak::TIMESTAMP_0;
+use keccak::TIMESTAMP_1;
 use lists::put_part;
 use lookup::Bus;
 use lookup::BusInteraction;
@@ -18,6 +21,8 @@ ghost use Rattle.lookup.specs.declared.Bus.the-variants.{Keccak};
 ghost use Rattle.keccak.specs.Columns.{NUM-COLUMNS, MU, byXYB, laneColumn};
 ghost use Rattle.keccak.specs.Tuples.{keccakValues, coreSent, coreReceived};
 ghost use Rattle.keccak_state_tuples.specs.Parts.{sheetWord};
+
+pub mod memw;
 
 // The five lanes of a column x of the state.
 fn put_sheet(out: &mut [u64], at: usize, row: &[u64], base: usize, x: usize)
@@ -48,8 +53,8 @@ fn put_keccak_values(out: &mut [u64], row: &[u64], round: u64, base: usize)
     requires { ⌜ (203 ≤ length (now out)) × (2 ≤ length (now row)) × (base + 200 ≤ length (now row)) ⌝ }
     ensures { λ _. ⌜ now (out .exit) ≡ overwrite (keccakValues (word (now (row .entry)) 0) (word (now (row .entry)) 1) round (λ x y b. word (now (row .entry)) (laneColumn base x y b))) (now (out .entry)) ⌝ }
 {
-    out[0] = row[0];
-    out[1] = row[1];
+    out[0] = row[TIMESTAMP_0];
+    out[1] = row[TIMESTAMP_1];
     out[2] = round;
     put_state(out, 3, row, base);
 }

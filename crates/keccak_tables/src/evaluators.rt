@@ -5,7 +5,7 @@ use flat::flat_answer;
 use flat::flat_tuple;
 ghost use mathlib.Core.Path.{_≡_};
 ghost use Rattle.lookup.specs.Call.{tupleAnswerOf, tupleAfter};
-ghost use Rattle.evaluation.specs.Call.{valuesAnswer, valuesAfter};
+ghost use Rattle.lookup.specs.Values.{valuesAnswer, valuesAfter};
 ghost use Rattle.keccak.specs.Columns as core;
 ghost use Rattle.keccak.specs.Values.{coreValue};
 ghost use Rattle.keccak.specs.Values as core-values;

@@ -1,14 +1,21 @@
 // tables/keccak.rs, bus_interactions: the 84 tuples of a core row, by index.
+use address::addr_bytes_tuple;
+use address::align_tuple;
+use address::pointer_tuple;
 use answer::Answer;
+use keccak::ADDR_TUPLES;
+use keccak::ALIGN_TUPLE;
+use keccak::LANE_TUPLES;
 use keccak::MU;
 use keccak::NUM_COLUMNS;
-use keccak_lookup_tuples::addr_bytes_tuple;
-use keccak_lookup_tuples::align_tuple;
-use keccak_lookup_tuples::pointer_tuple;
-use keccak_memw_tuples::addr_memw;
-use keccak_memw_tuples::lane_memw;
+use keccak::NUM_TUPLES;
+use keccak::POINTER_TUPLES;
+use keccak::TIMESTAMP_0;
+use keccak::TIMESTAMP_1;
 use keccak_state_tuples::keccak_received;
 use keccak_state_tuples::keccak_sent;
+use keccak_state_tuples::memw::addr_memw;
+use keccak_state_tuples::memw::lane_memw;
 use lookup::Bus;
 use lookup::BusInteraction;
 use lookup::Side;
@@ -24,7 +31,7 @@ ghost use Rattle.lookup.specs.Call.{interactionOf, tupleAnswerOf, tupleAfter};
 ghost use Rattle.keccak.specs.Columns.{NUM-COLUMNS};
 ghost use Rattle.keccak.specs.Tuples.{NUM-TUPLES, ecallTuple, coreTuple};
 
-pub const NUM_TUPLES: usize = 84;
+pub mod address;
 
 // 0: the call itself, received.
 fn ecall_tuple(row: &[u64], syscall: u64, out: &mut [u64]) -> BusInteraction
@@ -32,8 +39,8 @@ fn ecall_tuple(row: &[u64], syscall: u64, out: &mut [u64]) -> BusInteraction
     ensures answer { λ r. ⌜ r ≡ interactionOf (ecallTuple syscall (now (row .entry))) ⌝ }
     ensures words { λ _. ⌜ now (out .exit) ≡ overwrite (ecallTuple syscall (now (row .entry)) .values) (now (out .entry)) ⌝ }
 {
-    out[0] = row[0];
-    out[1] = row[1];
+    out[0] = row[TIMESTAMP_0];
+    out[1] = row[TIMESTAMP_1];
     out[2] = syscall % 4294967296;
     out[3] = syscall / 4294967296;
     BusInteraction {
@@ -68,13 +75,13 @@ fn tail_tuple(row: &[u64], index: usize, syscall: u64, out: &mut [u64]) -> BusIn
     ensures answer { λ r. ⌜ r ≡ interactionOf (coreTuple 24 syscall (now (row .entry)) index) ⌝ }
     ensures words { λ _. ⌜ now (out .exit) ≡ overwrite (coreTuple 24 syscall (now (row .entry)) index .values) (now (out .entry)) ⌝ }
 {
-    if index == 54 {
+    if index == ALIGN_TUPLE {
         return align_tuple(row, out);
     }
-    if index < 59 {
-        return addr_bytes_tuple(row, index - 55, out);
+    if index < LANE_TUPLES {
+        return addr_bytes_tuple(row, index - ADDR_TUPLES, out);
     }
-    lane_memw(row, index - 59, out)
+    lane_memw(row, index - LANE_TUPLES, out)
 }
 
 // Tuple `index` of a row that the checks passed.
@@ -83,11 +90,12 @@ pub fn row_tuple(row: &[u64], index: usize, syscall: u64, out: &mut [u64]) -> Bu
     ensures answer { λ r. ⌜ r ≡ interactionOf (coreTuple 24 syscall (now (row .entry)) index) ⌝ }
     ensures words { λ _. ⌜ now (out .exit) ≡ overwrite (coreTuple 24 syscall (now (row .entry)) index .values) (now (out .entry)) ⌝ }
 {
-    if index < 4 {
+    if index < POINTER_TUPLES {
         return head_tuple(row, index, syscall, out);
     }
-    if index < 54 {
-        return pointer_tuple(row, (index - 4) / 2, (index - 4) % 2, out);
+    if index < ALIGN_TUPLE {
+        let k = index - POINTER_TUPLES;
+        return pointer_tuple(row, k / 2, k % 2, out);
     }
     tail_tuple(row, index, syscall, out)
 }
@@ -107,16 +115,16 @@ fn head_length(index: usize) -> usize
 fn tuple_length(index: usize) -> usize
     ensures { λ r. ⌜ ((syscall : ℕ) (row : List ℕ) → r ≡ length (coreTuple 24 syscall row index .values)) ⌝ }
 {
-    if index < 4 {
+    if index < POINTER_TUPLES {
         return head_length(index);
     }
-    if index < 54 {
-        return 2 - (index - 4) % 2;
+    if index < ALIGN_TUPLE {
+        return 2 - (index - POINTER_TUPLES) % 2;
     }
-    if index == 54 {
+    if index == ALIGN_TUPLE {
         return 4;
     }
-    if index < 59 { 2 } else { 24 }
+    if index < LANE_TUPLES { 2 } else { 24 }
 }
 
 // Tuple `index` of a core row: its values go into `out`. The syscall number is handed over.

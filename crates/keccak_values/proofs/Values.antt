@@ -1,95 +1,49 @@
--- The values of a core row by the carries of its lanes, where its words are below p.
-use mathlib.Core.Path.{_≡_, refl, sym, ap, ap₂, _∙_}
-use mathlib.Core.List.{List}
+-- The values of a core row by the operands of ADD.
+use mathlib.Core.Path.{_≡_, sym, ap, ap₂, _∙_}
+use mathlib.Core.List.{List, [], _∷_}
 use Prim.Native.Nat.{ℕ, _+_, _*_, _/_, _%_, _<_}
-use native.Mathlib.Nat.{mod-eq-of-lt, zero-add, add-zero, mul-one}
+use native.Mathlib.Nat.{add-zero}
 use native.Mathlib.Omega.{arith}
 use lib.IntN.{pos}
-use Rattle.lists.specs.Tab.{word, tab}
 use lib.ListN.{set}
 use lib.Seq.{sets}
+use mir.Syntax.{w64}
+use mir.Val.{toZ}
+use mir.ValLaws.{toZ-pos}
+use Rattle.lists.specs.Tab.{word, tab}
 use Rattle.lists.proofs.Laws.{sets-more}
 use Rattle.lists.proofs.Then.{then-lt, then-past, at-two}
-use Rattle.field.specs.Field.{p, fadd, fsub, fmul, INV-SHIFT-32}
-use Rattle.field.proofs.Field.{mod-p}
-use Rattle.templates.specs.Templates.{constant, from-dword-bl, from-dword-whh, carry0, add-pair-carry-hi, emit-add-pair, add-terms-expr, add-operand-lo, add-operand-hi, isBit, isBitIf}
-use Rattle.templates.proofs.Operand.{constant-lo, constant-hi, whh-hi}
-use Rattle.keccak.specs.Columns.{ADDR, MU, addr, state-ptr}
-use Rattle.keccak.specs.Values.{pointerValue, topValue, coreValue, wordOfBytes, wordOfHalves}
-use Rattle.keccak_carries.specs.Carries.{lowCarry, highCarry}
-
--- a first term whose coefficient is 1, and a term that is not used
-from-zero : (w : ℕ) → w < p → fadd 0 w ≡ w
-from-zero w h = ap (λ (x : ℕ). x % p) (zero-add w) ∙ mod-eq-of-lt h
-
-first-term : (w : ℕ) → w < p → fadd 0 (fmul w 1) ≡ w
-first-term w h = ap (λ (x : ℕ). fadd 0 (x % p)) (mul-one w) ∙ ap (fadd 0) (mod-eq-of-lt h) ∙ from-zero w h
-
-no-term : (w : ℕ) → w < p → fadd w 0 ≡ w
-no-term w h = ap (λ (x : ℕ). x % p) (add-zero w) ∙ mod-eq-of-lt h
+use Rattle.field.specs.Field.{p, fmul}
+use Rattle.templates.specs.declared.AddOperand.{AddOperand}
+use Rattle.templates.specs.Templates.{constant, from-dword-bl, from-dword-whh, add-pair-carry-hi, emit-add-pair, isBit}
+use Rattle.keccak.specs.Columns.{ADDR, MU, state-ptr}
+use Rattle.keccak.specs.Values.{pointerValue, topValue, coreValue}
+use Rattle.keccak.proofs.Operands.{top-is}
 
 module _ (row : List ℕ) where
-  bytes-lo : word row 2 < p → add-operand-lo row (from-dword-bl ADDR) ≡ wordOfBytes row ADDR
-  unfolding add-terms-expr
-  bytes-lo h = ap (λ (x : ℕ). fadd (fadd (fadd x (fmul (word row 3) 256)) (fmul (word row 4) 65536)) (fmul (word row 5) 16777216)) (first-term (word row 2) h)
+  -- the two values of a lane, by its operands; the offset was cast to a signed number
+  lane-value : (i j : ℕ) {addr offset pointer : AddOperand} → i < 25 → j < 2 → addr ≡ from-dword-bl ADDR → offset ≡ constant (toZ w64 (i * 8)) → pointer ≡ from-dword-whh (410 + i * 3)
+      → emit-add-pair row (MU ∷ []) addr offset pointer j ≡ coreValue row (2 * i + j)
+  unfolding coreValue pointerValue
+  lane-value i j hi hj a o s =
+      let q : (2 * i + j) / 2 ≡ i = omega arith in
+      let r : (2 * i + j) % 2 ≡ j = omega arith in
+      let z : toZ w64 (i * 8) ≡ pos (i * 8) = toZ-pos w64 (i * 8) (omega arith) in
+      let k : 410 + i * 3 ≡ state-ptr i 0 = omega arith in
+      (λ t. emit-add-pair row (MU ∷ []) (a t) ((o ∙ ap constant z) t) ((s ∙ ap from-dword-whh k) t) j)
+      ∙ sym (at-two (pointerValue row) q r)
+      ∙ sym (then-lt 50 (2 * i + j) _ _ (omega arith))
 
-  bytes-hi : word row 6 < p → add-operand-hi row (from-dword-bl ADDR) ≡ wordOfBytes row (addr 4)
-  unfolding add-terms-expr
-  bytes-hi h = ap (λ (x : ℕ). fadd (fadd (fadd x (fmul (word row 7) 256)) (fmul (word row 8) 65536)) (fmul (word row 9) 16777216)) (first-term (word row 6) h)
+  pub lane-values : (i : ℕ) {addr offset pointer : AddOperand} {low high : ℕ} → i < 25 → addr ≡ from-dword-bl ADDR → offset ≡ constant (toZ w64 (i * 8)) → pointer ≡ from-dword-whh (410 + i * 3)
+      → low ≡ emit-add-pair row (MU ∷ []) addr offset pointer 0 → high ≡ emit-add-pair row (MU ∷ []) addr offset pointer 1
+      → (low ≡ coreValue row (2 * i)) × (high ≡ coreValue row (2 * i + 1))
+  lane-values i h a o s l m =
+      (l ∙ lane-value i 0 h (omega arith) a o s ∙ ap (coreValue row) (add-zero (2 * i)), m ∙ lane-value i 1 h (omega arith) a o s)
 
-  module _ (k : ℕ) where
-    halves-lo : word row k < p → add-operand-lo row (from-dword-whh k) ≡ wordOfHalves row k
-    unfolding add-terms-expr
-    halves-lo h =
-        ap (λ (x : ℕ). fadd (fadd (fadd x (fmul (word row (k + 1)) 65536)) 0) 0) (first-term (word row k) h)
-        ∙ ap (λ (x : ℕ). fadd x 0) (no-term (wordOfHalves row k) (mod-p _))
-        ∙ no-term (wordOfHalves row k) (mod-p _)
-
-  module _ (below : (k : ℕ) → k < 486 → word row k < p) where
-    low-is : (i : ℕ) → i < 25 → carry0 row (from-dword-bl ADDR) (constant (pos (i * 8))) (from-dword-whh (state-ptr i 0)) ≡ lowCarry row i
-    unfolding carry0 lowCarry
-    low-is i h =
-        ap₂ (λ (a b : ℕ). fmul (fsub a b) INV-SHIFT-32)
-        (ap₂ fadd (bytes-lo (below 2 (omega arith))) (constant-lo row (i * 8) (small i h) ∙ turn i))
-        (halves-lo (state-ptr i 0) (below (state-ptr i 0) (omega arith)))
-      where
-        small : (i : ℕ) → i < 25 → i * 8 < p
-        small i h = omega arith
-
-        turn : (i : ℕ) → i * 8 ≡ 8 * i
-        turn i = omega arith
-
-    high-is : (i : ℕ) → i < 25 → add-pair-carry-hi row (from-dword-bl ADDR) (constant (pos (i * 8))) (from-dword-whh (state-ptr i 0)) ≡ highCarry row i
-    unfolding add-pair-carry-hi highCarry
-    high-is i h =
-        ap₂ (λ (a b : ℕ). fmul (fsub a b) INV-SHIFT-32)
-        (ap₂ fadd (ap₂ fadd (bytes-hi (below 6 (omega arith))) (constant-hi row (pos (i * 8))) ∙ no-term (wordOfBytes row (addr 4)) (mod-p _)) (low-is i h))
-        (whh-hi row (state-ptr i 0) (below (state-ptr i 0 + 2) (omega arith)) ∙ ap (word row) (limb i))
-      where
-        limb : (i : ℕ) → state-ptr i 0 + 2 ≡ state-ptr i 2
-        limb i = omega arith
-
-    pub low-value : (i : ℕ) → i < 25 → isBitIf (word row MU) (lowCarry row i) ≡ coreValue row (2 * i)
-    unfolding coreValue pointerValue emit-add-pair
-    low-value i h =
-        let q : 2 * i / 2 ≡ i = omega arith in
-        let r : 2 * i % 2 ≡ 0 = omega arith in
-        ap₂ isBitIf (sym (from-zero (word row MU) (below 485 (omega arith)))) (sym (low-is i h))
-        ∙ sym (at-two (pointerValue row) q r)
-        ∙ sym (then-lt 50 (2 * i) _ _ (omega arith))
-
-    pub high-value : (i : ℕ) → i < 25 → isBitIf (word row MU) (highCarry row i) ≡ coreValue row (2 * i + 1)
-    unfolding coreValue pointerValue emit-add-pair
-    high-value i h =
-        let q : (2 * i + 1) / 2 ≡ i = omega arith in
-        let r : (2 * i + 1) % 2 ≡ 1 = omega arith in
-        ap₂ isBitIf (sym (from-zero (word row MU) (below 485 (omega arith)))) (sym (high-is i h))
-        ∙ sym (at-two (pointerValue row) q r)
-        ∙ sym (then-lt 50 (2 * i + 1) _ _ (omega arith))
-
-  pub top-is : fmul (word row MU) (highCarry row 24) ≡ topValue row
-  unfolding topValue highCarry lowCarry
-  top-is = refl
+  -- value 50, by the last lane's
+  pub top-value : ((k : ℕ) → k < 486 → word row k < p) → {addr offset pointer : AddOperand} → addr ≡ from-dword-bl ADDR → offset ≡ constant (pos 192) → pointer ≡ from-dword-whh (state-ptr 24 0)
+      → fmul (word row MU) (add-pair-carry-hi row addr offset pointer) ≡ topValue row
+  top-value below a o s = (λ t. fmul (word row MU) (add-pair-carry-hi row (a t) (o t) (s t))) ∙ top-is row below
 
   pub value-50 : topValue row ≡ coreValue row 50
   unfolding coreValue

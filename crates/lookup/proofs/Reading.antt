@@ -4,23 +4,17 @@ use mathlib.Core.Path.{_≡_, sym, ap, _∙_}
 use mathlib.Core.List.{List}
 use mathlib.Core.Option.{some}
 use Prim.Native.Nat.{ℕ, _≤_, _<_}
-use borrow.Author.Tests.{le-leb, le-ltb}
-use lib.Dec.{leb, ltb}
+use borrow.Author.Tests.{le-leb}
 use lib.ListN.{length}
 use Rattle.lists.proofs.Then.{by-le}
 use Rattle.lists.proofs.Reading.{Alike, ReadsFirst, front-same}
-use Rattle.answer.specs.Refusal.{refuseIf, refuseAt, accepted, overwrite, afterwards}
-use Rattle.answer.specs.declared.Refusal.the-variants.{PastEnd, TooShort, NotElement}
+use Rattle.answer.specs.Refusal.{pastEnd, overwrite, afterwards}
+use Rattle.answer.specs.declared.Refusal.the-variants.{PastEnd}
 use Rattle.answer.proofs.Laws.{refuse-yes, kept}
-use Rattle.field.specs.Elements.{firstNotElement}
-use Rattle.field.proofs.Reading.{elements-reads}
 use Rattle.lookup.specs.Tuple.{Tuple}
+use Rattle.lookup.specs.Values.{valuesRefusal}
+use Rattle.lookup.proofs.Values.{checks-read}
 use Rattle.lookup.specs.Call.{RestNotRead, sizedRefusal, tupleRefusal, tupleAnswer, tupleAnswerOf, tupleAfter}
-
--- the test of a row's length passes for no row that is long enough
-pub long-enough : (width : ℕ) (row other : List ℕ) → width ≤ length row → width ≤ length other
-    → ltb (length row) width ≡ ltb (length other) width
-long-enough width row other h j = le-ltb _ _ h ∙ sym (le-ltb _ _ j)
 
 module _ (width count : ℕ) (tuple : List ℕ → ℕ → Tuple) (reads : ReadsFirst width count tuple) where
   module _ (row other : List ℕ) (h : width ≤ length row) (j : width ≤ length other) (same : Alike width row other) (i : ℕ) (out : List ℕ) where
@@ -29,12 +23,9 @@ module _ (width count : ℕ) (tuple : List ℕ → ℕ → Tuple) (reads : Reads
     unfolding tupleRefusal sizedRefusal
     checks l =
         let e : tuple row i ≡ tuple other i = reads row other same i l in
-        let b : ltb (length row) width ≡ ltb (length other) width = long-enough width row other h j in
-        let f : firstNotElement row width ≡ firstNotElement other width = elements-reads width row other same in
-        λ t. refuseIf (leb count i) (PastEnd count)
-        (refuseIf (b t) (TooShort width)
-        (refuseIf (ltb (length out) (length (e t .values))) (TooShort (length (e t .values)))
-        (refuseAt (f t) NotElement accepted)))
+        ap (pastEnd count i)
+        (checks-read width (length (tuple row i .values)) row other h j same (length out)
+        ∙ ap (λ (t : Tuple). valuesRefusal width (length (t .values)) other (length out)) e)
 
     -- from `count` on any row is refused before it is read
     past : (any : List ℕ) → count ≤ i → tupleRefusal width count tuple any i out ≡ some (PastEnd count)

@@ -6,11 +6,10 @@ use mathlib.Core.List.{List}
 use mathlib.Core.Option.{Option, none, some}
 use lib.ListN.{length, take}
 use Rattle.lists.specs.Tab.{word}
-use Rattle.answer.specs.Refusal.{refuseAt, accepted, overwrite, afterwards, pastEnd, tooShort}
+use Rattle.answer.specs.Refusal.{overwrite, afterwards, pastEnd}
 use Rattle.answer.specs.declared.Refusal.{Refusal}
-use Rattle.answer.specs.declared.Refusal.the-variants.{NotElement}
 use Rattle.field.specs.Field.{p}
-use Rattle.field.specs.Elements.{firstNotElement}
+use Rattle.lookup.specs.Values.{valuesRefusal}
 use Rattle.lookup.specs.Tuple.{Tuple}
 use Rattle.lookup.specs.declared.BusInteraction.{BusInteraction}
 use Rattle.lookup.specs.declared.TupleAnswer.{TupleAnswer}
@@ -20,15 +19,9 @@ use Rattle.lookup.specs.declared.TupleAnswer.the-variants.{Is, Refused}
 abbrev pub interactionOf : Tuple → BusInteraction
 interactionOf t = record { bus = t .bus; side = t .side; length = length (t .values); multiplicity = t .multiplicity }
 
--- the checks: 1 for the index; 3 for the row, then for the slice of `room` words that takes the `size` values; 5 for
--- the first column that is p or more
+-- the checks: 1 for the index; then those of a call for the row's values, `size` of them into a slice of `room` words
 unfoldable pub sizedRefusal : ℕ → ℕ → List ℕ → ℕ → ℕ → ℕ → Option Refusal
-sizedRefusal width count row i size room =
-    pastEnd count i
-    (tooShort (length row) width
-    (tooShort room size
-    (refuseAt (firstNotElement row width) NotElement
-    accepted)))
+sizedRefusal width count row i size room = pastEnd count i (valuesRefusal width size row room)
 
 -- none of these conditions holds. proofs/Refusals.antt: `accepted-is`, the checks pass exactly then; and each refusal
 -- with its detail

@@ -1,11 +1,28 @@
-// The checks that every call for a tuple makes before it writes.
+// The checks that every call for a tuple, or for the values of a row, makes before it writes.
 use answer::Answer;
 use answer::Refusal;
 use field::elements::first_not_element;
 use lists::Place;
 ghost use mathlib.Core.Path.{_≡_};
 ghost use Rattle.answer.specs.Refusal.{answerOf};
+ghost use Rattle.lookup.specs.Values.{valuesRefusal};
 ghost use Rattle.lookup.specs.Call.{sizedRefusal};
+
+// The `count` values of a row of `width` columns go into a slice of `room` words.
+pub fn check_values(width: usize, count: usize, row: &[u64], room: usize) -> Answer
+    ensures { λ r. ⌜ r ≡ answerOf (valuesRefusal width count (now (row .entry)) room) ⌝ }
+{
+    if row.len() < width {
+        return Answer::Refused(Refusal::TooShort(width as u64));
+    }
+    if room < count {
+        return Answer::Refused(Refusal::TooShort(count as u64));
+    }
+    if let Place::At(place) = first_not_element(row, width) {
+        return Answer::Refused(Refusal::NotElement(place as u64));
+    }
+    Answer::Done
+}
 
 // Tuple `index` of `count`, of a row of `width` columns: its `size` values go into a slice of `room` words.
 pub fn check_tuple(
@@ -21,14 +38,5 @@ pub fn check_tuple(
     if index >= count {
         return Answer::Refused(Refusal::PastEnd(count as u64));
     }
-    if row.len() < width {
-        return Answer::Refused(Refusal::TooShort(width as u64));
-    }
-    if room < size {
-        return Answer::Refused(Refusal::TooShort(size as u64));
-    }
-    if let Place::At(place) = first_not_element(row, width) {
-        return Answer::Refused(Refusal::NotElement(place as u64));
-    }
-    Answer::Done
+    check_values(width, size, row, room)
 }

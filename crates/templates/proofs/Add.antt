@@ -26,6 +26,10 @@ under-one row c x e h = bit-if-one _ x (ap (fadd 0) e) h
 pub under-zero : (row : List ℕ) (c x : ℕ) → word row c ≡ 0 → bitUnder row (c ∷ []) x ≡ 0
 under-zero row c x e = bit-if-zero _ x (ap (fadd 0) e)
 
+-- under two columns, the second of them 1: the condition is their sum
+pub under-two : (row : List ℕ) (c d x : ℕ) → word row c ≡ 0 → word row d ≡ 1 → x < p → bitUnder row (c ∷ d ∷ []) x ≡ isBit x
+under-two row c d x e f h = bit-if-one _ x (ap₂ (λ (a b : ℕ). fadd (fadd 0 a) b) e f) h
+
 pub is-bit-when : (row : List ℕ) (k c : ℕ) → word row c ≡ 1 → word row k < p → emit-is-bit row k (When c) ≡ emit-is-bit row k Always
 is-bit-when row k c e h = bit-if-one _ (word row k) e h
 

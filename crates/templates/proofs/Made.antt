@@ -15,9 +15,6 @@ operand p q = ap₂ (λ (x y : AddTerms). record { kind = Linear; lo = x; hi = y
 next : (k m n : ℕ) → k + m + n ≡ k + (m + n)
 next k m n = omega arith
 
-pub halves-next : (k : ℕ) → of (times 1 (k + 2) ∷ times (2 ^ 16) (k + 2 + 1) ∷ []) ≡ of (times 1 (k + 2) ∷ times (2 ^ 16) (k + 3) ∷ [])
-halves-next k = ap (λ (a : ℕ). of (times 1 (k + 2) ∷ times (2 ^ 16) a ∷ [])) (next k 2 1)
-
 pub bytes-next : (k : ℕ) → of (times 1 (k + 4) ∷ times (2 ^ 8) (k + 4 + 1) ∷ times (2 ^ 16) (k + 4 + 2) ∷ times (2 ^ 24) (k + 4 + 3) ∷ [])
     ≡ of (times 1 (k + 4) ∷ times (2 ^ 8) (k + 5) ∷ times (2 ^ 16) (k + 6) ∷ times (2 ^ 24) (k + 7) ∷ [])
 bytes-next k = rw (next k 4 1, next k 4 2, next k 4 3)

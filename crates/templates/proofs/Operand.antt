@@ -9,7 +9,7 @@ use Rattle.lists.specs.Tab.{word}
 use Rattle.field.specs.Field.{p, fadd, fmul, INV-SHIFT-32}
 use Rattle.field.proofs.Field.{fadd-small}
 use Rattle.templates.specs.declared.AddLinearTerm.the-variants.{Column}
-use Rattle.templates.specs.Templates.{SHIFT-32, const-signed, add-term-expr, add-terms-expr, add-operand-lo, add-operand-hi, dword, constant, from-word, from-dword-hl, from-dword-whh, from-dword-bl}
+use Rattle.templates.specs.Templates.{SHIFT-32, const-signed, add-term-expr, add-terms-expr, add-operand-lo, add-operand-hi, dword, constant, from-dword-whh, from-dword-bl}
 
 -- P: 2^32 · INV_SHIFT_32 mod p is 1
 pub shift-32 : SHIFT-32 * INV-SHIFT-32 % p ≡ 1
@@ -65,22 +65,6 @@ module _ (row : List ℕ) where
 
     two : (k j : ℕ) → word row k < 65536 → word row j < 65536 → fadd (fadd (fadd (fadd 0 (fmul (word row k) 1)) (fmul (word row j) 65536)) 0) 0 ≡ word row k + word row j * 65536
     two k j h g = terms (word row k * 1) (word row j * 65536) 0 0 (omega arith) ∙ omega arith
-
-    pub word-lo : word row k < p → add-operand-lo row (from-word k) ≡ word row k
-    unfolding add-terms-expr
-    word-lo = one k
-
-    pub word-hi : add-operand-hi row (from-word k) ≡ 0
-    unfolding add-terms-expr
-    word-hi = refl
-
-    pub hl-lo : word row k < 65536 → word row (k + 1) < 65536 → add-operand-lo row (from-dword-hl k) ≡ word row k + word row (k + 1) * 65536
-    unfolding add-terms-expr
-    hl-lo = two k (k + 1)
-
-    pub hl-hi : word row (k + 2) < 65536 → word row (k + 3) < 65536 → add-operand-hi row (from-dword-hl k) ≡ word row (k + 2) + word row (k + 3) * 65536
-    unfolding add-terms-expr
-    hl-hi = two (k + 2) (k + 3)
 
     pub whh-lo : word row k < 65536 → word row (k + 1) < 65536 → add-operand-lo row (from-dword-whh k) ≡ word row k + word row (k + 1) * 65536
     unfolding add-terms-expr

@@ -6,9 +6,9 @@ use lib.ListN.{length}
 use borrow.Author.Needs.{needs}
 use Rattle.answer.proofs.Laws.{is-refused, is-done, refused, done, sets-overwrite}
 use Rattle.lookup.specs.Words.{tuplesWords}
-use Rattle.evaluation.specs.Call.{valuesRefusal}
-use Rattle.evaluation.specs.Call.{Accepted}
-use Rattle.evaluation.proofs.Call.{accepted}
+use Rattle.lookup.specs.Values.{valuesRefusal}
+use Rattle.lookup.specs.Values.{Accepted}
+use Rattle.lookup.proofs.Values.{passed}
 use Rattle.keccak.specs.Tuples.{coreTuple}
 use Rattle.keccak_interactions.proofs.Words.{words-length}
 use Rattle.keccak_interactions.proofs.bus_interactions.Statement.{statement}
@@ -19,7 +19,7 @@ clear : (c : tie.After-enum-told) → valuesRefusal 486 1457 (c .before .before 
 clear c = is-done _ (sym (c .enum-told .given .1) ∙ c .before .before .check-values .ensures)
 
 known : (c : tie.After-enum-told) → Accepted 486 1457 (c .before .before .before .before .before .args .row .now) (length (c .before .before .before .before .before .args .out .now))
-known c = accepted _ _ _ _ (clear c)
+known c = passed _ _ _ _ (clear c)
 
 check-values-requires : tie.Need-check-values-requires
 check-values-requires c κs = search needs

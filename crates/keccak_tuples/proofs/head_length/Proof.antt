@@ -2,9 +2,7 @@
 use native.Mathlib.Omega.{arith}
 use Rattle.lists.proofs.Then.{by-le}
 use Rattle.lookup.proofs.Call.{length-of}
-use Rattle.keccak_memw_tuples.proofs.Tuples.{addr-length}
-use Rattle.keccak_state_tuples.proofs.Tuples.{sent-length, received-length}
-use Rattle.keccak_tuples.proofs.Tuples.{is-ecall, is-addr, is-sent, is-received, ecall-length}
+use Rattle.keccak.proofs.Tuples.{addr-length, sent-length, received-length, is-ecall, is-addr, is-sent, is-received, ecall-length}
 use Rattle.keccak_tuples.proofs.head_length.Statement.{statement}
 use Rattle.keccak_tuples.proofs.head_length.Tie as tie
 

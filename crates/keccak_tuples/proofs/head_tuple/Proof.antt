@@ -5,13 +5,10 @@ use borrow.Author.Needs.{needs}
 use Rattle.lists.specs.Tab.{word}
 use Rattle.lookup.specs.Tuple.{sender, receiver}
 use Rattle.lookup.specs.declared.Bus.the-variants.{Keccak}
-use Rattle.lookup.proofs.Call.{as-tuple}
+use Rattle.lookup.proofs.Call.{as-tuple, room}
 use Rattle.keccak.specs.Columns.{MU}
 use Rattle.keccak.specs.Tuples.{coreTuple, ecallTuple, addrMemw, coreSent, coreReceived}
-use Rattle.keccak_lookup_tuples.proofs.Tuples.{room}
-use Rattle.keccak_memw_tuples.proofs.Tuples.{addr-length}
-use Rattle.keccak_state_tuples.proofs.Tuples.{sent-length, received-length}
-use Rattle.keccak_tuples.proofs.Tuples.{is-ecall, is-addr, is-sent, is-received, ecall-length}
+use Rattle.keccak.proofs.Tuples.{addr-length, sent-length, received-length, is-ecall, is-addr, is-sent, is-received, ecall-length}
 use Rattle.keccak_tuples.proofs.head_tuple.Statement.{statement}
 use Rattle.keccak_tuples.proofs.head_tuple.Tie as tie
 

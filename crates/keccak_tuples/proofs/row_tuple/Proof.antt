@@ -5,7 +5,7 @@ use native.Mathlib.Omega.{arith}
 use borrow.Author.Needs.{needs}
 use Rattle.lookup.proofs.Call.{fits, as-tuple}
 use Rattle.keccak.specs.Tuples.{coreTuple, pointerTuple}
-use Rattle.keccak_tuples.proofs.Tuples.{is-pointer}
+use Rattle.keccak.proofs.Tuples.{is-pointer}
 use Rattle.keccak_tuples.proofs.row_tuple.Statement.{statement}
 use Rattle.keccak_tuples.proofs.row_tuple.Tie as tie
 

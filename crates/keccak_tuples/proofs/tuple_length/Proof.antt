@@ -2,9 +2,7 @@
 use native.Mathlib.Omega.{arith}
 use borrow.Author.Needs.{needs}
 use Rattle.lookup.proofs.Call.{length-of}
-use Rattle.keccak_lookup_tuples.proofs.Tuples.{pointer-length, align-length, bytes-length}
-use Rattle.keccak_memw_tuples.proofs.Tuples.{lane-length}
-use Rattle.keccak_tuples.proofs.Tuples.{is-pointer, is-align, is-bytes, is-lane}
+use Rattle.keccak.proofs.Tuples.{pointer-length, align-length, bytes-length, lane-length, is-pointer, is-align, is-bytes, is-lane}
 use Rattle.keccak_tuples.proofs.tuple_length.Statement.{statement}
 use Rattle.keccak_tuples.proofs.tuple_length.Tie as tie
 

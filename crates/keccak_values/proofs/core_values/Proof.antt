@@ -5,9 +5,9 @@ use mathlib.Core.Option.{none}
 use Prim.Native.Nat.{ℕ}
 use lib.ListN.{length}
 use Rattle.answer.proofs.Laws.{refused, done, is-refused, is-done}
-use Rattle.evaluation.specs.Call.{valuesRefusal}
-use Rattle.evaluation.specs.Call.{Accepted}
-use Rattle.evaluation.proofs.Call.{accepted, stored}
+use Rattle.lookup.specs.Values.{valuesRefusal}
+use Rattle.lookup.specs.Values.{Accepted}
+use Rattle.lookup.proofs.Values.{passed, stored}
 use borrow.Author.Needs.{needs}
 use Rattle.keccak_values.proofs.core_values.Statement.{statement}
 use Rattle.keccak_values.proofs.core_values.Tie as tie
@@ -24,7 +24,7 @@ clear : (c : tie.After-enum-told) → valuesRefusal 486 52 (Row c) (length (Out 
 clear c = is-done _ (sym (c .enum-told .given .1) ∙ c .before .before .check-values .ensures)
 
 known : (c : tie.After-enum-told) → Accepted 486 52 (Row c) (length (Out c))
-known c = accepted _ _ _ _ (clear c)
+known c = passed _ _ _ _ (clear c)
 
 check-values-requires : tie.Need-check-values-requires
 check-values-requires c κs = search needs

@@ -1,2 +1,0 @@
-pub mod Tuples
-pub mod Parts
