@@ -274,7 +274,8 @@ case-late = late-row 24
 -- and such a row after an honest round table
 pub case-late-row :
     (r i : ℕ)
-    × ((verdictOf (oneCore witness) lateRound ≡ Unbalanced Core r i) ⊎ (verdictOf (oneCore witness) lateRound ≡ Unbalanced Round r i))
+    × ((verdictOf (oneCore witness) lateRound ≡ Unbalanced Core r i)
+    ⊎ (verdictOf (oneCore witness) lateRound ≡ Unbalanced Round r i))
 case-late-row = late-unbalanced
 
 -- ---- the code's tie to demand 3 (judge/proofs/Tied.antt): `Answered` and `Wrote` are calls, known by their contracts
