@@ -331,7 +331,7 @@ feed-go c d i used s l a =
 -- a reader that goes on has read 418 bytes for each whole record and `at` of the next, and no more than the MAX-OPS records have
 abbrev Stand : Cursor → ℕ → Type 0
 Stand (Refused r) k = Unit {0}
-Stand (Reading n at a) k = (418 * n + at ≡ k) × (at < 418) × (k ≤ 37402006730)
+Stand (Reading n at a) k = (418 * n + at ≡ k) × (at < 418) × (k ≤ MAX-OPS * RECORD-BYTES)
 
 stand-pick : (p : Bool) (c d : Cursor) (k : ℕ) → (p ≡ true → Stand c k) → (p ≡ false → Stand d k) → Stand (pick p c d) k
 stand-pick true c d k f g = f refl

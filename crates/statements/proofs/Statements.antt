@@ -305,7 +305,8 @@ case-late = late-row 24
 -- and such a row after an honest round table
 pub case-late-row :
     (r i : ℕ)
-    × ((verdictOf (oneCore witness) lateRound ≡ Unbalanced Core r i) ⊎ (verdictOf (oneCore witness) lateRound ≡ Unbalanced Round r i))
+    × ((verdictOf (oneCore witness) lateRound ≡ Unbalanced Core r i)
+    ⊎ (verdictOf (oneCore witness) lateRound ≡ Unbalanced Round r i))
 case-late-row = late-unbalanced
 
 -- ---- beyond the demands: the buses as a prover checks them, by sums of multiplicities mod p (bus_sums/specs/Sums.antt).
