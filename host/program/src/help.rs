@@ -38,12 +38,13 @@ Exit status: 0 both tables are there; 1 refused; 2 a file can't be read or writt
     },
     Command {
         name: "judge",
-        arguments: "CORE ROUND",
-        short: "says whether two tables hold together, or names the first failure",
+        arguments: "[--all [--most N]] CORE ROUND",
+        short: "says whether two tables hold together, or names the first failure, or with --all every one",
         long: "\
 Prints one line: `holds N`, N the active core rows; or `core` or `round`, `row R`, and `value I`, `lookup I`, `timestamp 0`
 or `balance I`, all from 0. `keccak-tables explain TABLE value I` says what a value is, `explain TABLE tuple I` what the tuple
-of a lookup or a balance is. Both files are held in memory.
+of a lookup or a balance is. Both files are held in memory. With --all every failing value, lookup, timestamp and tuple has a
+line, the first being the verdict's; with --most N the first N of them. A failure can bring others with it.
 Exit status: 0 the tables hold; 1 they don't, or refused; 2 a file can't be read.
 ",
     },

@@ -1,28 +1,72 @@
-//! `judge CORE ROUND`: the verdict on two tables, as one line.
+//! `judge CORE ROUND`: the verdict on two tables, as one line; `judge --all CORE ROUND`: every failure.
 
 use std::ffi::OsString;
 use std::path::Path;
 
-use super::{Failure, Outcome, Streams, files, progress, refused};
+use super::failures::{failures, in_writers_order};
+use super::progress::{Progress, Waiting};
+use super::{Failure, Outcome, Streams, files, refused};
 use keccak_tables::verdict::{Table, verdict};
 use keccak_tables::{Lent, P, Refusal, keccak, keccak_rnd, layout};
 
 pub fn judge(arguments: &[OsString], streams: &mut Streams) -> Result<Outcome, Failure> {
-    let [core, round] = arguments else {
-        return Err(Failure::Usage("judge takes two files: CORE ROUND".into()));
-    };
+    let wrong = || Failure::Usage("judge takes two files, CORE ROUND, and before them --all or --all --most N".into());
+    let (most, [core, round]) = options(arguments).ok_or_else(wrong)?;
     let core = files::read_words(Path::new(core))?;
     let round = files::read_words(Path::new(round))?;
-    progress::say(&format!("judging {} words", core.len() + round.len()));
+    let waiting = Waiting::new(&judging(&core, &round));
     let answer = verdict(&core, &round);
-    progress::clear();
-    match answer {
-        Ok(answer) => {
+    drop(waiting);
+    match (answer, most) {
+        (Ok(answer), Some(most)) if !answer.holds() => {
+            list(&core, &round, most, streams)?;
+            Ok(Outcome::DoesNotHold)
+        }
+        (Ok(answer), _) => {
             writeln!(streams.output, "{answer}")?;
             Ok(Outcome::of(answer.holds()))
         }
-        Err(refusal) => refused(refusal, &words(refusal, &core, &round), streams),
+        (Err(refusal), _) => refused(refusal, &words(refusal, &core, &round), streams),
     }
+}
+
+/// How many failures are wanted, where more than the verdict is, and the two files.
+fn options(arguments: &[OsString]) -> Option<(Option<usize>, &[OsString; 2])> {
+    let (options, files) = arguments.split_last_chunk()?;
+    let options: Option<Vec<&str>> = options.iter().map(|option| option.to_str()).collect();
+    let most = match options?[..] {
+        [] => None,
+        ["--all"] => Some(usize::MAX),
+        ["--all", "--most", most] | ["--most", most, "--all"] => Some(most.parse().ok().filter(|&most| most > 0)?),
+        _ => return None,
+    };
+    Some((most, files))
+}
+
+/// What is being done, for whoever waits.
+fn judging(core: &[u64], round: &[u64]) -> String {
+    let rows = core.len() / keccak::NUM_COLUMNS + round.len() / keccak_rnd::NUM_COLUMNS;
+    if in_writers_order(core, round) {
+        format!("judging {rows} rows")
+    } else {
+        format!("judging {rows} rows, which are not in the writer's order: that can take long")
+    }
+}
+
+/// Prints every failure, or the first of them, and says how many more there are.
+fn list(core: &[u64], round: &[u64], most: usize, streams: &mut Streams) -> Result<(), Failure> {
+    let rows = core.len() / keccak::NUM_COLUMNS + round.len() / keccak_rnd::NUM_COLUMNS;
+    let mut progress = Progress::new("rows, values and then lookups", 2 * rows as u64);
+    let found = failures(core, round, &mut |more| progress.add(more)).expect("the verdict refused nothing");
+    drop(progress);
+    let shown = most.min(found.len());
+    found[..shown]
+        .iter()
+        .try_for_each(|failure| writeln!(streams.output, "{failure}"))?;
+    if shown < found.len() {
+        let _ = writeln!(streams.errors, "{} more are not shown", found.len() - shown);
+    }
+    Ok(())
 }
 
 /// What a refusal says of the two tables: which of them, and where in it.

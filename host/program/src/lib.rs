@@ -7,6 +7,7 @@
 pub mod closed;
 mod demo;
 mod explain;
+pub mod failures;
 mod files;
 mod help;
 mod judge;

@@ -1,6 +1,8 @@
 //! A line on standard error that says how far long work has come. Only a terminal sees it.
 
 use std::io::{IsTerminal, Write};
+use std::sync::mpsc::{RecvTimeoutError, Sender, channel};
+use std::thread::{self, JoinHandle};
 use std::time::{Duration, Instant};
 
 /// How often the line changes.
@@ -18,6 +20,37 @@ pub fn say(line: &str) {
 /// Removes the line.
 pub fn clear() {
     say("");
+}
+
+/// A line with the seconds that have gone by, until it is dropped: for one call that does not say how far it is.
+pub struct Waiting(Option<(Sender<()>, JoinHandle<()>)>);
+
+impl Waiting {
+    pub fn new(what: &str) -> Self {
+        if !std::io::stderr().is_terminal() {
+            return Self(None);
+        }
+        let (what, start) = (what.to_string(), Instant::now());
+        say(&what);
+        let (end, ended) = channel();
+        let line = thread::spawn(move || {
+            while ended.recv_timeout(PAUSE) == Err(RecvTimeoutError::Timeout) {
+                say(&format!("{what}, {} s", start.elapsed().as_secs()));
+            }
+        });
+        Self(Some((end, line)))
+    }
+}
+
+impl Drop for Waiting {
+    fn drop(&mut self) {
+        if let Some((end, line)) = self.0.take() {
+            drop(end);
+            // A line that ended in a panic is gone all the same.
+            let _ = line.join();
+            clear();
+        }
+    }
 }
 
 /// Progress towards a number; 0 where that is not known.

@@ -256,6 +256,40 @@ fn judged_files() {
 }
 
 #[test]
+fn every_failure_has_a_line() {
+    let folder = Folder::new("failures");
+    let ops = operations(2);
+    let core = folder.put("core", &bytes(&keccak::keccak_table(&ops).unwrap()));
+    let round = folder.put("round", &bytes(&keccak_rnd::keccak_rnd_table(&ops).unwrap()));
+    let none = folder.put("none", &[]);
+    let lines = "core row 0 balance 3\ncore row 1 balance 3\nround row 23 balance 1\nround row 47 balance 1\n";
+    let all = ran(run, &["judge", "--all", &core, &round], &[]);
+    assert_eq!(all, (1, lines.into(), String::new()));
+    let first = "core row 0 balance 3\n";
+    assert_eq!(ran(run, &["judge", &core, &round], &[]).1, first);
+    for options in [["--all", "--most", "1"], ["--most", "1", "--all"]] {
+        let most = ran(run, &[&["judge"], &options[..], &[&core, &round]].concat(), &[]);
+        assert_eq!(most, (1, first.into(), "3 more are not shown\n".into()));
+    }
+    assert_eq!(ran(run_judge, &["--all", "--most", "4", &core, &round], &[]), all);
+    assert_eq!(
+        ran(run, &["judge", "--all", &none, &none], &[]),
+        (0, "holds 0\n".into(), String::new())
+    );
+    let cut = folder.put("cut", &[0; 8]);
+    assert_eq!(ran(run, &["judge", "--all", &cut, &none], &[]).1, "refused 2 0\n");
+    for options in [
+        &["--most", "1"][..],
+        &["--all", "--most", "0"],
+        &["--all", "--most"],
+        &["--every"],
+    ] {
+        let arguments = [&["judge"], options, &[&core, &round]].concat();
+        assert_eq!(ran(run, &arguments, &[]).0, 2, "{options:?}");
+    }
+}
+
+#[test]
 fn tallied_files() {
     let lines = "ops 1\ncore-rows 4\nround-rows 32\nByteAlu 19393\nAreBytes 7044\nKeccakRc 24\nIsHalfword 25\nIsWh 25\n\
                  Memw 26\nEcall 1\n";

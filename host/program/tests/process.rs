@@ -192,3 +192,32 @@ fn a_pipe_that_is_not_read_to_its_end_is_no_panic() {
         );
     }
 }
+
+/// On a terminal, which `script` makes, whoever waits is told, and that the rows are not in the writer's order.
+#[test]
+fn a_long_judgement_says_what_it_is_about() {
+    let folder = Folder::new("waiting", 20);
+    let written = folder.program(&["write", "ops", "core", "round"]).output().unwrap();
+    assert_eq!(written.status.code(), Some(0));
+    let mut rows = fs::read(folder.0.join("round")).unwrap();
+    rows.rotate_right(1480 * 8);
+    fs::write(folder.0.join("turned"), rows).unwrap();
+    for (round, words) in [
+        ("round", "judging 544 rows"),
+        ("turned", "rows, which are not in the writer's order"),
+    ] {
+        let command = format!("{} judge --all core {round}", env!("CARGO_BIN_EXE_keccak-tables"));
+        let mut script = Command::new("script");
+        let Ok(output) = script
+            .args(["-qec", &command, "/dev/null"])
+            .current_dir(&folder.0)
+            .stdin(Stdio::null())
+            .output()
+        else {
+            eprintln!("there is no program script on the PATH: no terminal is tried");
+            return;
+        };
+        assert_eq!(output.status.code(), Some(1));
+        assert!(text(&output.stdout).contains(words), "{round}");
+    }
+}
