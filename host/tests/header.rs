@@ -36,9 +36,9 @@ fn the_header_and_the_bindings_have_the_structs_of_the_archive() {
     assert_eq!(interface::bound_structs(), exports, "the bindings");
 }
 
-#[test]
-fn the_header_and_the_bindings_have_the_same_numbers() {
-    let numbers = [
+/// Counts and limits by name.
+fn sizes() -> BTreeMap<String, u64> {
+    let sizes = [
         ("P", P),
         ("OP_WORDS", OP_WORDS as u64),
         ("MAX_OPS", MAX_OPS as u64),
@@ -67,7 +67,12 @@ fn the_header_and_the_bindings_have_the_same_numbers() {
         ("ROUND_TUPLE_WORDS", keccak_rnd::TUPLE_WORDS as u64),
         ("MAX_TUPLE_LENGTH", keccak_rnd::MAX_TUPLE_LENGTH as u64),
     ];
-    let mut all: BTreeMap<String, u64> = numbers.map(|(name, number)| (name.to_string(), number)).into();
+    sizes.map(|(name, number)| (name.to_string(), number)).into()
+}
+
+#[test]
+fn the_header_and_the_bindings_have_the_same_numbers() {
+    let mut all = sizes();
     for (prefix, names) in [
         ("REFUSAL_", refusals()),
         (

@@ -146,14 +146,18 @@ fn groups_of_columns_fill_the_rows() {
     }
 }
 
+/// The index of a column that there is.
+fn first(table: Table, name: &str) -> usize {
+    named(table, name).unwrap_or_else(|| panic!("{name}"))
+}
+
 /// A group's name and the column of each of its places.
 type Named3 = (Table, &'static str, fn(usize, usize, usize) -> usize);
 
 #[test]
-fn names_go_with_the_columns() {
+fn names_go_with_the_columns_of_states() {
     use keccak::cols as core;
     use keccak_rnd::cols as round;
-    let first = |table, name: &str| named(table, name).unwrap_or_else(|| panic!("{name}"));
     let states: [Named3; 8] = [
         (Table::Core, "INPUT", core::input_state),
         (Table::Core, "OUTPUT", core::output_state),
@@ -169,6 +173,12 @@ fn names_go_with_the_columns() {
             assert_eq!(first(table, &format!("{name}[{x}][{y}][{byte}]")), column(x, y, byte));
         }
     }
+}
+
+#[test]
+fn names_go_with_the_other_columns() {
+    use keccak::cols as core;
+    use keccak_rnd::cols as round;
     for (x, stage, byte) in (0..160).map(|at| (at / 32, at / 8 % 4, at % 8)) {
         let name = format!("CXZ[{x}][{stage}][{byte}]");
         assert_eq!(first(Table::Round, &name), round::cxz(x, stage, byte));
