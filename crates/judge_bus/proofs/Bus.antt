@@ -33,9 +33,9 @@ use Rattle.judge_tuples.specs.Port.{tupleOf, tableOf, widthOf}
 use Rattle.judge_tuples.specs.declared.Port.{Port}
 use Rattle.judge_links.specs.Even.{Even}
 use Rattle.judge_links.proofs.Even.{core-sends, core-receives, round-sends, round-receives, counts}
-use Rattle.judge_counts.specs.Counting.{sentBy, receivedBy, countsTo}
-use Rattle.judge_counts.specs.declared.Counts.{Counts}
-use Rattle.judge_counts.proofs.Counting.{is-counted}
+use Rattle.judge_links.specs.Counting.{sentBy, receivedBy, countsTo}
+use Rattle.judge_links.specs.declared.Counts.{Counts}
+use Rattle.judge_links.proofs.Counting.{is-counted}
 use Rattle.judge_bus.specs.Order.{firstPort, secondPort, firstIndex}
 
 eqb-same : (a b c d : ℕ) → (a ≡ b → c ≡ d) → (c ≡ d → a ≡ b) → eqb a b ≡ eqb c d

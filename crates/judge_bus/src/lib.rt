@@ -1,7 +1,7 @@
 // The first unbalanced tuple on the Keccak bus of a core table and a round table: counts of the rows that the walk
 // left.
-use judge_counts::Counts;
-use judge_counts::count;
+use judge_links::Counts;
+use judge_links::count;
 use judge_scan::Spot;
 use judge_scan::is_active;
 use judge_scan::row_at;

@@ -5,7 +5,7 @@ use native.Mathlib.Omega.{arith}
 use denote.Ref.{now}
 use lib.ListN.{length}
 use Rattle.judge_scan.specs.Tables.{layoutOf}
-use Rattle.judge_counts.proofs.Counting.{counts-fit}
+use Rattle.judge_links.proofs.Counting.{counts-fit}
 use Rattle.judge_bus.proofs.Bus.{first-fits, second-fits, port-fits, uneven-left, uneven-port}
 use Rattle.judge_bus.proofs.unbalanced_tuples.Statement.{statement}
 use Rattle.judge_bus.proofs.unbalanced_tuples.Tie as tie

@@ -11,8 +11,8 @@ use Rattle.verdict.specs.declared.Table.the-variants.{Core, Round}
 use Rattle.judge_scan.specs.Tables.{layoutOf}
 use Rattle.judge_tuples.specs.declared.Port.{Port}
 use Rattle.judge_tuples.specs.declared.Port.the-variants.{CoreSend, CoreReceive, RoundReceive, RoundSend}
 use Rattle.judge_links.specs.Even.{hasTuple}
-use Rattle.judge_counts.specs.declared.Counts.{Counts}
+use Rattle.judge_links.specs.declared.Counts.{Counts}
 
 unfoldable pub sentBy : ℕ → Table → Port
 sentBy nr Core = CoreSend nr

@@ -1,4 +1,4 @@
--- `judge_counts::count` meets its contract: a row that is not of the call neither sends one of the tuples nor receives it.
+-- `judge_links::count` meets its contract: a row that is not of the call neither sends one of the tuples nor receives it.
 use mathlib.Core.Logic.{inl, inr}
 use mathlib.Core.Path.{_∙_}
 use Prim.Native.Nat.{_≤_, _-_}
@@ -7,9 +7,9 @@ use denote.Ref.{now}
 use Rattle.judge_scan.proofs.Scan.{wide, rows-as, rows-small}
 use Rattle.judge_tuples.specs.Port.{tupleOf}
 use Rattle.judge_tuples.proofs.Ports.{front-fits}
-use Rattle.judge_counts.proofs.Counting.{CountedRows, counts-start, sends-fit, receives-fit, counts-small, row-added, row-passed, counted-is}
-use Rattle.judge_counts.proofs.count.Statement.{statement}
-use Rattle.judge_counts.proofs.count.Tie as tie
+use Rattle.judge_links.proofs.Counting.{CountedRows, counts-start, sends-fit, receives-fit, counts-small, row-added, row-passed, counted-is}
+use Rattle.judge_links.proofs.count.Statement.{statement}
+use Rattle.judge_links.proofs.count.Tie as tie
 
 abbrev Inv-loop : tie.InvT-loop
 Inv-loop nr words table from x s q send receive rows first₀ second₀ row₀ first second row =

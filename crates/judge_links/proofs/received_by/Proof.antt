@@ -1,9 +1,9 @@
--- `judge_counts::received_by` meets its contract, arm by arm.
+-- `judge_links::received_by` meets its contract, arm by arm.
 use borrow.Author.Needs.{needs}
-use Rattle.judge_counts.specs.Counting.{receivedBy}
-use Rattle.judge_counts.proofs.Counting.{told-received}
-use Rattle.judge_counts.proofs.received_by.Statement.{statement}
-use Rattle.judge_counts.proofs.received_by.Tie as tie
+use Rattle.judge_links.specs.Counting.{receivedBy}
+use Rattle.judge_links.proofs.Counting.{told-received}
+use Rattle.judge_links.proofs.received_by.Statement.{statement}
+use Rattle.judge_links.proofs.received_by.Tie as tie
 
 enum-told : tie.Need-enum-told
 enum-told c = search needs

@@ -1,8 +1,8 @@
--- `judge_counts::plus` meets its contract.
+-- `judge_links::plus` meets its contract.
 use native.Mathlib.Omega.{arith}
-use Rattle.judge_counts.proofs.Counting.{one-more, no-more}
-use Rattle.judge_counts.proofs.plus.Statement.{statement}
-use Rattle.judge_counts.proofs.plus.Tie as tie
+use Rattle.judge_links.proofs.Counting.{one-more, no-more}
+use Rattle.judge_links.proofs.plus.Statement.{statement}
+use Rattle.judge_links.proofs.plus.Tie as tie
 
 add-result : tie.Need-add-result
 add-result c = omega arith

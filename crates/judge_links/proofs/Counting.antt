@@ -23,9 +23,9 @@ use Rattle.judge_tuples.specs.Port.{tupleOf, tableOf, widthOf}
 use Rattle.judge_tuples.specs.declared.Port.{Port}
 use Rattle.judge_tuples.specs.declared.Port.the-variants.{CoreSend, CoreReceive, RoundReceive, RoundSend}
 use Rattle.judge_tuples.proofs.Ports.{stamp-apart}
 use Rattle.judge_links.specs.Even.{hasTuple}
-use Rattle.judge_counts.specs.Counting.{sentBy, receivedBy, withRow, countFrom, countsTo}
-use Rattle.judge_counts.specs.declared.Counts.{Counts}
+use Rattle.judge_links.specs.Counting.{sentBy, receivedBy, withRow, countFrom, countsTo}
+use Rattle.judge_links.specs.declared.Counts.{Counts}
 
 -- ---- the counts
 -- a count from an index on

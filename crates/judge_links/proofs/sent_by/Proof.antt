@@ -1,9 +1,9 @@
--- `judge_counts::sent_by` meets its contract, arm by arm.
+-- `judge_links::sent_by` meets its contract, arm by arm.
 use borrow.Author.Needs.{needs}
-use Rattle.judge_counts.specs.Counting.{sentBy}
-use Rattle.judge_counts.proofs.Counting.{told-sent}
-use Rattle.judge_counts.proofs.sent_by.Statement.{statement}
-use Rattle.judge_counts.proofs.sent_by.Tie as tie
+use Rattle.judge_links.specs.Counting.{sentBy}
+use Rattle.judge_links.proofs.Counting.{told-sent}
+use Rattle.judge_links.proofs.sent_by.Statement.{statement}
+use Rattle.judge_links.proofs.sent_by.Tie as tie
 
 enum-told : tie.Need-enum-told
 enum-told c = search needs

@@ -1,7 +1,7 @@
--- `judge_counts::add` meets its contract.
-use Rattle.judge_counts.proofs.Counting.{with-row}
-use Rattle.judge_counts.proofs.add.Statement.{statement}
-use Rattle.judge_counts.proofs.add.Tie as tie
+-- `judge_links::add` meets its contract.
+use Rattle.judge_links.proofs.Counting.{with-row}
+use Rattle.judge_links.proofs.add.Statement.{statement}
+use Rattle.judge_links.proofs.add.Tie as tie
 
 same-tuple-requires : tie.Need-same-tuple-requires
 same-tuple-requires c κs = (c .before .before .pre .2, c .before .before .pre .0)
