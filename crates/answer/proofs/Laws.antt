@@ -9,7 +9,6 @@
 --     passed-if, passed-at      what an accepted call knows of a check, and of those after it
 --     sets-overwrite            words stored one by one from the front
 --     new-word, new-words, old-words   what an accepted call leaves, word by word
--- Assumes nothing.
 use Prim.Native.Nat.{ℕ, _≤_, _<_}
 use mathlib.Core.Path.{_≡_, refl, ap}
 use mathlib.Core.Bool.{Bool, true, false}

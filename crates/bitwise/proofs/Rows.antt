@@ -1,5 +1,5 @@
 -- What the fixed columns of a row say: the row of X, Y and Z stands at its index, the two top bits, ZERO and the shift by
--- plain conditions on the numbers. Assumes nothing.
+-- plain conditions on the numbers.
 use mathlib.Core.Path.{_≡_, refl, sym, ap, _∙_}
 use mathlib.Core.Bool.{Bool, true, _&&_}
 use mathlib.Core.List.{List}

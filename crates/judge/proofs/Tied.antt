@@ -1,6 +1,6 @@
 -- Demand 3 of what the two calls answer and write. Of a call nothing is known but its contract: `Learnt` is what the
 -- `ensures` clauses in `src/` tell a caller, as the toolchain reads them, so from weaker clauses `answered` and `wrote`
--- would not follow. Assumes nothing.
+-- would not follow.
 --     Answered    a call of `verdict` on a core table and a round table, and its answer
 --     Wrote       a call of `generate_keccak_rnd_trace` on a list and a slice, and what the slice holds when it ends
 -- In both `lent` is the parameters when the call begins and `ended` when it ends, `.0` the first and `.1 .0` the second;

@@ -1,4 +1,4 @@
--- The table of round constants: its rows, and what `update_multiplicities` changes. Assumes nothing.
+-- The table of round constants: its rows, and what `update_multiplicities` changes.
 use mathlib.Core.Path.{_≡_, refl, sym, ap, _∙_}
 use mathlib.Core.Bool.{Bool}
 use mathlib.Core.List.{List, [], _∷_, _++_}

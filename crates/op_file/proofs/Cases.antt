@@ -1,4 +1,4 @@
--- Cases of the scope, and a file of one record. Assumes nothing.
+-- Cases of the scope, and a file of one record.
 use Prim.Native.Nat.{ℕ, _<_}
 use mathlib.Core.Path.{_≡_, refl}
 use mathlib.Core.Bool.{true}

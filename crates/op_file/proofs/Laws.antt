@@ -2,7 +2,6 @@
 --     feed-append  a piece after another is the two as one piece
 --     whole        a whole record from its start: at its fault, or before the next record
 --     reads-file   `finish` after the whole file is `tallyOf`
--- Assumes nothing.
 use Prim.Native.Nat.{ℕ, zero, suc, _+_, _*_, _/_, _-_, _^_, _<_, _≤_}
 use mathlib.Core.Path.{_≡_, refl, sym, ap, _∙_}
 use mathlib.Core.Bool.{Bool, true, false}

@@ -1,5 +1,5 @@
 -- A list of operations that is written to a file and read back is the same list; a file without a fault that is read and
--- written again is the same file. Assumes nothing.
+-- written again is the same file.
 use mathlib.Core.Bool.{true}
 use mathlib.Core.Option.{none}
 use Rattle.keccak.specs.Refusals.{opCount}

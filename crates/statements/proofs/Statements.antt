@@ -1,5 +1,5 @@
 -- The statements of the project on one page, each beside the sentence that asks for it. Each is proved in the crate
--- that it is about and only cited here, so what a reader reads is what the gate has checked. Assumes nothing.
+-- that it is about and only cited here, so what a reader reads is what the gate has checked.
 -- Not here: demand 1, and "tables, values, tuples, counts and verdict match definitions", are the contracts of the
 -- calls (docs/PROOFS.md).
 --     Lanes s            the 25 words of s are below 2^64

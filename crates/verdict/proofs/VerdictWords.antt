@@ -1,4 +1,4 @@
--- The words of a verdict, case by case as the interface has them, and that they tell the verdict. Assumes nothing.
+-- The words of a verdict, case by case as the interface has them, and that they tell the verdict.
 use mathlib.Core.Path.{_≡_, refl, sym, ap, _∙_}
 use mathlib.Core.List.{List, [], _∷_}
 use Prim.Native.Nat.{ℕ, zero, suc}
