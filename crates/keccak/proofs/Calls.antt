@@ -2,7 +2,7 @@
 -- list, its row at word 486 i of the table, its keys at word 50 i.
 use mathlib.Core.Path.{_≡_, sym, ap, subst, _∙_}
 use mathlib.Core.List.{List}
-use Prim.Native.Nat.{ℕ, _+_, _*_, _/_, _%_, _^_, _≤_, _<_}
+use Prim.Native.Nat.{ℕ, _+_, _*_, _/_, _%_, _^_, _<_}
 use native.Mathlib.Omega.{arith}
 use lib.ListN.{length, drop}
 use Rattle.lists.specs.Tab.{word}
@@ -10,7 +10,7 @@ use Rattle.lists.proofs.Laws.{getD-tab, word-rowAt}
 use Rattle.bits.specs.Bits.{wordAt}
 use Rattle.answer.specs.Refusal.{accepted}
 use Rattle.answer.proofs.Laws.{new-word, old-words}
-use Rattle.keccak.specs.Height.{MIN-ROWS, height}
+use Rattle.keccak.specs.Height.{MIN-ROWS}
 use Rattle.keccak.specs.Row.{opAt, coreRow, coreTable, keyWord, is-wh-keys, keyWords, pointerKey}
 use Rattle.keccak.specs.Refusals.{opCount, coreRowRefusal, coreTraceRefusal, keysRefusal}
 use Rattle.keccak.specs.Calls.{coreRowAfter, coreTraceAfter, keysAfter}

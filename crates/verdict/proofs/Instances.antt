@@ -6,24 +6,21 @@
 --                        unbalanced."
 use mathlib.Core.Path.{_≡_, refl, sym, ap, subst, _∙_}
 use mathlib.Core.Logic.{_⊎_, inl, inr}
-use mathlib.Core.List.{List, [], _∷_, List·Memᴰ, List·Memᴰ·head, List·Memᴰ·tail, List·Memᴰ·not-nil, List·Memᴰ·cases-cons}
-use Prim.Native.Nat.{ℕ, zero, suc, _+_, _*_, _/_, _%_, _^_, _≤_, _<_}
+use mathlib.Core.List.{List, [], _∷_, List·Memᴰ, List·Memᴰ·not-nil, List·Memᴰ·cases-cons}
+use Prim.Native.Nat.{ℕ, zero, suc, _+_, _*_, _/_, _%_, _<_}
 use native.Mathlib.Omega.{arith}
-use lib.ListN.{length, getD}
+use lib.ListN.{getD}
 use Rattle.lists.specs.Tab.{word, rowAt}
 use Rattle.lists.proofs.Laws.{tab-same, list-tab}
 use Rattle.field.specs.Field.{p}
 use Rattle.bits.specs.Bits.{wordAt}
 use Rattle.fips202.specs.Lanes.{Lanes}
-use Rattle.keccak.specs.Columns.{TIMESTAMP-0, TIMESTAMP-1}
-use Rattle.keccak.specs.Row.{coreRow, LAST-ADDRESS}
 use Rattle.keccak.specs.declared.KeccakOperation.{KeccakOperation}
-use Rattle.keccak.proofs.Cells.{read-t0, read-t1, read-mu}
 use Rattle.keccak_rnd.specs.Columns.{MU, ROUND}
-use Rattle.keccak_rnd.specs.Row.{roundRow, roundRowAt}
+use Rattle.keccak_rnd.specs.Row.{roundRow}
 use Rattle.keccak_rnd.proofs.Cells.{length-round, written-cells}
 use Rattle.keccak_rnd.proofs.Completeness.{round-written, round-words}
-use Rattle.verdict.specs.Kind.{rows, row, actives, Active, Passes}
+use Rattle.verdict.specs.Kind.{rows, row, actives, Passes}
 use Rattle.verdict.specs.CoreAndRound.{coreLayout, roundLayout, coreKind, roundKind, verdictOf}
 use Rattle.verdict.specs.Failures.{ToRepeat, ToCoreBalance}
 use Rattle.verdict.specs.Job.{Segment, jobCore, jobRound, jobActives, Separate, SegmentsApart}
@@ -35,7 +32,7 @@ use Rattle.verdict.proofs.Failures.{timestamp-twice}
 use Rattle.verdict.proofs.Late.{late-row}
 use Rattle.verdict.proofs.Job.{join-rows, join-right, join-passes, job-holds}
 use Rattle.verdict.proofs.Demand3.{demand3}
-use Rattle.verdict.proofs.Honest.{core-passes, round-passes, row-made, made-active, active-made, made-t0, made-t1, flat-lanes, witness-right, last-right, one-supposed, one-holds}
+use Rattle.verdict.proofs.Honest.{core-passes, round-passes, made-active, active-made, made-t0, made-t1, flat-lanes, witness-right, last-right, one-supposed, one-holds}
 
 -- ---- a repeated timestamp
 exchanged-lanes : (i : ℕ) → Lanes (exchanged i .input)

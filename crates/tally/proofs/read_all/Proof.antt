@@ -1,6 +1,6 @@
 -- `tally::read_all` meets its contract: the reader stands where the bytes so far take it, and each read brings it nearer
 -- to the most bytes that a file may have.
-use Prim.Native.Nat.{ℕ, _≤_, _<_}
+use Prim.Native.Nat.{ℕ, _<_}
 use mathlib.Core.Path.{_≡_, ap, sym, _∙_}
 use mathlib.Core.List.{List, [], _++_}
 use mathlib.Core.Bool.{true, false}
