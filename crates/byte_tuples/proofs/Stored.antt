@@ -9,8 +9,9 @@ use lib.Seq.{sets}
 use Rattle.lists.proofs.Laws.{sets-append}
 use Rattle.lookup.specs.Tuple.{Tuple, sender}
 use Rattle.lookup.specs.Call.{interactionOf}
-use Rattle.lookup.specs.Words.{headerWords, tupleWords}
+use Rattle.lookup.specs.Words.{headerWords, tupleWords, tuplesWords}
 use Rattle.lookup.specs.declared.Bus.the-variants.{ByteAlu, AreBytes}
+use Rattle.byte_tuples.specs.Lanes.{aluLane}
 use Rattle.lookup.proofs.Words.{tuple-length, stores-four, Listed, listed-none, listed-more}
 
 pub alu-stored : (l out : List ℕ) (at m op a b c : ℕ) → out ≡ sets l at (headerWords (interactionOf (sender ByteAlu m (op ∷ a ∷ b ∷ c ∷ []))))
@@ -40,3 +41,8 @@ listed-one {out = out} {at = at} c g h b s u q e =
     listed-more h b
     (q ∙ ap (λ (k : ℕ). at + k) (sym (ap (λ (t : Tuple). length (tupleWords t)) s ∙ tuple-length g ∙ ap (λ (k : ℕ). 4 + k) u)))
     (e ∙ ap (λ (t : Tuple). sets out at (tupleWords t)) (sym s))
+
+-- a lane by the number of its operation
+pub by-number : {n k : ℕ} {out : List ℕ} (l : List ℕ) (at m : ℕ) (us vs row : List ℕ) (c : ℕ) → n ≡ k → out ≡ sets l at (tuplesWords (aluLane m n us vs row c) 8)
+    → out ≡ sets l at (tuplesWords (aluLane m k us vs row c) 8)
+by-number l at m us vs row c e h = h ∙ ap (λ (n : ℕ). sets l at (tuplesWords (aluLane m n us vs row c) 8)) e

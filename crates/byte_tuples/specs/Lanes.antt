@@ -2,12 +2,19 @@
 use Prim.Native.Nat.{ℕ, _+_}
 use mathlib.Core.List.{List, [], _∷_}
 use Rattle.lists.specs.Tab.{word}
-use Rattle.lookup.specs.Tuple.{Tuple, sender}
+use Rattle.lookup.specs.Tuple.{Tuple, sender, ALU-AND, ALU-XOR}
 use Rattle.lookup.specs.declared.Bus.the-variants.{ByteAlu, AreBytes}
+use Rattle.byte_tuples.specs.declared.Op.{Op}
+use Rattle.byte_tuples.specs.declared.Op.the-variants.{And, Xor}
 
--- op on the words of p from a and of q from b, in those of row from c
-abbrev pub aluLane : ℕ → ℕ → List ℕ → ℕ → List ℕ → ℕ → List ℕ → ℕ → ℕ → Tuple
-aluLane m op p a q b row c z = sender ByteAlu m (op ∷ word p (a + z) ∷ word q (b + z) ∷ word row (c + z) ∷ [])
+-- an operation by its number
+unfoldable pub opNumber : Op → ℕ
+opNumber And = ALU-AND
+opNumber Xor = ALU-XOR
+
+-- op on the words of a and of b, in those of row from c
+abbrev pub aluLane : ℕ → ℕ → List ℕ → List ℕ → List ℕ → ℕ → ℕ → Tuple
+aluLane m op a b row c z = sender ByteAlu m (op ∷ word a z ∷ word b z ∷ word row (c + z) ∷ [])
 
 -- the words from a and from b are bytes
 abbrev pub bytesLane : List ℕ → ℕ → ℕ → ℕ → Tuple

@@ -1,4 +1,6 @@
 // A tuple as words: the four before its values, then these.
+use super::Op;
+use super::op_number;
 use lookup::Bus;
 use lookup::BusInteraction;
 use lookup::Side;
@@ -11,7 +13,7 @@ ghost use lib.Seq.{sets};
 ghost use Rattle.lookup.specs.Tuple.{sender};
 ghost use Rattle.lookup.specs.Words.{tupleWords, tuplesWords};
 ghost use Rattle.lookup.specs.declared.Bus.the-variants.{ByteAlu, AreBytes};
-ghost use Rattle.byte_tuples.specs.Lanes.{aluLane, bytesLane};
+ghost use Rattle.byte_tuples.specs.Lanes.{opNumber, aluLane, bytesLane};
 
 // op(a, b) = c, from `at`.
 fn put_alu(out: &mut [u64], at: usize, multiplicity: u64, op: u64, a: u64, b: u64, c: u64)
@@ -49,31 +51,30 @@ pub fn put_bytes(out: &mut [u64], at: usize, a: u64, b: u64)
     out[from + 1] = b;
 }
 
-// A lane of eight: op on the words of `p` from a and of `q` from b, in those of `row` from c.
+// A lane of eight: op on the words of `a` and of `b`, in those of `row` from c.
 pub fn put_alu_lane(
     multiplicity: u64,
-    op: u64,
-    p: &[u64],
-    a: usize,
-    q: &[u64],
-    b: usize,
+    op: Op,
+    a: &[u64],
+    b: &[u64],
     row: &[u64],
     c: usize,
     out: &mut [u64],
     at: usize,
 )
-    requires { ⌜ (a + 8 ≤ length (now p)) × (b + 8 ≤ length (now q)) × (c + 8 ≤ length (now row)) × (at + 64 ≤ length (now out)) ⌝ }
-    ensures { λ _. ⌜ now (out .exit) ≡ sets (now (out .entry)) at (tuplesWords (aluLane multiplicity op (now (p .entry)) a (now (q .entry)) b (now (row .entry)) c) 8) ⌝ }
+    requires { ⌜ (8 ≤ length (now a)) × (8 ≤ length (now b)) × (c + 8 ≤ length (now row)) × (at + 64 ≤ length (now out)) ⌝ }
+    ensures { λ _. ⌜ now (out .exit) ≡ sets (now (out .entry)) at (tuplesWords (aluLane multiplicity (opNumber op) (now (a .entry)) (now (b .entry)) (now (row .entry)) c) 8) ⌝ }
 {
+    let number = op_number(op);
     let mut z: usize = 0;
     while z < 8 {
         put_alu(
             out,
             at + 8 * z,
             multiplicity,
-            op,
-            p[a + z],
-            q[b + z],
+            number,
+            a[z],
+            b[z],
             row[c + z],
         );
         z += 1;

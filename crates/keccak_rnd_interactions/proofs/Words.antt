@@ -1,24 +1,23 @@
--- The words of a round row's tuples are 8,211: 4 × 1,031 and 4,087 values; 427 of them are those of the first three. The parts in which
--- they are stored.
+-- The words of a round row's tuples are 8,211: 4 × 1,031 and 4,087 values; 427 of them are those of the first three. The runs of
+-- tuples on one bus, stored one behind the other.
 use mathlib.Core.Path.{_≡_, refl, sym, ap, _∙_}
 use mathlib.Core.List.{List}
-use Prim.Native.Nat.{ℕ, _+_}
+use Prim.Native.Nat.{ℕ, _+_, _*_, _/_, _<_}
 use native.Mathlib.Nat.{zero-add}
 use native.Mathlib.Omega.{arith}
 use lib.ListN.{length}
 use lib.Seq.{sets}
-use Rattle.lists.specs.Tab.{followedBy}
 use Rattle.lists.specs.Sum.{sumBelow}
-use Rattle.lists.proofs.Laws.{sets-append}
+use Rattle.lists.proofs.Sum.{sum-same, sum-const}
 use Rattle.lookup.specs.Tuple.{Tuple}
 use Rattle.lookup.specs.Words.{tupleWords, tuplesWords}
-use Rattle.lookup.proofs.Words.{tuples-length, words-same, words-then, words-add, stored-then}
+use Rattle.lookup.proofs.Words.{tuple-length, tuples-length, words-same, words-then, Listed, listed-none, listed-part, listed-all}
 use Rattle.keccak.proofs.Reading.{keccak-length}
 use Rattle.keccak_rnd.specs.Tuples.{NUM-TUPLES, roundReceived, roundSent, roundTuple}
-use Rattle.keccak_rnd.proofs.Places.{tuples-from}
+use Rattle.keccak_rnd_operands.specs.Lanes.{aluTuple}
+use Rattle.keccak_rnd_operands.proofs.Groups.{front-run, middle-run, back-run, alu-size, left-is, rot-is}
+use Rattle.keccak_rnd_byte_tuples.proofs.Places.{rot-sent}
 use Rattle.keccak_rnd_tuples.proofs.Tuples.{rc-length}
-use Rattle.round_groups.specs.Parts.{parityTuples, stageTuples, leftTuples, dTuples, thetaTuples, rotTuples, andsTuples, chiTuples, iotaTuples, chiPart, thetaPart, parityPart}
-use Rattle.round_groups.proofs.Groups.{parity-size, stage-size, left-size, d-size, theta-size, rot-size, ands-size, chi-size}
 use Rattle.keccak_rnd_interactions.specs.Words.{NUM-WORDS}
 
 pub words-length : (row : List ℕ) → length (tuplesWords (roundTuple row) NUM-TUPLES) ≡ NUM-WORDS
@@ -51,48 +50,55 @@ first-length row =
     (words-then 1 1 _ _ (words-same 1 203 _ (λ i. keccak-length _ _ _ _))
     (words-then 1 0 _ _ (words-same 1 9 _ (λ i. rc-length row)) (no-words _)))
 
--- the others
-from-parity : (row : List ℕ) (k : ℕ) → roundTuple row (3 + k) ≡ parityPart row k
-unfolding parityTuples stageTuples leftTuples dTuples thetaTuples rotTuples andsTuples chiTuples iotaTuples chiPart thetaPart parityPart
-from-parity row k = tuples-from row 3 k
+-- ---- one run behind the other
+-- m tuples of c values each
+run-length : (m c : ℕ) (t : ℕ → Tuple) → ((i : ℕ) → i < m → length (t i .values) ≡ c) → length (tuplesWords t m) ≡ m * (4 + c)
+run-length m c t h =
+    tuples-length t m
+    ∙ sum-same m (λ i. length (tupleWords (t i))) (λ i. 4 + c) (λ i b. tuple-length (t i) ∙ ap (λ (k : ℕ). 4 + k) (h i b))
+    ∙ sum-const m (4 + c)
 
--- ---- one part behind the other
-pub all-stored : {out out′ : List ℕ} (row l : List ℕ) → out ≡ sets l 0 (tuplesWords (roundTuple row) 3) → out′ ≡ sets out 427 (tuplesWords (parityPart row) 1028)
-    → out′ ≡ sets l 0 (tuplesWords (roundTuple row) 1031)
-all-stored row l e q =
-    q
-    ∙ (λ i. sets (e i) (sym (first-length row) i) (tuplesWords (parityPart row) 1028))
-    ∙ ap (λ (k : ℕ). sets (sets l 0 (tuplesWords (roundTuple row) 3)) k (tuplesWords (parityPart row) 1028)) (sym (zero-add (length (tuplesWords (roundTuple row) 3))))
-    ∙ sets-append l 0 (tuplesWords (roundTuple row) 3) (tuplesWords (parityPart row) 1028)
-    ∙ ap (sets l 0) (sym (words-add 3 1028 (roundTuple row) (parityPart row) (λ k h. from-parity row k)))
+module _ (row : List ℕ) where
+  front-length : length (tuplesWords (λ i. aluTuple row (0 + i)) 160) ≡ 1280
+  front-length = run-length 160 4 (λ i. aluTuple row (0 + i)) (λ i b. alu-size row (0 + i))
 
-module _ (row l : List ℕ) (at : ℕ) where
-  pub chi-stored : {a b c : List ℕ} → a ≡ sets l at (tuplesWords (andsTuples row) 200) → b ≡ sets a (at + 1600) (tuplesWords (chiTuples row) 200)
-      → c ≡ sets b (at + 3200) (tuplesWords (iotaTuples row) 8) → c ≡ sets l at (tuplesWords (chiPart row) 408)
-  unfolding chiPart
-  chi-stored {a} e f g =
-      stored-then l at 200 208 4 (andsTuples row) (followedBy 200 (chiTuples row) (iotaTuples row)) (ands-size row) e
-      (stored-then a (at + 1600) 200 8 4 (chiTuples row) (iotaTuples row) (chi-size row) f g (omega arith))
-      (omega arith)
+  left-length : length (tuplesWords (λ i. roundTuple row (163 + i)) 20) ≡ 120
+  left-length = run-length 20 2 (λ i. roundTuple row (163 + i)) (λ i b. ap (λ (t : Tuple). length (t .values)) (left-is i b .tuple row))
 
-  pub theta-stored : {a b c d : List ℕ} → a ≡ sets l at (tuplesWords (dTuples row) 40) → b ≡ sets a (at + 320) (tuplesWords (thetaTuples row) 200)
-      → c ≡ sets b (at + 1920) (tuplesWords (rotTuples row) 200) → d ≡ sets c (at + 3120) (tuplesWords (chiPart row) 408)
-      → d ≡ sets l at (tuplesWords (thetaPart row) 848)
-  unfolding thetaPart
-  theta-stored {a} {b} e f g h =
-      stored-then l at 40 808 4 (dTuples row) (followedBy 200 (thetaTuples row) (followedBy 200 (rotTuples row) (chiPart row))) (d-size row) e
-      (stored-then a (at + 320) 200 608 4 (thetaTuples row) (followedBy 200 (rotTuples row) (chiPart row)) (theta-size row) f
-      (stored-then b (at + 1920) 200 408 2 (rotTuples row) (chiPart row) (rot-size row) g h (omega arith))
-      (omega arith))
-      (omega arith)
+  middle-length : length (tuplesWords (λ i. aluTuple row (160 + i)) 240) ≡ 1920
+  middle-length = run-length 240 4 (λ i. aluTuple row (160 + i)) (λ i b. alu-size row (160 + i))
 
-  pub parity-stored : {a b c d : List ℕ} → a ≡ sets l at (tuplesWords (parityTuples row) 40) → b ≡ sets a (at + 320) (tuplesWords (stageTuples row) 120)
-      → c ≡ sets b (at + 1280) (tuplesWords (leftTuples row) 20) → d ≡ sets c (at + 1400) (tuplesWords (thetaPart row) 848)
-      → d ≡ sets l at (tuplesWords (parityPart row) 1028)
-  unfolding parityPart
-  parity-stored {a} {b} e f g h =
-      stored-then l at 40 988 4 (parityTuples row) (followedBy 120 (stageTuples row) (followedBy 20 (leftTuples row) (thetaPart row))) (parity-size row) e
-      (stored-then a (at + 320) 120 868 4 (stageTuples row) (followedBy 20 (leftTuples row) (thetaPart row)) (stage-size row) f
-      (stored-then b (at + 1280) 20 848 2 (leftTuples row) (thetaPart row) (left-size row) g h (omega arith))
-      (omega arith))
-      (omega arith)
+  rot-length : length (tuplesWords (λ i. roundTuple row (423 + i)) 200) ≡ 1200
+  rot-length =
+      run-length 200 2 (λ i. roundTuple row (423 + i))
+      (λ i b. let h : i / 8 < 25 = omega arith in ap (λ (t : Tuple). length (t .values)) (rot-sent row i (rot-is (i / 8) h)))
+
+  back-length : length (tuplesWords (λ i. aluTuple row (400 + i)) 408) ≡ 3264
+  back-length = run-length 408 4 (λ i. aluTuple row (400 + i)) (λ i b. alu-size row (400 + i))
+
+  pub all-stored : (l : List ℕ) {a b c d e f : List ℕ} → a ≡ sets l 0 (tuplesWords (roundTuple row) 3)
+      → b ≡ sets a 427 (tuplesWords (λ i. aluTuple row (0 + i)) 160)
+      → c ≡ sets b 1707 (tuplesWords (λ i. roundTuple row (163 + i)) 20)
+      → d ≡ sets c 1827 (tuplesWords (λ i. aluTuple row (160 + i)) 240)
+      → e ≡ sets d 3747 (tuplesWords (λ i. roundTuple row (423 + i)) 200)
+      → f ≡ sets e 4947 (tuplesWords (λ i. aluTuple row (400 + i)) 408)
+      → f ≡ sets l 0 (tuplesWords (roundTuple row) 1031)
+  all-stored l {a} {b} {c} {d} {e} {f} o p q r s t = listed-all sixth (omega arith)
+    where
+      first : Listed l 0 (roundTuple row) 1031 a 3 427
+      first = listed-part (listed-none l 0 (roundTuple row) 1031) 3 (roundTuple row) (omega arith) (λ k h. ap (roundTuple row) (zero-add k)) (sym (zero-add (length (tuplesWords (roundTuple row) 3)) ∙ first-length row)) o
+
+      second : Listed l 0 (roundTuple row) 1031 b 163 1707
+      second = listed-part first 160 (λ i. aluTuple row (0 + i)) (omega arith) (front-run row) (ap (λ (k : ℕ). 427 + k) (sym front-length)) p
+
+      third : Listed l 0 (roundTuple row) 1031 c 183 1827
+      third = listed-part second 20 (λ i. roundTuple row (163 + i)) (omega arith) (λ k h. refl) (ap (λ (k : ℕ). 1707 + k) (sym left-length)) q
+
+      fourth : Listed l 0 (roundTuple row) 1031 d 423 3747
+      fourth = listed-part third 240 (λ i. aluTuple row (160 + i)) (omega arith) (middle-run row) (ap (λ (k : ℕ). 1827 + k) (sym middle-length)) r
+
+      fifth : Listed l 0 (roundTuple row) 1031 e 623 4947
+      fifth = listed-part fourth 200 (λ i. roundTuple row (423 + i)) (omega arith) (λ k h. refl) (ap (λ (k : ℕ). 3747 + k) (sym rot-length)) s
+
+      sixth : Listed l 0 (roundTuple row) 1031 f 1031 8211
+      sixth = listed-part fifth 408 (λ i. aluTuple row (400 + i)) (omega arith) (λ k h. back-run row k) (ap (λ (k : ℕ). 4947 + k) (sym back-length)) t

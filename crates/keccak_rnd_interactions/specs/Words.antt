@@ -12,6 +12,10 @@ use Rattle.keccak_rnd.specs.Tuples.{NUM-TUPLES, roundTuple}
 abbrev pub NUM-WORDS : ℕ
 NUM-WORDS = 8211
 
+-- of these, those of the first three
+abbrev pub CXZ-WORDS : ℕ
+CXZ-WORDS = 427
+
 -- what `bus_interactions` leaves in the slice that it is lent: the row is refused as by a call for its values
 abbrev pub roundTuplesAfter : List ℕ → List ℕ → List ℕ
 roundTuplesAfter row out =

@@ -1,4 +1,4 @@
--- The residues of a round row: the constant's, and the groups one behind the other.
+-- The residues of a round row: the constant's, and the runs of tuples on one bus one behind the other.
 use mathlib.Core.Path.{_≡_, refl, sym, ap, _∙_}
 use mathlib.Core.Bool.{Bool}
 use mathlib.Core.List.{List, _∷_}
@@ -9,21 +9,21 @@ use lib.Bits.{bitXor}
 use lib.Dec.{ltb}
 use lib.ListN.{length, getD, set}
 use lib.Seq.{sets}
-use Rattle.lists.specs.Tab.{pick, tabFrom, tab, followedBy, word}
+use Rattle.lists.specs.Tab.{pick, tabFrom, tab, word}
 use Rattle.lists.proofs.Laws.{getD-tab, tab-same}
-use Rattle.lists.proofs.Then.{then-all}
 use Rattle.bits.specs.Bits.{byteAt}
 use Rattle.fips202.specs.Tables.{roundConstant}
 use Rattle.lookup.specs.Tuple.{Tuple, sender, receiver}
 use Rattle.lookup.specs.declared.Bus.the-variants.{KeccakRc, Keccak}
 use Rattle.keccak_rnd.specs.Columns.{MU}
 use Rattle.keccak_rnd.specs.Tuples.{roundReceived, roundSent, constantTuple, roundTuple}
-use Rattle.keccak_rnd.proofs.Places.{tuple-at, tuples-from}
+use Rattle.keccak_rnd.proofs.Places.{tuple-at}
 use Rattle.residue.specs.Residue.{constantResidue, rcResidue, residueOn, residue, residues, Marked}
 use Rattle.residue.proofs.Or.{or-same}
 use Rattle.residue.proofs.Residue.{idle, sent, free}
-use Rattle.residue.proofs.Stored.{stored-then, stored-rest, marked}
-use Rattle.round_groups.specs.Parts.{parityTuples, stageTuples, leftTuples, dTuples, thetaTuples, rotTuples, andsTuples, chiTuples, iotaTuples, chiPart, thetaPart, parityPart}
+use Rattle.residue.proofs.Stored.{stored-rest, marked}
+use Rattle.keccak_rnd_operands.specs.Lanes.{aluTuple}
+use Rattle.keccak_rnd_operands.proofs.Groups.{front-run, middle-run, back-run, alu-sent-by-mu}
 
 -- ---- the constant's tuple
 rc-values : (r : ℕ) (f : ℕ → ℕ) → rcResidue r f ≡ residueOn KeccakRc (r ∷ tab 8 f)
@@ -68,47 +68,27 @@ first-stored row l {v} e =
     last : v ≡ residue (roundTuple row 2)
     last = e ∙ ap residue (sym (tuple-at row 2 0 (omega arith)))
 
--- ---- one group behind the other
-module _ (row : List ℕ) where
-  from-parity : (k : ℕ) → roundTuple row (3 + k) ≡ parityPart row k
-  unfolding parityTuples stageTuples leftTuples dTuples thetaTuples rotTuples andsTuples chiTuples iotaTuples chiPart thetaPart parityPart
-  from-parity k = tuples-from row 3 k
+-- ---- one run behind the other
+pub all-stored : (row l : List ℕ) {a b c d e f : List ℕ} → a ≡ sets l 0 (tab 3 (residues (roundTuple row)))
+    → b ≡ sets a 3 (tab 160 (residues (λ i. aluTuple row (0 + i))))
+    → c ≡ sets b 163 (tab 20 (residues (λ i. roundTuple row (163 + i))))
+    → d ≡ sets c 183 (tab 240 (residues (λ i. aluTuple row (160 + i))))
+    → e ≡ sets d 423 (tab 200 (residues (λ i. roundTuple row (423 + i))))
+    → f ≡ sets e 623 (tab 408 (residues (λ i. aluTuple row (400 + i))))
+    → f ≡ sets l 0 (tab 1031 (residues (roundTuple row)))
+all-stored row l o p q r s t =
+    stored-rest l 0 623 408 (roundTuple row) (λ i. aluTuple row (400 + i)) (λ k h. back-run row k)
+    (stored-rest l 0 423 200 (roundTuple row) (λ i. roundTuple row (423 + i)) (λ k h. refl)
+    (stored-rest l 0 183 240 (roundTuple row) (λ i. aluTuple row (160 + i)) (middle-run row)
+    (stored-rest l 0 163 20 (roundTuple row) (λ i. roundTuple row (163 + i)) (λ k h. refl)
+    (stored-rest l 0 3 160 (roundTuple row) (λ i. aluTuple row (0 + i)) (front-run row) o p)
+    q)
+    r)
+    s)
+    t
 
-  pub chi-stored : (l : List ℕ) {a b c : List ℕ} → a ≡ sets l 623 (tab 200 (residues (andsTuples row))) → b ≡ sets a 823 (tab 200 (residues (chiTuples row)))
-      → c ≡ sets b 1023 (tab 8 (residues (iotaTuples row))) → c ≡ sets l 623 (tab 408 (residues (chiPart row)))
-  unfolding chiPart
-  chi-stored l {a} e f g =
-      stored-then l 623 200 208 (andsTuples row) (followedBy 200 (chiTuples row) (iotaTuples row)) e
-      (stored-then a 823 200 8 (chiTuples row) (iotaTuples row) f g)
-
-  -- of a padding row
-  idle-chi : word row MU ≡ 0 → (k : ℕ) → k < 408 → 0 ≡ residues (chiPart row) k
-  unfolding residues chiPart andsTuples chiTuples iotaTuples
-  idle-chi e k h =
-      then-all (λ (t : Tuple). 0 ≡ residue t) 200 (andsTuples row) (followedBy 200 (chiTuples row) (iotaTuples row)) k
-      (λ b. idle _ e)
-      (λ j q. then-all (λ (t : Tuple). 0 ≡ residue t) 200 (chiTuples row) (iotaTuples row) j (λ b. idle _ e) (λ i r. idle _ e))
-
-  pub chi-zeros : (l : List ℕ) {a : List ℕ} → word row MU ≡ 0 → a ≡ sets l 623 (tab 408 (λ k. 0)) → a ≡ sets l 623 (tab 408 (residues (chiPart row)))
-  chi-zeros l e d = d ∙ ap (sets l 623) (tab-same 408 (λ k. 0) (residues (chiPart row)) (idle-chi e))
-
-  pub theta-stored : (l : List ℕ) {a b c d : List ℕ} → a ≡ sets l 183 (tab 40 (residues (dTuples row))) → b ≡ sets a 223 (tab 200 (residues (thetaTuples row)))
-      → c ≡ sets b 423 (tab 200 (residues (rotTuples row))) → d ≡ sets c 623 (tab 408 (residues (chiPart row)))
-      → d ≡ sets l 183 (tab 848 (residues (thetaPart row)))
-  unfolding thetaPart
-  theta-stored l {a} {b} e f g h =
-      stored-then l 183 40 808 (dTuples row) (followedBy 200 (thetaTuples row) (followedBy 200 (rotTuples row) (chiPart row))) e
-      (stored-then a 223 200 608 (thetaTuples row) (followedBy 200 (rotTuples row) (chiPart row)) f
-      (stored-then b 423 200 408 (rotTuples row) (chiPart row) g h))
-
-  pub all-stored : (l : List ℕ) {a b c d e : List ℕ} → 1031 ≤ length l → a ≡ sets l 0 (tab 3 (residues (roundTuple row)))
-      → b ≡ sets a 3 (tab 40 (residues (parityTuples row))) → c ≡ sets b 43 (tab 120 (residues (stageTuples row)))
-      → d ≡ sets c 163 (tab 20 (residues (leftTuples row))) → e ≡ sets d 183 (tab 848 (residues (thetaPart row)))
-      → Marked 1031 (roundTuple row) l e
-  unfolding parityPart
-  all-stored l {a} {b} {c} {d} {e} long p q r s t =
-      marked 1031 (roundTuple row) l e long
-      (stored-rest l 0 3 1028 (roundTuple row) (parityPart row) (λ k h. from-parity k) p
-      (stored-then a 3 40 988 (parityTuples row) (followedBy 120 (stageTuples row) (followedBy 20 (leftTuples row) (thetaPart row))) q
-      (stored-then b 43 120 868 (stageTuples row) (followedBy 20 (leftTuples row) (thetaPart row)) r
-      (stored-then c 163 20 848 (leftTuples row) (thetaPart row) s t))))
+-- n of the ByteAlu tuples of a padding row
+pub none-sent : (row l : List ℕ) {a : List ℕ} (at s n : ℕ) → word row MU ≡ 0 → a ≡ sets l at (tab n (λ k. 0))
+    → a ≡ sets l at (tab n (residues (λ i. aluTuple row (s + i))))
+unfolding residues
+none-sent row l at s n e d = d ∙ ap (sets l at) (tab-same n (λ k. 0) (residues (λ i. aluTuple row (s + i))) (λ k h. idle (aluTuple row (s + k)) (alu-sent-by-mu row (s + k) ∙ e)))

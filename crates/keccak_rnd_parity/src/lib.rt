@@ -1,6 +1,6 @@
 // θ by tables of bytes: the column parities C in their four stages, and C rotated by one in its two parts.
-use halfword::half_of;
-use halfword::hwsl;
+use keccak_rnd_halfword::half_of;
+use keccak_rnd_halfword::hwsl;
 ghost use mathlib.Core.Path.{_≡_};
 ghost use Prim.Native.Nat.{_<_};
 ghost use Rattle.lists.specs.Tab.{tab, word};

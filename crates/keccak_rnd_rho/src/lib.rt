@@ -1,6 +1,6 @@
 // ρ by halfwords, and the ands of χ, plane by plane.
 use fips202::rho_offset;
-use halfword::shift_lane;
+use keccak_rnd_halfword::shift_lane;
 use permutation::State;
 use permutation::from_planes;
 ghost use mathlib.Core.Path.{_≡_};

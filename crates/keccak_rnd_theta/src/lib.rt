@@ -1,5 +1,5 @@
 // θ by tables of bytes: D, and the state after θ.
-use halfword::half_of;
+use keccak_rnd_halfword::half_of;
 use permutation::State;
 ghost use mathlib.Core.Path.{_≡_};
 ghost use mathlib.Core.List.{[]};

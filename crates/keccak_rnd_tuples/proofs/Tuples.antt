@@ -1,7 +1,7 @@
 -- What stands at each index of a round row's tuples: the first three, and how many values each has.
 use mathlib.Core.Path.{_≡_, refl, sym, ap, _∙_}
 use mathlib.Core.List.{List}
-use Prim.Native.Nat.{ℕ, suc, _≤_, _<_}
+use Prim.Native.Nat.{ℕ, suc, _-_, _/_, _≤_, _<_}
 use native.Mathlib.Omega.{arith}
 use lib.ListN.{length}
 use Rattle.lists.specs.Tab.{word}
@@ -19,7 +19,8 @@ use Rattle.keccak_rnd.specs.Columns.{start, rc}
 use Rattle.keccak_rnd.specs.Tuples.{roundReceived, roundSent, constantTuple, roundTuple}
 use Rattle.keccak_rnd.proofs.Places.{tuple-at}
 use Rattle.keccak_rnd.proofs.Step.{keccak-same}
-use Rattle.keccak_rnd_lookup_tuples.proofs.Tuples.{at-cxz-0, at-cxz, at-cxz-left, at-dxz, at-theta, at-rot, at-chi-ands, at-chi, at-iota}
+use Rattle.keccak_rnd_operands.proofs.Groups.{alu-size, left-is, rot-is}
+use Rattle.keccak_rnd_byte_tuples.proofs.Places.{at-front, at-left, at-middle, at-rot, at-back, rot-sent}
 use Rattle.keccak_rnd_tuples.specs.States.{stateWord}
 use Rattle.keccak_rnd_tuples.proofs.States.{state-whole}
 
@@ -69,20 +70,18 @@ module _ (row : List ℕ) where
     pub rc-size : i ≡ 2 → 9 ≡ length (roundTuple row i .values)
     rc-size e = length-of (at-rc i e) (sym rc-length)
 
-    pub parity-size : 3 ≤ i → i < 163 → 4 ≡ length (roundTuple row i .values)
-    parity-size l h = by-le 43 i (λ q. length-of (at-cxz row i q h) refl) (λ q. length-of (at-cxz-0 row i l q) refl)
+    -- on the ByteAlu bus, and on the AreBytes bus
+    pub front-size : 3 ≤ i → i < 163 → 4 ≡ length (roundTuple row i .values)
+    front-size l h = length-of (at-front row i l h) (sym (alu-size row _))
 
     pub left-size : 163 ≤ i → i < 183 → 2 ≡ length (roundTuple row i .values)
-    left-size l h = length-of (at-cxz-left row i l h) refl
+    left-size l h = let b : i - 163 < 20 = omega arith in length-of (at-left row i l ∙ left-is (i - 163) b .tuple row) refl
 
-    pub theta-size : 183 ≤ i → i < 423 → 4 ≡ length (roundTuple row i .values)
-    theta-size l h = by-le 223 i (λ q. length-of (at-theta row i q h) refl) (λ q. length-of (at-dxz row i l q) refl)
+    pub middle-size : 183 ≤ i → i < 423 → 4 ≡ length (roundTuple row i .values)
+    middle-size l h = length-of (at-middle row i l h) (sym (alu-size row _))
 
     pub rot-size : 423 ≤ i → i < 623 → 2 ≡ length (roundTuple row i .values)
-    rot-size l h = length-of (at-rot row i l h) refl
+    rot-size l h = let b : (i - 423) / 8 < 25 = omega arith in length-of (at-rot row i l ∙ rot-sent row (i - 423) (rot-is ((i - 423) / 8) b)) refl
 
-    pub chi-size : 623 ≤ i → 4 ≡ length (roundTuple row i .values)
-    chi-size l =
-        by-le 823 i
-        (λ q. by-le 1023 i (λ r. length-of (at-iota row i r) refl) (λ r. length-of (at-chi row i q r) refl))
-        (λ q. length-of (at-chi-ands row i l q) refl)
+    pub back-size : 623 ≤ i → 4 ≡ length (roundTuple row i .values)
+    back-size l = length-of (at-back row i l) (sym (alu-size row _))

@@ -2,13 +2,19 @@
 use answer::Answer;
 use field::Fe;
 use keccak_rnd::CHI;
+use keccak_rnd::CHI_ANDS_TUPLES;
+use keccak_rnd::CXZ_LEFT_TUPLES;
+use keccak_rnd::CXZ_TUPLES;
+use keccak_rnd::DXZ_TUPLES;
 use keccak_rnd::IOTA;
 use keccak_rnd::MU;
 use keccak_rnd::NUM_COLUMNS;
+use keccak_rnd::NUM_TUPLES;
 use keccak_rnd::RC;
+use keccak_rnd::ROT_TUPLES;
 use keccak_rnd::ROUND;
 use keccak_rnd::START;
-use keccak_rnd_lookup_tuples::lookup_tuple;
+use keccak_rnd_byte_tuples::byte_tuple;
 use lists::put_part;
 use lookup::Bus;
 use lookup::BusInteraction;
@@ -28,10 +34,8 @@ ghost use Rattle.lookup.specs.Call.{interactionOf, tupleAnswerOf, tupleAfter};
 ghost use Rattle.keccak.specs.Columns.{byXYB};
 ghost use Rattle.keccak.specs.Tuples.{keccakValues};
 ghost use Rattle.keccak_rnd.specs.Columns.{NUM-COLUMNS};
-ghost use Rattle.keccak_rnd.specs.Tuples.{NUM-TUPLES, roundTuple, constantTuple};
+ghost use Rattle.keccak_rnd.specs.Tuples.{NUM-TUPLES, CXZ-TUPLES, roundTuple, constantTuple};
 ghost use Rattle.keccak_rnd_tuples.specs.States.{laneWord, columnWord, stateWord};
-
-pub const NUM_TUPLES: usize = 1031;
 
 // The lengths of the tuples, bus by bus.
 pub const KECCAK_VALUES: usize = 203;
@@ -135,20 +139,20 @@ fn constant(row: &[u64], out: &mut [u64]) -> BusInteraction
 }
 
 // How many values a tuple from 3 on has.
-fn lookup_length(index: usize) -> usize
-    requires { ⌜ 3 ≤ index ⌝ }
+fn byte_length(index: usize) -> usize
+    requires { ⌜ CXZ-TUPLES ≤ index ⌝ }
     ensures { λ r. ⌜ ((row : List ℕ) → r ≡ length (roundTuple row index .values)) ⌝ }
 {
-    if index < 163 {
+    if index < CXZ_LEFT_TUPLES {
         return BYTE_ALU_VALUES;
     }
-    if index < 183 {
+    if index < DXZ_TUPLES {
         return ARE_BYTES_VALUES;
     }
-    if index < 423 {
+    if index < ROT_TUPLES {
         return BYTE_ALU_VALUES;
     }
-    if index < 623 {
+    if index < CHI_ANDS_TUPLES {
         ARE_BYTES_VALUES
     } else {
         BYTE_ALU_VALUES
@@ -165,17 +169,17 @@ fn tuple_length(index: usize) -> usize
     if index == 2 {
         return KECCAK_RC_VALUES;
     }
-    lookup_length(index)
+    byte_length(index)
 }
 
 // Tuple `index` of a row that the checks passed.
 pub fn row_tuple(row: &[u64], index: usize, out: &mut [u64]) -> BusInteraction
-    requires { ⌜ ElementRow NUM-COLUMNS (now row) × (index < 1031) × (length (roundTuple (now row) index .values) ≤ length (now out)) ⌝ }
+    requires { ⌜ ElementRow NUM-COLUMNS (now row) × (index < NUM-TUPLES) × (length (roundTuple (now row) index .values) ≤ length (now out)) ⌝ }
     ensures answer { λ r. ⌜ r ≡ interactionOf (roundTuple (now (row .entry)) index) ⌝ }
     ensures words { λ _. ⌜ now (out .exit) ≡ overwrite (roundTuple (now (row .entry)) index .values) (now (out .entry)) ⌝ }
 {
-    if 3 <= index {
-        return lookup_tuple(row, index, out);
+    if CXZ_TUPLES <= index {
+        return byte_tuple(row, index, out);
     }
     if index == 0 {
         return received(row, out);

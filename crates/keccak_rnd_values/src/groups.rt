@@ -1,8 +1,8 @@
 // The values of a round row, group by group into a slice.
 use fips202::rho_offset;
-use round_value::carry_value;
-use round_value::rho_value;
-use round_value::theta_value;
+use keccak_rnd_value::carry_value;
+use keccak_rnd_value::rho_value;
+use keccak_rnd_value::theta_value;
 ghost use mathlib.Core.Path.{_≡_};
 ghost use Prim.Native.Nat.{_+_, _*_, _/_, _%_, _≤_, _<_};
 ghost use lib.ListN.{length};

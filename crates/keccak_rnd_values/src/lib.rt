@@ -6,8 +6,9 @@ use groups::put_rho_values;
 use groups::put_theta_values;
 use keccak_rnd::MU;
 use keccak_rnd::NUM_COLUMNS;
+use keccak_rnd::NUM_VALUES;
+use keccak_rnd_value::element;
 use lookup::check::check_values;
-use round_value::element;
 ghost use mathlib.Core.Path.{_≡_};
 ghost use Prim.Native.Nat.{_≤_};
 ghost use lib.ListN.{length};
@@ -19,8 +20,6 @@ ghost use Rattle.keccak_rnd.specs.Columns.{NUM-COLUMNS};
 ghost use Rattle.keccak_rnd.specs.Values.{NUM-VALUES, roundValue};
 
 pub mod groups;
-
-pub const NUM_VALUES: usize = 141;
 
 // The values of a row, into the first 141 words of `out`.
 pub fn put_round_values(row: &[u64], out: &mut [u64])

@@ -1,6 +1,6 @@
 -- Residues stored one behind the other, by lanes and by groups, and what the whole says of a row's tuples.
 use mathlib.Core.Path.{_≡_, sym, ap, _∙_}
-use mathlib.Core.List.{List}
+use mathlib.Core.List.{List, [], _∷_}
 use Prim.Native.Nat.{ℕ, _+_, _*_, _≤_, _<_}
 use lib.ListN.{length, drop}
 use lib.Dec.{eqb}
@@ -9,7 +9,10 @@ use Rattle.lists.specs.Tab.{tab, followedBy}
 use Rattle.lists.proofs.Laws.{Filled, filled-block, sets-add, sets-front, stored-at, length-tab}
 use Rattle.lists.proofs.Then.{then-lt, then-ge}
 use Rattle.lists.proofs.Laws.{tab-same}
-use Rattle.lookup.specs.Tuple.{Tuple}
+use Rattle.lookup.specs.Tuple.{Tuple, sender}
+use Rattle.lookup.specs.declared.Bus.the-variants.{ByteAlu}
+use Rattle.byte_tuples.specs.Lanes.{opNumber}
+use Rattle.byte_tuples.specs.declared.Op.{Op}
 use Rattle.residue.specs.Residue.{residue, residues, Marked}
 use Rattle.residue.proofs.Residue.{residue-matched}
 
@@ -48,3 +51,8 @@ marked n t l out h e =
       zero = λ i b. ap (λ (x : ℕ). eqb x 0) (stored-at l out (residues t) n i h e b) ∙ residue-matched (t i);
       rest = ap (drop n) (e ∙ sets-front l (tab n (residues t)) n (length-tab n (residues t)) h) ∙ drop-at (tab n (residues t)) (drop n l) n (length-tab n (residues t));
     }
+
+-- the operation by another name
+pub of-op : {r : ℕ} {o q : Op} (m a b c : ℕ) → o ≡ q → r ≡ residue (sender ByteAlu m (opNumber q ∷ a ∷ b ∷ c ∷ []))
+    → r ≡ residue (sender ByteAlu m (opNumber o ∷ a ∷ b ∷ c ∷ []))
+of-op m a b c e h = h ∙ sym (ap (λ (t : Op). residue (sender ByteAlu m (opNumber t ∷ a ∷ b ∷ c ∷ []))) e)

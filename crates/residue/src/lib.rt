@@ -1,5 +1,6 @@
 // A tuple's residue: 0 exactly where the tuple needs no match or has one. Of one tuple by its values, with no branch but
 // that on the multiplicity; and of a lane of eight.
+use byte_tuples::Op;
 ghost use mathlib.Core.Path.{_≡_};
 ghost use mathlib.Core.List.{[], _∷_};
 ghost use Prim.Native.Nat.{_+_, _≤_};
@@ -8,7 +9,7 @@ ghost use lib.Seq.{sets};
 ghost use Rattle.lists.specs.Tab.{tab};
 ghost use Rattle.lookup.specs.Tuple.{sender, ALU-AND, ALU-XOR};
 ghost use Rattle.lookup.specs.declared.Bus.the-variants.{ByteAlu, AreBytes, IsHalfword, IsWh};
-ghost use Rattle.byte_tuples.specs.Lanes.{aluLane, bytesLane};
+ghost use Rattle.byte_tuples.specs.Lanes.{opNumber, aluLane, bytesLane};
 ghost use Rattle.residue.specs.Residue.{residue, residues};
 
 // c is the XOR of two bytes.
@@ -29,6 +30,16 @@ pub fn and_residue(multiplicity: u64, a: u64, b: u64, c: u64) -> u64
         return 0;
     }
     ((a | b) >> 8) | ((a & b) ^ c)
+}
+
+// c is op of two bytes.
+fn alu_residue(multiplicity: u64, op: Op, a: u64, b: u64, c: u64) -> u64
+    ensures { λ r. ⌜ r ≡ residue (sender ByteAlu multiplicity (opNumber op ∷ a ∷ b ∷ c ∷ [])) ⌝ }
+{
+    match op {
+        Op::And => and_residue(multiplicity, a, b, c),
+        Op::Xor => xor_residue(multiplicity, a, b, c),
+    }
 }
 
 // Two bytes.
@@ -61,46 +72,23 @@ pub fn is_wh_residue(multiplicity: u64, w: u64, h: u64) -> u64
     (w >> 32) | (h >> 16)
 }
 
-// Eight XORs: of the words of `p` from a and of `q` from b, in those of `row` from c.
-pub fn put_xor_lane(
+// A lane of eight: op on the words of `a` and of `b`, in those of `row` from c.
+pub fn put_alu_lane(
     multiplicity: u64,
-    p: &[u64],
-    a: usize,
-    q: &[u64],
-    b: usize,
+    op: Op,
+    a: &[u64],
+    b: &[u64],
     row: &[u64],
     c: usize,
     out: &mut [u64],
     at: usize,
 )
-    requires { ⌜ (a + 8 ≤ length (now p)) × (b + 8 ≤ length (now q)) × (c + 8 ≤ length (now row)) × (at + 8 ≤ length (now out)) ⌝ }
-    ensures { λ _. ⌜ now (out .exit) ≡ sets (now (out .entry)) at (tab 8 (residues (aluLane multiplicity ALU-XOR (now (p .entry)) a (now (q .entry)) b (now (row .entry)) c))) ⌝ }
+    requires { ⌜ (8 ≤ length (now a)) × (8 ≤ length (now b)) × (c + 8 ≤ length (now row)) × (at + 8 ≤ length (now out)) ⌝ }
+    ensures { λ _. ⌜ now (out .exit) ≡ sets (now (out .entry)) at (tab 8 (residues (aluLane multiplicity (opNumber op) (now (a .entry)) (now (b .entry)) (now (row .entry)) c))) ⌝ }
 {
     let mut z: usize = 0;
     while z < 8 {
-        out[at + z] = xor_residue(multiplicity, p[a + z], q[b + z], row[c + z]);
-        z += 1;
-    }
-}
-
-// Eight ANDs, likewise: of the words of `p` from a and of `q` from b, in those of `row` from c.
-pub fn put_and_lane(
-    multiplicity: u64,
-    p: &[u64],
-    a: usize,
-    q: &[u64],
-    b: usize,
-    row: &[u64],
-    c: usize,
-    out: &mut [u64],
-    at: usize,
-)
-    requires { ⌜ (a + 8 ≤ length (now p)) × (b + 8 ≤ length (now q)) × (c + 8 ≤ length (now row)) × (at + 8 ≤ length (now out)) ⌝ }
-    ensures { λ _. ⌜ now (out .exit) ≡ sets (now (out .entry)) at (tab 8 (residues (aluLane multiplicity ALU-AND (now (p .entry)) a (now (q .entry)) b (now (row .entry)) c))) ⌝ }
-{
-    let mut z: usize = 0;
-    while z < 8 {
-        out[at + z] = and_residue(multiplicity, p[a + z], q[b + z], row[c + z]);
+        out[at + z] = alu_residue(multiplicity, op, a[z], b[z], row[c + z]);
         z += 1;
     }
 }

@@ -8,8 +8,8 @@ use borrow.Author.Needs.{needs}
 use Rattle.keccak_rnd_tuples.proofs.row_tuple.Statement.{statement}
 use Rattle.keccak_rnd_tuples.proofs.row_tuple.Tie as tie
 
-lookup-tuple-requires : tie.Need-lookup-tuple-requires
-lookup-tuple-requires c κs = search needs
+byte-tuple-requires : tie.Need-byte-tuple-requires
+byte-tuple-requires c κs = search needs
 
 same-length : tie.Need-same-length
 same-length c = search needs
@@ -56,7 +56,7 @@ pub row-tuple-spec : {M : Type 1} → statement M
 row-tuple-spec =
     tie.close
     (tie.spec
-    lookup-tuple-requires
+    byte-tuple-requires
     same-length
     returns
     received-requires
