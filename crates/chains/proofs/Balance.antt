@@ -1,6 +1,6 @@
 -- Chained tables balance. Row j of the chain of a core row has its timestamp and the round 24 - nr + j, so rows of different places
 -- in the chains are different rows, because the timestamps of the active core rows differ; and where there are no more
--- active round rows, these are all of them. Assumes nothing.
+-- active round rows, these are all of them.
 --     Taken             a set of active round rows, all of chains, and what they and the core rows send and receive
 --     taken-put         one more row in the set
 --     chained-balanced  the theorem
@@ -13,7 +13,7 @@ use native.Mathlib.Omega.{arith}
 use borrow.Author.Tests.{eqb-true, eq-eqb, ne-eqb}
 use lib.Dec.{eqb}
 use Rattle.lists.specs.Tab.{pick, word}
-use Rattle.lists.specs.First.{count}
+use Rattle.lists.specs.First.{countBelow}
 use Rattle.lists.proofs.First.{count-more, count-skip, count-start}
 use Rattle.lists.proofs.Count.{count-same}
 use Rattle.lists.proofs.Tests.{true-not-false, not-true}
@@ -74,8 +74,8 @@ has round port v r = wordsTest v (tupleOf port (row roundLayout round r))
 pub record Taken (core round : List ℕ) (k m : ℕ) (sent received : List ℕ → ℕ) : Type 0 where
   pub taken : ℕ → Bool
   pub member : (r : ℕ) → taken r ≡ true → Member core round k r
-  pub size : count taken (rows roundLayout round) ≡ m
-  pub even : (v : List ℕ) → sent v + count (λ r. taken r && has round RoundSend v r) (rows roundLayout round) ≡ received v + count (λ r. taken r && has round RoundReceive v r) (rows roundLayout round)
+  pub size : countBelow taken (rows roundLayout round) ≡ m
+  pub even : (v : List ℕ) → sent v + countBelow (λ r. taken r && has round RoundSend v r) (rows roundLayout round) ≡ received v + countBelow (λ r. taken r && has round RoundReceive v r) (rows roundLayout round)
 
 later : (core round : List ℕ) (k j r : ℕ) → k ≤ j → Member core round k r → Member core round j r
 later core round k j r l h = record { on = h .on; of = h .of; of-active = h .of-active; same = h .same; before = omega (arith, h .before) }
@@ -125,12 +125,12 @@ module _ (core round : List ℕ) where
         go false z h = later core round k j r g (t .member r h)
 
     more-has : (port : Port) (v : List ℕ) →
-        count (λ r. more r && has round port v r) (rows roundLayout round) ≡ count (λ r. t .taken r && has round port v r) (rows roundLayout round) + one v (tupleOf port (row roundLayout round q))
+        countBelow (λ r. more r && has round port v r) (rows roundLayout round) ≡ countBelow (λ r. t .taken r && has round port v r) (rows roundLayout round) + one v (tupleOf port (row roundLayout round q))
     unfolding one
     more-has port v =
         count-put (λ r. t .taken r && has round port v r) (λ r. more r && has round port v r) q
         (λ r n. ap (λ (b : Bool). b && has round port v r) (more-other r n)) (ap (λ (b : Bool). b && has round port v q) off) (rows roundLayout round) l
-        ∙ ap (λ (b : Bool). count (λ r. t .taken r && has round port v r) (rows roundLayout round) + pick (b && has round port v q) 1 0) more-here
+        ∙ ap (λ (b : Bool). countBelow (λ r. t .taken r && has round port v r) (rows roundLayout round) + pick (b && has round port v q) 1 0) more-here
 
     taken-put : Taken core round j (m + 1) sent (λ v. received v + one v (tupleOf RoundSend (row roundLayout round q)))
     taken-put =
@@ -139,7 +139,7 @@ module _ (core round : List ℕ) where
           member = more-member;
           size =
               count-put (t .taken) more q more-other off (rows roundLayout round) l
-              ∙ ap (λ (b : Bool). count (t .taken) (rows roundLayout round) + pick b 1 0) more-here
+              ∙ ap (λ (b : Bool). countBelow (t .taken) (rows roundLayout round) + pick b 1 0) more-here
               ∙ ap (λ (c : ℕ). c + 1) (t .size);
           even = λ v. omega (arith, t .even v, more-has RoundSend v, more-has RoundReceive v, ap (one v) e);
         }
@@ -147,22 +147,22 @@ module _ (core round : List ℕ) where
 -- ---- the chain of an active core row
 -- how many of the first a core rows send v, and receive it
 abbrev sentBy : ℕ → List ℕ → ℕ → List ℕ → ℕ
-sentBy nr core a v = count (hasTuple coreLayout (CoreSend nr) core v) a
+sentBy nr core a v = countBelow (hasTuple coreLayout (CoreSend nr) core v) a
 
 abbrev receivedBy : List ℕ → ℕ → List ℕ → ℕ
-receivedBy core a v = count (hasTuple coreLayout CoreReceive core v) a
+receivedBy core a v = countBelow (hasTuple coreLayout CoreReceive core v) a
 
 module _ (core : List ℕ) (a : ℕ) (port : Port) (v : List ℕ) where
-  core-one : active coreLayout core a ≡ true → count (hasTuple coreLayout port core v) (a + 1) ≡ count (hasTuple coreLayout port core v) a + one v (tupleOf port (row coreLayout core a))
+  core-one : active coreLayout core a ≡ true → countBelow (hasTuple coreLayout port core v) (a + 1) ≡ countBelow (hasTuple coreLayout port core v) a + one v (tupleOf port (row coreLayout core a))
   unfolding hasTuple one
   core-one e = go (wordsTest v (tupleOf port (row coreLayout core a))) refl
     where
       go : (b : Bool) → wordsTest v (tupleOf port (row coreLayout core a)) ≡ b →
-          count (hasTuple coreLayout port core v) (a + 1) ≡ count (hasTuple coreLayout port core v) a + pick b 1 0
+          countBelow (hasTuple coreLayout port core v) (a + 1) ≡ countBelow (hasTuple coreLayout port core v) a + pick b 1 0
       go true z = count-more (hasTuple coreLayout port core v) a (rw (e, z))
       go false z = count-skip (hasTuple coreLayout port core v) a (rw (e, z)) ∙ omega arith
 
-  core-none : active coreLayout core a ≡ false → count (hasTuple coreLayout port core v) (a + 1) ≡ count (hasTuple coreLayout port core v) a
+  core-none : active coreLayout core a ≡ false → countBelow (hasTuple coreLayout port core v) (a + 1) ≡ countBelow (hasTuple coreLayout port core v) a
   unfolding hasTuple
   core-none e = count-skip (hasTuple coreLayout port core v) a (rw e)
 
@@ -175,7 +175,7 @@ nr-none n c e = sym (ap (λ (k : ℕ). n * k) e ∙ omega arith)
 
 -- the rows of the chains of the first a core rows
 abbrev TakenTo : ℕ → List ℕ → List ℕ → ℕ → Type 0
-TakenTo nr core round a = Taken core round (24 * a) (nr * count (active coreLayout core) a) (sentBy nr core a) (receivedBy core a)
+TakenTo nr core round a = Taken core round (24 * a) (nr * countBelow (active coreLayout core) a) (sentBy nr core a) (receivedBy core a)
 
 module _ (nr : ℕ) (few : nr ≤ 24) (core round : List ℕ) (apart : DistinctTimestamps coreLayout core) (a : ℕ) (on : Active coreLayout core a) where
   here : List ℕ
@@ -244,9 +244,9 @@ module _ (nr : ℕ) (few : nr ≤ 24) (core round : List ℕ) (apart : DistinctT
   unfolding owedBy
   chain-taken h t =
       let e = is-active coreLayout core on in
-      taken-as core round (24 * a + (24 - nr + nr)) (24 * (a + 1)) (nr * count (active coreLayout core) a + nr) (nr * count (active coreLayout core) (a + 1)) _ _ _ _
+      taken-as core round (24 * a + (24 - nr + nr)) (24 * (a + 1)) (nr * countBelow (active coreLayout core) a + nr) (nr * countBelow (active coreLayout core) (a + 1)) _ _ _ _
       (omega arith) (nr-more _ _ _ (count-more (active coreLayout core) a e)) (λ v. omega (arith, core-one core a CoreReceive v e, ap (one v) (h .received)))
-      (linked (nr * count (active coreLayout core) a) nr (At (h .last)) (omega arith) (h .linked) t .0)
+      (linked (nr * countBelow (active coreLayout core) a) nr (At (h .last)) (omega arith) (h .linked) t .0)
 
 -- ---- all of them
 module _ (nr : ℕ) (few : nr ≤ 24) (core round : List ℕ) (apart : DistinctTimestamps coreLayout core) (c : Chained nr core round) where
@@ -259,7 +259,7 @@ module _ (nr : ℕ) (few : nr ≤ 24) (core round : List ℕ) (apart : DistinctT
 
   taken-to : (a : ℕ) → a ≤ rows coreLayout core → TakenTo nr core round a
   taken-to zero l =
-      taken-as core round 0 (24 * 0) 0 (nr * count (active coreLayout core) 0) (λ v. 0) (λ v. 0) _ _ (omega arith) (nr-none _ _ (count-start (active coreLayout core)))
+      taken-as core round 0 (24 * 0) 0 (nr * countBelow (active coreLayout core) 0) (λ v. 0) (λ v. 0) _ _ (omega arith) (nr-none _ _ (count-start (active coreLayout core)))
       (λ v. omega (arith, count-start (hasTuple coreLayout (CoreSend nr) core v), count-start (hasTuple coreLayout CoreReceive core v))) (taken-start core round (λ v. 0) (λ v. 0) (λ v. refl))
   taken-to (suc a) l = subst (TakenTo nr core round) (add-one a) (core-taken a (omega arith) (taken-to a (omega arith)) (active coreLayout core a) refl)
 
@@ -271,7 +271,7 @@ module _ (nr : ℕ) (few : nr ≤ 24) (core round : List ℕ) (apart : DistinctT
   all-taken = count-full (whole .taken) (active roundLayout round) (λ r e. whole .member r e .on) (rows roundLayout round) (whole .size ∙ sym (c .number))
 
   carried : (port : Port) (v : List ℕ) →
-      count (λ r. whole .taken r && has round port v r) (rows roundLayout round) ≡ count (hasTuple roundLayout port round v) (rows roundLayout round)
+      countBelow (λ r. whole .taken r && has round port v r) (rows roundLayout round) ≡ countBelow (hasTuple roundLayout port round v) (rows roundLayout round)
   unfolding hasTuple
   carried port v = count-same _ _ (rows roundLayout round) (λ r l. ap (λ (b : Bool). b && has round port v r) (all-taken r l))
 

@@ -1,4 +1,4 @@
--- What the search for an unbalanced tuple cites: the laws of verdict's Tuples and of UnevenRow by port. Assumes nothing.
+-- What the search for an unbalanced tuple cites: the laws of verdict's Tuples and of UnevenRow by port.
 --     uneven-left                       what the walk passed is even, so the counts of the other rows decide
 --     Two                               what the tables say of the two tuples of a row
 --     spot-off, spot-on, spot-early, spot-late   what a row says of the search: not active; no tuple; the first one; the second
@@ -10,7 +10,7 @@ use Prim.Native.Nat.{ℕ, _+_, _-_, _≤_, _<_}
 use native.Mathlib.Omega.{arith}
 use borrow.Author.Tests.{eqb-true, eq-eqb}
 use lib.Dec.{eqb}
-use Rattle.lists.specs.Tab.{then}
+use Rattle.lists.specs.Tab.{followedBy}
 use Rattle.lists.specs.First.{first, inRow}
 use Rattle.lists.proofs.First.{first-more, first-hit, in-none}
 use Rattle.keccak.specs.Tuples.{coreTuple}
@@ -19,7 +19,7 @@ use Rattle.lookup.specs.declared.Side.the-variants.{Sender, Receiver}
 use Rattle.verdict.specs.Kind.{rows, row, active, sent, received}
 use Rattle.verdict.specs.Verdict.{uneven, badTuple, firstUnbalanced}
 use Rattle.verdict.specs.CoreAndRound.{coreLayout, roundLayout, coreKind, roundKind}
-use Rattle.verdict.proofs.Tuples.{carried-count, core-bus, round-bus}
+use Rattle.verdict.proofs.Tuples.{active-tuples-count, core-bus, round-bus}
 use Rattle.judge_bus.proofs.UnevenRow.{two-early, two-late, two-none, bad-side, bad-other}
 use Rattle.judge_scan.specs.Spot.{spotOf}
 use Rattle.judge_scan.specs.declared.Spot.the-variants.{At}
@@ -53,10 +53,10 @@ module _ (nr : ℕ) (core round v : List ℕ) where
   uneven-left a b t u h la lb et eu =
       let c = is-counted nr Core core v a (rows coreLayout core) t la et in
       let d = is-counted nr Round round v b (rows roundLayout round) u lb eu in
-      let es = carried-count (core-bus nr) Sender core v ∙ sym (counts (core-sends nr core v) (rows coreLayout core)) in
-      let fs = carried-count round-bus Sender round v ∙ sym (counts (round-sends round v) (rows roundLayout round)) in
-      let er = carried-count (core-bus nr) Receiver core v ∙ sym (counts (core-receives nr core v) (rows coreLayout core)) in
-      let fr = carried-count round-bus Receiver round v ∙ sym (counts (round-receives round v) (rows roundLayout round)) in
+      let es = active-tuples-count (core-bus nr) Sender core v ∙ sym (counts (core-sends nr core v) (rows coreLayout core)) in
+      let fs = active-tuples-count round-bus Sender round v ∙ sym (counts (round-sends round v) (rows roundLayout round)) in
+      let er = active-tuples-count (core-bus nr) Receiver core v ∙ sym (counts (core-receives nr core v) (rows coreLayout core)) in
+      let fr = active-tuples-count round-bus Receiver round v ∙ sym (counts (round-receives round v) (rows roundLayout round)) in
       ap not (eqb-same (t .sent + u .sent) (t .received + u .received) (sent (coreKind nr) core v + sent roundKind round v) (received (coreKind nr) core v + received roundKind round v)
       (λ z. omega (arith, h v, es, fs, er, fr, c .sends, c .receives, d .sends, d .receives))
       (λ z. omega (arith, h v, es, fs, er, fr, c .sends, c .receives, d .sends, d .receives)))
@@ -108,7 +108,7 @@ module _ (nr : ℕ) (core round : List ℕ) where
 
   -- a core row's send comes first, a round row's receive
   two-of : (t : Table) → Two t
-  unfolding kindOf layoutOf firstIndex firstPort secondPort tupleOf coreTuple roundTuple then
+  unfolding kindOf layoutOf firstIndex firstPort secondPort tupleOf coreTuple roundTuple followedBy
   two-of Core =
       record {
         inside = omega arith;

@@ -8,7 +8,7 @@ use Prim.Native.Nat.{ℕ, _+_, _-_, _^_, _≤_, _<_}
 use native.Mathlib.Omega.{arith}
 use lib.ListN.{length}
 use Rattle.lists.specs.Tab.{pick, rowAt}
-use Rattle.lists.specs.First.{count}
+use Rattle.lists.specs.First.{countBelow}
 use Rattle.lists.specs.Select.{wordsTest}
 use Rattle.lists.proofs.First.{count-more, count-skip, count-le}
 use Rattle.lists.proofs.Count.{count-add}
@@ -28,31 +28,31 @@ use Rattle.judge_links.specs.declared.Counts.{Counts}
 -- ---- the counts
 -- a count from an index on
 module _ (t : ℕ → Bool) (from : ℕ) where
-  pub from-more : (n m i : ℕ) → m ≡ n + 1 → n + count t from ≡ count t i → t i ≡ true → m + count t from ≡ count t (i + 1)
+  pub from-more : (n m i : ℕ) → m ≡ n + 1 → n + countBelow t from ≡ countBelow t i → t i ≡ true → m + countBelow t from ≡ countBelow t (i + 1)
   from-more n m i e h b = omega (arith, count-more t i b)
 
-  pub from-skip : (n m i : ℕ) → m ≡ n → n + count t from ≡ count t i → t i ≡ false → m + count t from ≡ count t (i + 1)
+  pub from-skip : (n m i : ℕ) → m ≡ n → n + countBelow t from ≡ countBelow t i → t i ≡ false → m + countBelow t from ≡ countBelow t (i + 1)
   from-skip n m i e h b = omega (arith, count-skip t i b)
 
-  pub from-le : (n i : ℕ) → n + count t from ≡ count t i → n ≤ i
+  pub from-le : (n i : ℕ) → n + countBelow t from ≡ countBelow t i → n ≤ i
   from-le n i h = omega (arith, count-le t i)
 
-  pub from-row : (n i : ℕ) → n + count t from ≡ count t i → pick (t i) (n + 1) n + count t from ≡ count t (i + 1)
+  pub from-row : (n i : ℕ) → n + countBelow t from ≡ countBelow t i → pick (t i) (n + 1) n + countBelow t from ≡ countBelow t (i + 1)
   from-row n i h = go (t i) refl
     where
-      go : (b : Bool) → t i ≡ b → pick b (n + 1) n + count t from ≡ count t (i + 1)
+      go : (b : Bool) → t i ≡ b → pick b (n + 1) n + countBelow t from ≡ countBelow t (i + 1)
       go true e = from-more n (n + 1) i refl h e
       go false e = from-skip n n i refl h e
 
-  pub from-is : (n : ℕ) → from ≤ n → countFrom t from n + count t from ≡ count t n
+  pub from-is : (n : ℕ) → from ≤ n → countFrom t from n + countBelow t from ≡ countBelow t n
   unfolding countFrom
   from-is n l =
-      let e : from + (n - from) ≡ n = omega arith in omega (arith, count-add t from (n - from), ap (count t) e)
+      let e : from + (n - from) ≡ n = omega arith in omega (arith, count-add t from (n - from), ap (countBelow t) e)
 
 -- the counts of the rows that send and of those that receive
 pub record Counted (f g : ℕ → Bool) (from n : ℕ) (t : Counts) : Type 0 where
-  pub sends : t .sent + count f from ≡ count f n
-  pub receives : t .received + count g from ≡ count g n
+  pub sends : t .sent + countBelow f from ≡ countBelow f n
+  pub receives : t .received + countBelow g from ≡ countBelow g n
 
 module _ (f g : ℕ → Bool) (from : ℕ) where
   pub counts-start : Counted f g from from (record { sent = 0; received = 0 })

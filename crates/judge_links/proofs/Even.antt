@@ -1,4 +1,4 @@
--- What the chains, the walk and the counts on the Keccak bus cite. Assumes nothing.
+-- What the chains, the walk and the counts on the Keccak bus cite.
 --     row-wide          a row is as long as its tuples need
 --     linked            what the code compares is what the rows send and receive
 --     on-at, on-nowhere, on-found   what follows from the answer of a search
@@ -9,8 +9,8 @@ use mathlib.Core.List.{List}
 use Prim.Native.Nat.{ℕ, _-_, _≤_, _<_}
 use native.Mathlib.Omega.{arith}
 use lib.ListN.{length}
-use Rattle.lists.specs.Tab.{then, rowAt}
-use Rattle.lists.specs.First.{count}
+use Rattle.lists.specs.Tab.{followedBy, rowAt}
+use Rattle.lists.specs.First.{countBelow}
 use Rattle.lists.proofs.Laws.{length-rowAt}
 use Rattle.lists.proofs.Tests.{true-not-false}
 use Rattle.lists.specs.declared.Place.{Place}
@@ -20,7 +20,7 @@ use Rattle.keccak.specs.Tuples.{coreTuple}
 use Rattle.keccak_rnd.specs.Tuples.{roundTuple}
 use Rattle.verdict.specs.Kind.{rows}
 use Rattle.verdict.specs.CoreAndRound.{coreLayout, roundLayout, coreKind, roundKind}
-use Rattle.verdict.proofs.Tuples.{carriesAt, core-bus, round-bus}
+use Rattle.verdict.proofs.Tuples.{activeTupleAt, core-bus, round-bus}
 use Rattle.judge_links.proofs.Walk.{EvenTo}
 use Rattle.judge_tuples.specs.Port.{tupleOf, widthOf}
 use Rattle.judge_tuples.specs.declared.Port.{Port}
@@ -76,24 +76,24 @@ pub at-same : {k j : ℕ} → At k ≡ At j → k ≡ j
 at-same e = cc
 
 -- ---- the tuples of the two kinds by port
-pub core-sends : (nr : ℕ) (core v : List ℕ) → hasTuple coreLayout (CoreSend nr) core v ≡ carriesAt (coreKind nr) 2 core v
-unfolding hasTuple carriesAt tupleOf coreTuple then
+pub core-sends : (nr : ℕ) (core v : List ℕ) → hasTuple coreLayout (CoreSend nr) core v ≡ activeTupleAt (coreKind nr) 2 core v
+unfolding hasTuple activeTupleAt tupleOf coreTuple followedBy
 core-sends nr core v = refl
 
-pub core-receives : (nr : ℕ) (core v : List ℕ) → hasTuple coreLayout CoreReceive core v ≡ carriesAt (coreKind nr) 3 core v
-unfolding hasTuple carriesAt tupleOf coreTuple then
+pub core-receives : (nr : ℕ) (core v : List ℕ) → hasTuple coreLayout CoreReceive core v ≡ activeTupleAt (coreKind nr) 3 core v
+unfolding hasTuple activeTupleAt tupleOf coreTuple followedBy
 core-receives nr core v = refl
 
-pub round-sends : (round v : List ℕ) → hasTuple roundLayout RoundSend round v ≡ carriesAt roundKind 1 round v
-unfolding hasTuple carriesAt tupleOf roundTuple then
+pub round-sends : (round v : List ℕ) → hasTuple roundLayout RoundSend round v ≡ activeTupleAt roundKind 1 round v
+unfolding hasTuple activeTupleAt tupleOf roundTuple followedBy
 round-sends round v = refl
 
-pub round-receives : (round v : List ℕ) → hasTuple roundLayout RoundReceive round v ≡ carriesAt roundKind 0 round v
-unfolding hasTuple carriesAt tupleOf roundTuple then
+pub round-receives : (round v : List ℕ) → hasTuple roundLayout RoundReceive round v ≡ activeTupleAt roundKind 0 round v
+unfolding hasTuple activeTupleAt tupleOf roundTuple followedBy
 round-receives round v = refl
 
-pub counts : {f g : ℕ → Bool} → f ≡ g → (n : ℕ) → count f n ≡ count g n
-counts e n = ap (λ (f : ℕ → Bool). count f n) e
+pub counts : {f g : ℕ → Bool} → f ≡ g → (n : ℕ) → countBelow f n ≡ countBelow g n
+counts e n = ap (λ (f : ℕ → Bool). countBelow f n) e
 
 module _ (nr : ℕ) (core round : List ℕ) (a b : ℕ) where
   pub even-to : Even nr core round a b → EvenTo (core-bus nr) round-bus core round a b

@@ -5,7 +5,7 @@ use mathlib.Core.Bool.{Bool}
 use mathlib.Core.List.{List}
 use Prim.Native.Nat.{ℕ, _+_, _-_}
 use Rattle.lists.specs.Tab.{pick}
-use Rattle.lists.specs.First.{count}
+use Rattle.lists.specs.First.{countBelow}
 use Rattle.verdict.specs.declared.Table.{Table}
 use Rattle.verdict.specs.declared.Table.the-variants.{Core, Round}
 use Rattle.judge_scan.specs.Tables.{layoutOf}
@@ -32,7 +32,7 @@ withRow t sends receives =
 
 -- how many indexes from `from` on and before n pass a test
 unfoldable pub countFrom : (ℕ → Bool) → ℕ → ℕ → ℕ
-countFrom f from n = count (λ k. f (from + k)) (n - from)
+countFrom f from n = countBelow (λ k. f (from + k)) (n - from)
 
 -- how many active rows from `from` on and before n send the tuple v, and how many receive it
 unfoldable pub countsTo : ℕ → Table → List ℕ → List ℕ → ℕ → ℕ → Counts

@@ -6,7 +6,7 @@ use mathlib.Core.Path.{_≡_}
 use mathlib.Core.Bool.{Bool, _&&_}
 use mathlib.Core.List.{List}
 use Prim.Native.Nat.{ℕ, _+_, _<_}
-use Rattle.lists.specs.First.{count}
+use Rattle.lists.specs.First.{countBelow}
 use Rattle.lists.specs.declared.Place.{Place}
 use Rattle.lists.specs.declared.Place.the-variants.{At, Nowhere}
 use Rattle.lists.specs.Select.{wordsTest}
@@ -23,8 +23,8 @@ hasTuple A port ws v r = active A ws r && wordsTest v (tupleOf port (row A ws r)
 -- each tuple is sent as often as received by the first a core rows and the first b round rows
 unfoldable pub Even : ℕ → List ℕ → List ℕ → ℕ → ℕ → Type 0
 Even nr core round a b =
-    (v : List ℕ) → count (hasTuple coreLayout (CoreSend nr) core v) a + count (hasTuple roundLayout RoundSend round v) b
-    ≡ count (hasTuple coreLayout CoreReceive core v) a + count (hasTuple roundLayout RoundReceive round v) b
+    (v : List ℕ) → countBelow (hasTuple coreLayout (CoreSend nr) core v) a + countBelow (hasTuple roundLayout RoundSend round v) b
+    ≡ countBelow (hasTuple coreLayout CoreReceive core v) a + countBelow (hasTuple roundLayout RoundReceive round v) b
 
 -- the tuple that is owed in the chain of core row a: what the last round row of the chain sent, or what row a sent
 unfoldable pub owedBy : ℕ → List ℕ → ℕ → List ℕ → Place → List ℕ

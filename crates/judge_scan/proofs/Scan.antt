@@ -1,4 +1,4 @@
--- What a scan over rows cites, where a row is handed on as a part of the slice. Assumes nothing.
+-- What a scan over rows cites, where a row is handed on as a part of the slice.
 --     spot-at, spot-nowhere   what the answer of a scan says
 --     layout-is, mu-is, wide   the layouts of the two tables: the same for each number of rounds, and MU is the last word
 --     ends-as, row-as, element-as, active-as, rows-as   a row of a table by its width

@@ -1,4 +1,4 @@
--- What the scan for a repeated timestamp cites: two rows compared, a row with the same timestamp, a row above all before it. Assumes nothing.
+-- What the scan for a repeated timestamp cites: two rows compared, a row with the same timestamp, a row above all before it.
 use mathlib.Core.Path.{_≡_, refl, sym, ap, ap₂, subst, _∙_}
 use mathlib.Core.Bool.{Bool, true, false}
 use mathlib.Core.List.{List}
@@ -8,7 +8,7 @@ use native.Mathlib.Omega.{arith}
 use borrow.Author.Tests.{ne-eqb, eq-eqb, le-leb, lt-leb, leb-true, leb-false, ltb-true, ltb-false}
 use lib.Dec.{eqb, leb, ltb}
 use Rattle.lists.specs.Tab.{word}
-use Rattle.lists.specs.First.{first, atIndex, any}
+use Rattle.lists.specs.First.{first, atIndex, anyBelow}
 use Rattle.lists.proofs.First.{first-start, at-more}
 use Rattle.lists.proofs.Laws.{word-rowAt}
 use Rattle.verdict.specs.Kind.{row, active, sameStamp}
@@ -38,7 +38,7 @@ module _ (core : List ℕ) where
   unfolding sameStampAt
   same-stamp-on r q x y b e ex ey h = rw (e, sym ((λ i. sameStamp (ex i) (ey i))) ∙ h)
 
-  pub repeats-on : (r : ℕ) (b : Bool) → active coreLayout core r ≡ true → any (sameStampAt coreLayout core r) r ≡ b →
+  pub repeats-on : (r : ℕ) (b : Bool) → active coreLayout core r ≡ true → anyBelow (sameStampAt coreLayout core r) r ≡ b →
       repeats coreLayout core r ≡ b
   unfolding repeats
   repeats-on r b e h = rw (e, h)
@@ -107,7 +107,7 @@ module _ (core : List ℕ) where
 
     -- one that is not above them, and is looked for among them
     pub new-below : (low high : ℕ) → low ≡ word core (a * 486) → high ≡ word core (a * 486 + 1) → exceeds s high low ≡ false →
-        t ≡ s → active coreLayout core a ≡ true → any (sameStampAt coreLayout core a) a ≡ false → New core (a + 1) t
+        t ≡ s → active coreLayout core a ≡ true → anyBelow (sameStampAt coreLayout core a) a ≡ false → New core (a + 1) t
     unfolding exceeds
     new-below low high el eh x q e v =
         let k = key-is core a low high el eh in

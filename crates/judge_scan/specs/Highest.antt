@@ -1,4 +1,4 @@
--- The highest timestamp of the active rows that a scan has passed. Assumes nothing.
+-- The highest timestamp of the active rows that a scan has passed.
 use mathlib.Core.Bool.{Bool}
 use Prim.Native.Nat.{ℕ, _+_, _*_, _^_}
 use lib.Dec.{leb}

@@ -8,7 +8,7 @@ ghost use mathlib.Core.Path.{_≡_};
 ghost use Prim.Native.Nat.{_≤_, _<_};
 ghost use lib.ListN.{length};
 ghost use Rattle.lists.specs.Tab.{rowAt};
-ghost use Rattle.lists.specs.First.{any, placeOf};
+ghost use Rattle.lists.specs.First.{anyBelow, placeOf};
 ghost use Rattle.verdict.specs.Kind.{rows, active, actives, sameStamp};
 ghost use Rattle.verdict.specs.Verdict.{sameStampAt, firstRepeat};
 ghost use Rattle.verdict.specs.CoreAndRound.{coreLayout};
@@ -81,7 +81,7 @@ pub fn same_stamp(x: &[u64], y: &[u64]) -> bool
 // Whether an earlier active row has the timestamp of row r.
 fn has_same_stamp(core: &[u64], r: usize) -> bool
     requires { ⌜ r < rows coreLayout (now core) ⌝ }
-    ensures { λ b. ⌜ b ≡ any (sameStampAt coreLayout (now (core .entry)) r) r ⌝ }
+    ensures { λ b. ⌜ b ≡ anyBelow (sameStampAt coreLayout (now (core .entry)) r) r ⌝ }
 {
     let y = row_at(core, Table::Core, r);
     let mut q = 0;

@@ -1,5 +1,5 @@
 -- A Keccak tuple is known by its timestamp, its round and the columns of its state, so two are the same exactly where
--- these are. Assumes nothing.
+-- these are.
 use mathlib.Core.Path.{_≡_, refl, sym, ap, ap₂, subst, _∙_}
 use mathlib.Core.Bool.{Bool, true, false, not, _&&_}
 use mathlib.Core.List.{List}
@@ -9,7 +9,7 @@ use borrow.Author.Tests.{eqb-true, eq-eqb, lt-ltb, le-ltb, not-true, not-false, 
 use lib.Dec.{T, eqb, ltb}
 use lib.ListN.{getD}
 use Rattle.lists.specs.Tab.{word, pick, tab}
-use Rattle.lists.specs.First.{any}
+use Rattle.lists.specs.First.{anyBelow}
 use Rattle.lists.specs.Select.{wordsTest}
 use Rattle.lists.proofs.First.{any-clear, any-nothing}
 use Rattle.lists.proofs.Tests.{T-of, and-true, true-and}
@@ -141,7 +141,7 @@ module _ (s : Port) (x : List ℕ) (q : Port) (y : List ℕ) where
   columns-words : sameState s x q y ≡ true → SameWords
   unfolding sameState wordsDiffer
   columns-words e k l =
-      let b = and-true (not (any (wordsDiffer x (laneAt s) y (laneAt q)) 8)) (not (any (wordsDiffer x (restAt s + 8) y (restAt q + 8)) 192)) e in
+      let b = and-true (not (anyBelow (wordsDiffer x (laneAt s) y (laneAt q)) 8)) (not (anyBelow (wordsDiffer x (restAt s + 8) y (restAt q + 8)) 192)) e in
       by-le 8 k
       (λ g.
       let z : restAt s + k ≡ restAt s + 8 + (k - 8) = omega arith in
@@ -186,16 +186,16 @@ module _ (s : Port) (x : List ℕ) (q : Port) (y : List ℕ) where
     by-state z = sym (tuple-test ∙ rw (e, eq-eqb (roundOf s x) (roundOf q y) (sym ea ∙ z ∙ eb)))
 
   -- the states, likewise: the first lane, then the others
-  module _ (i j : ℕ) (ei : i ≡ laneAt s) (ej : j ≡ laneAt q) (b : Bool) (eb : b ≡ not (any (wordsDiffer x i y j) 8)) where
-    first-lane : b ≡ not (any (wordsDiffer x (laneAt s) y (laneAt q)) 8)
-    first-lane = eb ∙ ap₂ (λ (i j : ℕ). not (any (wordsDiffer x i y j) 8)) ei ej
+  module _ (i j : ℕ) (ei : i ≡ laneAt s) (ej : j ≡ laneAt q) (b : Bool) (eb : b ≡ not (anyBelow (wordsDiffer x i y j) 8)) where
+    first-lane : b ≡ not (anyBelow (wordsDiffer x (laneAt s) y (laneAt q)) 8)
+    first-lane = eb ∙ ap₂ (λ (i j : ℕ). not (anyBelow (wordsDiffer x i y j) 8)) ei ej
 
     pub lane-apart : b ≡ false → false ≡ sameState s x q y
     unfolding sameState
     lane-apart z = sym (rw (sym first-lane ∙ z))
 
-    pub by-rest : b ≡ true → (m n : ℕ) (c : Bool) → m ≡ restAt s + 8 → n ≡ restAt q + 8 → c ≡ not (any (wordsDiffer x m y n) 192) →
+    pub by-rest : b ≡ true → (m n : ℕ) (c : Bool) → m ≡ restAt s + 8 → n ≡ restAt q + 8 → c ≡ not (anyBelow (wordsDiffer x m y n) 192) →
         c ≡ sameState s x q y
     unfolding sameState
     by-rest z m n c em en ec =
-        ec ∙ ap₂ (λ (i j : ℕ). not (any (wordsDiffer x i y j) 192)) em en ∙ sym (rw (sym first-lane ∙ z))
+        ec ∙ ap₂ (λ (i j : ℕ). not (anyBelow (wordsDiffer x i y j) 192)) em en ∙ sym (rw (sym first-lane ∙ z))

@@ -5,7 +5,7 @@ use mathlib.Core.List.{List}
 use Prim.Native.Nat.{ℕ, _+_, _-_}
 use lib.Dec.{eqb}
 use Rattle.lists.specs.Tab.{word}
-use Rattle.lists.specs.First.{any}
+use Rattle.lists.specs.First.{anyBelow}
 use Rattle.field.specs.Field.{fadd}
 use Rattle.keccak.specs.Columns as core
 use Rattle.keccak.specs.Tuples.{coreSent, coreReceived}
@@ -61,4 +61,4 @@ wordsDiffer a i b j k = not (eqb (word a (i + k)) (word b (j + k)))
 -- whether the states of two tuples have the same words, by their columns
 unfoldable pub sameState : Port → List ℕ → Port → List ℕ → Bool
 sameState s x q y =
-    not (any (wordsDiffer x (laneAt s) y (laneAt q)) 8) && not (any (wordsDiffer x (restAt s + 8) y (restAt q + 8)) 192)
+    not (anyBelow (wordsDiffer x (laneAt s) y (laneAt q)) 8) && not (anyBelow (wordsDiffer x (restAt s + 8) y (restAt q + 8)) 192)

@@ -7,7 +7,7 @@ ghost use mathlib.Core.Path.{_≡_};
 ghost use mathlib.Core.Bool.{not};
 ghost use Prim.Native.Nat.{_+_, _-_, _≤_};
 ghost use lib.ListN.{length};
-ghost use Rattle.lists.specs.First.{any};
+ghost use Rattle.lists.specs.First.{anyBelow};
 ghost use Rattle.lists.specs.Select.{wordsTest};
 ghost use Rattle.field.specs.Field.{fadd};
 ghost use Rattle.judge_tuples.specs.Port.{widthOf, laneAt, restAt, roundOf, tupleOf, wordsDiffer, sameState};
@@ -83,7 +83,7 @@ fn round_of(row: &[u64], port: Port) -> u64
 // Whether the n words of a from i on are those of b from j on.
 fn same_words(a: &[u64], i: usize, b: &[u64], j: usize, n: usize) -> bool
     requires { ⌜ (i + n ≤ length (now a)) × (j + n ≤ length (now b)) ⌝ }
-    ensures { λ r. ⌜ r ≡ not (any (wordsDiffer (now (a .entry)) i (now (b .entry)) j) n) ⌝ }
+    ensures { λ r. ⌜ r ≡ not (anyBelow (wordsDiffer (now (a .entry)) i (now (b .entry)) j) n) ⌝ }
 {
     let mut k = 0;
     while k < n {

@@ -7,7 +7,7 @@ use mathlib.Core.Bool.{Bool, true, false}
 use mathlib.Core.List.{List}
 use Prim.Native.Nat.{ℕ, zero, suc, _+_, _-_, _≤_, _<_}
 use native.Mathlib.Omega.{arith}
-use Rattle.lists.specs.Tab.{pick, then}
+use Rattle.lists.specs.Tab.{pick, followedBy}
 use Rattle.lists.proofs.Tests.{T-of}
 use Rattle.lists.specs.declared.Place.{Place}
 use Rattle.lists.specs.declared.Place.the-variants.{At, Nowhere}
@@ -44,7 +44,7 @@ pub record Owed (nr : ℕ) (core round : List ℕ) (a b q : ℕ) (last : Place) 
 
 module _ (nr : ℕ) (core round : List ℕ) (a b : ℕ) where
   pub owed-start : active coreLayout core a ≡ true → Owed nr core round a b b Nowhere
-  unfolding Started owedBy tupleOf coreTuple then
+  unfolding Started owedBy tupleOf coreTuple followedBy
   owed-start e = record { started = tt; owing = λ h. owe-start (core-bus nr) round-bus core round a b _ e refl (even-to nr core round a b h) }
 
   module _ (q : ℕ) (last : Place) (o : Owed nr core round a b q last) where
@@ -58,7 +58,7 @@ module _ (nr : ℕ) (core round : List ℕ) (a b : ℕ) where
     module _ (l : q < rows roundLayout round) (e : active roundLayout round q ≡ true)
         (t : wordsTest (owedBy nr core a round last) (tupleOf RoundReceive (row roundLayout round q)) ≡ true) where
       step : Even nr core round a b → OwingTo (core-bus nr) round-bus core round a (q + 1) (tupleOf RoundSend (row roundLayout round q))
-      unfolding tupleOf roundTuple then
+      unfolding tupleOf roundTuple followedBy
       step h = owe-step (core-bus nr) round-bus core round a q _ _ e (sym (words-sound _ _ (T-of _ t))) refl (o .owing h)
 
       pub owed-step : (next : Place) → next ≡ At q → Owed nr core round a b (q + 1) next
@@ -68,7 +68,7 @@ module _ (nr : ℕ) (core round : List ℕ) (a b : ℕ) where
       pub owed-end : active coreLayout core a ≡ true →
           wordsTest (tupleOf RoundSend (row roundLayout round q)) (tupleOf CoreReceive (row coreLayout core a)) ≡ true →
           (q + 1 ≤ rows roundLayout round) × (Even nr core round a b → Even nr core round (a + 1) (q + 1))
-      unfolding tupleOf coreTuple then
+      unfolding tupleOf coreTuple followedBy
       owed-end f g =
           (omega arith, λ h. to-even nr core round (a + 1) (q + 1) (owe-end (core-bus nr) round-bus core round a (q + 1) (q + 1) _ f (words-sound _ _ (T-of _ g)) refl (step h)))
 

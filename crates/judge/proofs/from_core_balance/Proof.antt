@@ -1,4 +1,4 @@
--- `judge::from_core_balance` meets its contract: chains balance, or else a tuple is found, or none. Assumes nothing.
+-- `judge::from_core_balance` meets its contract: chains balance, or else a tuple is found, or none.
 use mathlib.Core.Path.{sym, ap, _∙_}
 use borrow.Author.Needs.{needs}
 use Rattle.verdict.specs.Verdict.{fromCoreBalance, fromRoundBalance}

@@ -1,4 +1,4 @@
--- `judge::from_core_value` meets its contract, one stage after the other. Assumes nothing.
+-- `judge::from_core_value` meets its contract, one stage after the other.
 use mathlib.Core.Path.{sym, _∙_}
 use borrow.Author.Needs.{needs}
 use Rattle.lists.proofs.First.{place-at, place-nowhere}

@@ -1,4 +1,4 @@
--- `judge::from_round_balance` meets its contract: a tuple is found, or none. Assumes nothing.
+-- `judge::from_round_balance` meets its contract: a tuple is found, or none.
 use mathlib.Core.Path.{sym, ap, _∙_}
 use borrow.Author.Needs.{needs}
 use Rattle.verdict.specs.Verdict.{fromRoundBalance}

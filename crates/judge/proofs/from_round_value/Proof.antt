@@ -1,4 +1,4 @@
--- `judge::from_round_value` meets its contract, one stage after the other. Assumes nothing.
+-- `judge::from_round_value` meets its contract, one stage after the other.
 use mathlib.Core.Path.{sym, _∙_}
 use borrow.Author.Needs.{needs}
 use Rattle.verdict.specs.Verdict.{fromRoundValue, fromRoundLookup}

@@ -1,4 +1,4 @@
--- `judge::verdict` meets its contract: whole rows, then field elements, then the stages on rows. Assumes nothing.
+-- `judge::verdict` meets its contract: whole rows, then field elements, then the stages on rows.
 use mathlib.Core.Path.{sym, _∙_}
 use native.Mathlib.Omega.{arith}
 use borrow.Author.Needs.{needs}

@@ -1,4 +1,4 @@
--- `judge_chains::around` meets its contract: below twice n one subtraction is the remainder. Assumes nothing.
+-- `judge_chains::around` meets its contract: below twice n one subtraction is the remainder.
 use mathlib.Core.Path.{sym}
 use native.Mathlib.Nat.{mod-eq-of-lt}
 use Rattle.judge_chains.proofs.Next.{rest-of}

@@ -1,4 +1,4 @@
--- `judge_links::add` meets its contract. Assumes nothing.
+-- `judge_links::add` meets its contract.
 use Rattle.judge_links.proofs.Counting.{with-row}
 use Rattle.judge_links.proofs.add.Statement.{statement}
 use Rattle.judge_links.proofs.add.Tie as tie

@@ -1,4 +1,4 @@
--- `judge_links::ends` meets its contract: the two slices are the two rows. Assumes nothing.
+-- `judge_links::ends` meets its contract: the two slices are the two rows.
 use mathlib.Core.Path.{refl}
 use native.Mathlib.Nat.{le-refl}
 use Rattle.judge_scan.specs.Tables.{layoutOf}

@@ -1,4 +1,4 @@
--- `judge_links::plus` meets its contract. Assumes nothing.
+-- `judge_links::plus` meets its contract.
 use native.Mathlib.Omega.{arith}
 use Rattle.judge_links.proofs.Counting.{one-more, no-more}
 use Rattle.judge_links.proofs.plus.Statement.{statement}

@@ -1,4 +1,4 @@
--- `judge_links::takes` meets its contract, arm by arm. Assumes nothing.
+-- `judge_links::takes` meets its contract, arm by arm.
 use mathlib.Core.Path.{ap}
 use native.Mathlib.Nat.{le-refl}
 use borrow.Author.Needs.{needs}

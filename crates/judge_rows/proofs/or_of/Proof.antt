@@ -1,4 +1,4 @@
--- `judge_rows::or_of` meets its contract: after i turns it is the OR of the first i. Assumes nothing.
+-- `judge_rows::or_of` meets its contract: after i turns it is the OR of the first i.
 use mathlib.Core.Path.{_≡_}
 use Prim.Native.Nat.{_-_, _≤_}
 use lib.ListN.{length}

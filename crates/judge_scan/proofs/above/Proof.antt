@@ -1,4 +1,4 @@
--- `judge_scan::above` meets its contract: the high words decide, then the low ones. Assumes nothing.
+-- `judge_scan::above` meets its contract: the high words decide, then the low ones.
 use native.Mathlib.Omega.{arith}
 use borrow.Author.Tests.{not-true, not-false}
 use Rattle.judge_scan.proofs.Stamps.{above-none, above-high, above-low}

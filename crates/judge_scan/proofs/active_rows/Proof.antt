@@ -4,7 +4,7 @@ use mathlib.Core.Logic.{⊎-elim}
 use Prim.Native.Nat.{_≤_, _-_}
 use native.Mathlib.Omega.{arith}
 use denote.Ref.{now}
-use Rattle.lists.specs.First.{count}
+use Rattle.lists.specs.First.{countBelow}
 use Rattle.lists.proofs.First.{count-start, counted-more, counted-skip, counted-le, count-end}
 use Rattle.verdict.specs.Kind.{active}
 use Rattle.judge_scan.specs.Tables.{layoutOf}
@@ -13,7 +13,7 @@ use Rattle.judge_scan.proofs.active_rows.Statement.{statement}
 use Rattle.judge_scan.proofs.active_rows.Tie as tie
 
 abbrev Inv-loop : tie.InvT-loop
-Inv-loop words table width rows n₀ row₀ n row = (row ≤ rows) × (n ≡ count (active (layoutOf table) words) row)
+Inv-loop words table width rows n₀ row₀ n row = (row ≤ rows) × (n ≡ countBelow (active (layoutOf table) words) row)
 
 abbrev μ-loop : tie.MeasureT-loop
 μ-loop words table width rows n₀ row₀ n row = rows - row

@@ -1,4 +1,4 @@
--- `judge_scan::first_repeat` meets its contract: no row so far repeats, and the active ones have timestamps of at most the highest. Assumes nothing.
+-- `judge_scan::first_repeat` meets its contract: no row so far repeats, and the active ones have timestamps of at most the highest.
 use mathlib.Core.Path.{refl, ap, sym, _∙_}
 use mathlib.Core.Logic.{⊎-elim}
 use Prim.Native.Nat.{_≤_, _-_}

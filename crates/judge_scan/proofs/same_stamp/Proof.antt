@@ -1,4 +1,4 @@
--- `judge_scan::same_stamp` meets its contract: the low words decide, then the high ones. Assumes nothing.
+-- `judge_scan::same_stamp` meets its contract: the low words decide, then the high ones.
 use native.Mathlib.Omega.{arith}
 use Rattle.judge_scan.proofs.Stamps.{low-apart, by-high}
 use Rattle.judge_scan.proofs.same_stamp.Statement.{statement}

@@ -1,4 +1,4 @@
--- `judge_tuples::round_of` meets its contract, arm by arm. Assumes nothing.
+-- `judge_tuples::round_of` meets its contract, arm by arm.
 use mathlib.Core.Path.{ap, _∙_}
 use native.Mathlib.Omega.{arith}
 use borrow.Author.Needs.{needs}
