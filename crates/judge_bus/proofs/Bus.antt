@@ -2,23 +2,21 @@
 --     uneven-left                       what the walk passed is even, so the counts of the other rows decide
 --     Two                               what the tables say of the two tuples of a row
 --     spot-off, spot-on, spot-early, spot-late   what a row says of the search: not active; no tuple; the first one; the second
-use mathlib.Core.Path.{_≡_, refl, sym, ap, subst, _∙_}
-use mathlib.Core.Logic.{⊎-elim, inl, inr}
+use mathlib.Core.Path.{_≡_, refl, sym, ap, _∙_}
 use mathlib.Core.Bool.{Bool, true, false, not, _&&_}
 use mathlib.Core.Option.{Option, none, some}
 use mathlib.Core.List.{List}
-use Prim.Native.Nat.{ℕ, _+_, _-_, _/_, _≤_, _<_}
+use Prim.Native.Nat.{ℕ, _+_, _-_, _≤_, _<_}
 use native.Mathlib.Omega.{arith}
-use borrow.Author.Tests.{eqb-true, eq-eqb, ne-eqb}
+use borrow.Author.Tests.{eqb-true, eq-eqb}
 use lib.Dec.{eqb}
-use lib.ListN.{length}
-use Rattle.lists.specs.Tab.{followedBy, word, rowAt}
+use Rattle.lists.specs.Tab.{followedBy}
 use Rattle.lists.specs.First.{first, inRow}
 use Rattle.lists.proofs.First.{first-more, first-hit, in-none}
 use Rattle.keccak.specs.Tuples.{coreTuple}
 use Rattle.keccak_rnd.specs.Tuples.{roundTuple}
 use Rattle.lookup.specs.declared.Side.the-variants.{Sender, Receiver}
-use Rattle.verdict.specs.Kind.{rows, row, active, isActive, sent, received}
+use Rattle.verdict.specs.Kind.{rows, row, active, sent, received}
 use Rattle.verdict.specs.Verdict.{uneven, badTuple, firstUnbalanced}
 use Rattle.verdict.specs.CoreAndRound.{coreLayout, roundLayout, coreKind, roundKind}
 use Rattle.verdict.proofs.Tuples.{active-tuples-count, core-bus, round-bus}

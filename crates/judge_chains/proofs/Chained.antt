@@ -4,26 +4,23 @@
 use mathlib.Core.Path.{_≡_, refl, sym, ap, subst, _∙_}
 use mathlib.Core.Logic.{inl, inr}
 use mathlib.Core.Bool.{Bool, true, false, _&&_}
-use mathlib.Core.Option.{some}
 use mathlib.Core.List.{List}
 use Prim.Native.Nat.{ℕ, zero, suc, _+_, _-_, _*_, _/_, _%_, _≤_, _<_}
-use native.Mathlib.Numerals.{add-one}
 use native.Mathlib.Nat.{eq-or-lt-of-le, mod-lt}
 use native.Mathlib.Omega.{arith}
 use borrow.Author.Tests.{eqb-true}
 use lib.Dec.{eqb}
 use Rattle.lists.specs.Tab.{word, pick}
-use Rattle.lists.specs.First.{firstAt, placeOf}
 use Rattle.lists.proofs.First.{at-found, place-at}
 use Rattle.lists.proofs.Tests.{T-of, and-true, true-not-false}
 use Rattle.lists.specs.declared.Place.{Place}
 use Rattle.lists.specs.declared.Place.the-variants.{At, Nowhere}
 use Rattle.lists.proofs.Select.{words-sound}
-use Rattle.verdict.specs.Kind.{rows, row, active, actives, Active}
+use Rattle.verdict.specs.Kind.{rows, row, active, actives}
 use Rattle.verdict.specs.CoreAndRound.{coreLayout, roundLayout}
 use Rattle.verdict.proofs.Judge.{is-active, active-is}
-use Rattle.judge_links.specs.Even.{takesAt, endsAt, onPlace, Started}
-use Rattle.judge_links.proofs.Even.{on-found, not-at, at-same, started-at, started-nowhere}
+use Rattle.judge_links.specs.Even.{takesAt, endsAt, onPlace}
+use Rattle.judge_links.proofs.Even.{on-found, not-at, at-same}
 use Rattle.chains.specs.Chain.{Follows, Linked, Chain, EachChain, Chained}
 use Rattle.judge_chains.specs.Search.{candidate, isNext, nextAt, nextRow, rowsFrom, chainEnd, chainsTo, everyChain}
 

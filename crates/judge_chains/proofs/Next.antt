@@ -2,8 +2,8 @@
 --     rest-of              rows counted round the end
 --     next-stamp, next-takes, next-active    the tests of a row, one after the other
 --     hit-after, hit-before, misses, no-hit  the two rows of a turn
-use mathlib.Core.Path.{_≡_, refl, sym, ap, subst, _∙_}
-use mathlib.Core.Bool.{Bool, true, false, _&&_}
+use mathlib.Core.Path.{_≡_, sym, ap, subst, _∙_}
+use mathlib.Core.Bool.{true, false}
 use mathlib.Core.Option.{none, some}
 use mathlib.Core.List.{List}
 use Prim.Native.Nat.{ℕ, _+_, _-_, _/_, _%_, _≤_, _<_}
@@ -11,14 +11,14 @@ use native.Mathlib.Nat.{mod-lt, mod-eq-of-lt, add-mod-right}
 use native.Mathlib.Omega.{arith}
 use borrow.Author.Tests.{eq-eqb, ne-eqb}
 use lib.Dec.{eqb}
-use Rattle.lists.specs.Tab.{word, pick}
+use Rattle.lists.specs.Tab.{word}
 use Rattle.lists.specs.First.{first, atIndex, firstAt, placeOf}
 use Rattle.lists.proofs.First.{at-more, at-hit, at-none}
 use Rattle.lists.specs.declared.Place.{Place}
 use Rattle.lists.specs.declared.Place.the-variants.{At, Nowhere}
 use Rattle.verdict.specs.Kind.{rows, row, active}
 use Rattle.verdict.specs.CoreAndRound.{coreLayout, roundLayout}
-use Rattle.judge_links.specs.Even.{takesAt, onPlace}
+use Rattle.judge_links.specs.Even.{takesAt}
 use Rattle.judge_links.proofs.Even.{on-at, on-nowhere}
 use Rattle.judge_chains.specs.Search.{candidate, isNext, nextAt, nextRow}
 

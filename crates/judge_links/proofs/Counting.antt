@@ -4,11 +4,10 @@
 use mathlib.Core.Path.{_≡_, refl, sym, ap, subst, _∙_}
 use mathlib.Core.Bool.{Bool, true, false, _&&_}
 use mathlib.Core.List.{List}
-use Prim.Native.Nat.{ℕ, _+_, _-_, _/_, _^_, _≤_, _<_}
+use Prim.Native.Nat.{ℕ, _+_, _-_, _^_, _≤_, _<_}
 use native.Mathlib.Omega.{arith}
-use lib.Dec.{eqb}
 use lib.ListN.{length}
-use Rattle.lists.specs.Tab.{pick, word, rowAt}
+use Rattle.lists.specs.Tab.{pick, rowAt}
 use Rattle.lists.specs.First.{countBelow}
 use Rattle.lists.specs.Select.{wordsTest}
 use Rattle.lists.proofs.First.{count-more, count-skip, count-le}
@@ -21,7 +20,6 @@ use Rattle.judge_scan.specs.Tables.{layoutOf}
 use Rattle.judge_scan.proofs.Scan.{row-long, rows-small}
 use Rattle.judge_tuples.specs.Port.{tupleOf, tableOf, widthOf}
 use Rattle.judge_tuples.specs.declared.Port.{Port}
-use Rattle.judge_tuples.specs.declared.Port.the-variants.{CoreSend, CoreReceive, RoundReceive, RoundSend}
 use Rattle.judge_tuples.proofs.Ports.{stamp-apart}
 use Rattle.judge_links.specs.Even.{hasTuple}
 use Rattle.judge_links.specs.Counting.{sentBy, receivedBy, withRow, countFrom, countsTo}

@@ -22,7 +22,7 @@ use Rattle.judge_links.proofs.Walk.{OwingTo, even-start, even-skip, even-rest, 
 use Rattle.judge_tuples.specs.Port.{tupleOf}
 use Rattle.judge_tuples.specs.declared.Port.the-variants.{CoreReceive, RoundReceive, RoundSend}
 use Rattle.judge_links.specs.Even.{Even, owedBy, takesAt, endsAt, onPlace, Started}
-use Rattle.judge_walk.specs.Walk.{chainTo, chainFrom, activeTo, activeFrom, walkTo, skipped, walked}
+use Rattle.judge_walk.specs.Walk.{chainTo, chainFrom, activeTo, walkTo, skipped, walked}
 use Rattle.judge_walk.specs.declared.Walked.{Walked}
 use Rattle.judge_links.proofs.Even.{even-to, to-even, not-at, at-same}
 

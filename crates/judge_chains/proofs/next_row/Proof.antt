@@ -1,5 +1,5 @@
 -- `judge_chains::next_row` meets its contract: none of the rows that were tried is next.
-use mathlib.Core.Path.{_≡_, sym, _∙_}
+use mathlib.Core.Path.{sym, _∙_}
 use Prim.Native.Nat.{_+_, _-_, _≤_}
 use native.Mathlib.Omega.{arith}
 use Rattle.lists.proofs.First.{first-start}

@@ -1,6 +1,5 @@
 -- `judge_links::count` meets its contract: a row that is not of the call neither sends one of the tuples nor receives it.
 use mathlib.Core.Logic.{inl, inr}
-use mathlib.Core.Path.{_∙_}
 use Prim.Native.Nat.{_≤_, _-_}
 use native.Mathlib.Omega.{arith}
 use denote.Ref.{now}

@@ -1,10 +1,8 @@
 -- `judge_links::of_call` meets its contract: the timestamps decide, then MU.
 use mathlib.Core.Path.{sym, ap, _∙_}
 use native.Mathlib.Omega.{arith}
-use denote.Ref.{now}
 use borrow.Author.Tests.{not-true, not-false}
 use Rattle.verdict.specs.Kind.{active, sameStamp, stampedAt}
-use Rattle.judge_scan.specs.Tables.{layoutOf}
 use Rattle.judge_scan.proofs.Scan.{wide, row-long}
 use Rattle.judge_links.proofs.Counting.{and-on, stamp-off}
 use Rattle.judge_links.proofs.of_call.Statement.{statement}
