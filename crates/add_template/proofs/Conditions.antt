@@ -1,4 +1,4 @@
--- A bit under a condition, by its kind. Assumes nothing.
+-- A bit under a condition, by its kind.
 use mathlib.Core.Path.{_≡_, refl, sym, ap, subst, _∙_}
 use mathlib.Core.List.{List}
 use Prim.Native.Nat.{ℕ, _%_, _<_}

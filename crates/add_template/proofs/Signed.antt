@@ -1,4 +1,4 @@
--- A signed number mod p: what stands in its bits, and -1 - v where it is negative. Assumes nothing.
+-- A signed number mod p: what stands in its bits, and -1 - v where it is negative.
 use mathlib.Core.Path.{_≡_, refl, sym, ap, _∙_, subst}
 use mathlib.Core.Bool.{true, false}
 use Prim.Native.Nat.{ℕ, suc, _-_, _≤_, _<_}

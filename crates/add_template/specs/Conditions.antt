@@ -1,4 +1,4 @@
--- What a condition asks of a row: its column is there, and its word is below p. Assumes nothing.
+-- What a condition asks of a row: its column is there, and its word is below p.
 use Prim.Native.Nat.{ℕ, _<_}
 use mathlib.Core.List.{List, [], _∷_}
 use lib.ListN.{length}

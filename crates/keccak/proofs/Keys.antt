@@ -1,4 +1,4 @@
--- The words of the keys by their place in the flat list. Assumes nothing.
+-- The words of the keys by their place in the flat list.
 use Prim.Native.Nat.{ℕ, _+_, _*_, _/_, _%_, _<_}
 use mathlib.Core.Path.{_≡_, _∙_}
 use native.Mathlib.Omega.{arith}

@@ -1,10 +1,10 @@
--- The words of a core row's tuples are 1,457: 4 × 84 and 1,121 values. Assumes nothing.
+-- The words of a core row's tuples are 1,457: 4 × 84 and 1,121 values.
 use mathlib.Core.Path.{_≡_, sym, _∙_}
 use mathlib.Core.List.{List}
 use Prim.Native.Nat.{ℕ, _/_, _%_}
 use native.Mathlib.Omega.{arith}
 use lib.ListN.{length}
-use Rattle.lists.specs.Sum.{sum}
+use Rattle.lists.specs.Sum.{sumBelow}
 use Rattle.lookup.specs.Words.{tupleWords, tuplesWords}
 use Rattle.lookup.proofs.Words.{tuples-length, words-same, words-then}
 use Rattle.keccak.specs.Tuples.{NUM-TUPLES, pointerTuple, coreTuple}
@@ -12,8 +12,8 @@ use Rattle.keccak.proofs.Tuples.{ecall-length, addr-length, sent-length, receiv
 use Rattle.keccak_interactions.specs.Words.{NUM-WORDS}
 
 -- the 50 tuples of the pointers, two values and one by turns
-pointers : (row : List ℕ) → sum 50 (λ i. length (tupleWords (pointerTuple row (i / 2) (i % 2)))) ≡ 275
-unfolding sum pointerTuple tupleWords
+pointers : (row : List ℕ) → sumBelow 50 (λ i. length (tupleWords (pointerTuple row (i / 2) (i % 2)))) ≡ 275
+unfolding sumBelow pointerTuple tupleWords
 pointers row = omega arith
 
 pub words-length : (syscall : ℕ) (row : List ℕ) → length (tuplesWords (coreTuple 24 syscall row) NUM-TUPLES) ≡ NUM-WORDS

@@ -1,11 +1,11 @@
--- The residues of a core row: a pointer's two, the tuples that need no match here, and the groups one behind the other. Assumes nothing.
+-- The residues of a core row: a pointer's two, the tuples that need no match here, and the groups one behind the other.
 use mathlib.Core.Path.{_≡_, refl, sym, ap, _∙_}
 use mathlib.Core.List.{List, [], _∷_}
 use Prim.Native.Nat.{ℕ, zero, suc, _+_, _*_, _/_, _%_, _≤_, _<_}
 use native.Mathlib.Omega.{arith}
 use lib.ListN.{length, set}
 use lib.Seq.{sets}
-use Rattle.lists.specs.Tab.{tabFrom, tab, then, word}
+use Rattle.lists.specs.Tab.{tabFrom, tab, followedBy, word}
 use Rattle.lists.proofs.Laws.{tab-same}
 use Rattle.lists.proofs.Then.{at-two}
 use Rattle.lookup.specs.Tuple.{Tuple, sender}
@@ -76,10 +76,10 @@ module _ (row : List ℕ) where
       → Marked 84 (coreTuple 24 0 row) l e
   all-stored l {a} {b} {c} {d} {e} long p q r s t =
       marked 84 (coreTuple 24 0 row) l e long
-      (stored-rest l 0 4 80 (coreTuple 24 0 row) (then 50 (λ i. pointerTuple row (i / 2) (i % 2)) (then 1 (λ i. alignTuple row) (then 4 (addrBytesTuple row) (laneMemw row))))
+      (stored-rest l 0 4 80 (coreTuple 24 0 row) (followedBy 50 (λ i. pointerTuple row (i / 2) (i % 2)) (followedBy 1 (λ i. alignTuple row) (followedBy 4 (addrBytesTuple row) (laneMemw row))))
       (λ k h. tuples-from 24 0 row 4 k)
       (p ∙ ap (sets l 0) (tab-same 4 (λ k. 0) (residues (coreTuple 24 0 row)) head-free))
-      (stored-then a 4 50 30 (λ i. pointerTuple row (i / 2) (i % 2)) (then 1 (λ i. alignTuple row) (then 4 (addrBytesTuple row) (laneMemw row))) q
-      (stored-then b 54 1 29 (λ i. alignTuple row) (then 4 (addrBytesTuple row) (laneMemw row)) r
+      (stored-then a 4 50 30 (λ i. pointerTuple row (i / 2) (i % 2)) (followedBy 1 (λ i. alignTuple row) (followedBy 4 (addrBytesTuple row) (laneMemw row))) q
+      (stored-then b 54 1 29 (λ i. alignTuple row) (followedBy 4 (addrBytesTuple row) (laneMemw row)) r
       (stored-then c 55 4 25 (addrBytesTuple row) (laneMemw row) s
       (t ∙ ap (sets d 59) (tab-same 25 (λ k. 0) (residues (laneMemw row)) (λ k h. lane-free k)))))))

@@ -1,5 +1,5 @@
 -- What the calls of the round table read: of a row only its 1,480 columns, for values and tuples; of START only its 25
--- lanes; of an operation never its output. Assumes nothing.
+-- lanes; of an operation never its output.
 use mathlib.Core.Path.{_≡_, ap}
 use mathlib.Core.List.{List, [], _∷_}
 use mathlib.Core.Bool.{Bool, not, _&&_}

@@ -1,4 +1,4 @@
--- All tuples of a round row at once: how many words they take, and what the call leaves. Assumes nothing.
+-- All tuples of a round row at once: how many words they take, and what the call leaves.
 use Prim.Native.Nat.{ℕ}
 use mathlib.Core.List.{List}
 use lib.ListN.{length}

@@ -1,4 +1,4 @@
--- The call for a core row's values reads of the lent row its columns only. Assumes nothing.
+-- The call for a core row's values reads of the lent row its columns only.
 use Rattle.lookup.specs.Values.{RestNotRead}
 use Rattle.lookup.proofs.Values.{values-rest}
 use Rattle.keccak.specs.Columns.{NUM-COLUMNS}

@@ -1,5 +1,5 @@
 -- A call for a tuple reads of the lent row its columns only: what it answers, and what it leaves in the lent slice, is the
--- same for any two rows that are long enough and alike in their columns. Assumes nothing.
+-- same for any two rows that are long enough and alike in their columns.
 use mathlib.Core.Path.{_≡_, sym, ap, _∙_}
 use mathlib.Core.List.{List}
 use mathlib.Core.Option.{some}

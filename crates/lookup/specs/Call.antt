@@ -1,6 +1,5 @@
 -- A call that gives a tuple of a row by its index: what it answers, and what it writes into the lent slice.
 -- `width` is the number of columns, `count` the number of tuples, and `tuple` the definition of the row's tuples.
--- Assumes nothing.
 use Prim.Native.Nat.{ℕ, _≤_, _<_}
 use mathlib.Core.Path.{_≡_}
 use mathlib.Core.List.{List}

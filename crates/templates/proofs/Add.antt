@@ -1,5 +1,5 @@
 -- ADD means addition: where the words add up with carries, the two carries are those and both values are 0; and the other way round, for a sum of
--- low words of at most 2^32 + 192 and one of high words below that. Assumes nothing.
+-- low words of at most 2^32 + 192 and one of high words below that.
 use mathlib.Core.Path.{_≡_, sym, ap, ap₂, _∙_}
 use mathlib.Core.List.{List, [], _∷_}
 use Prim.Native.Nat.{ℕ, zero, suc, _+_, _*_, _%_, _≤_, _<_}

@@ -1,4 +1,4 @@
--- Operands that are made of their two words. Assumes nothing.
+-- Operands that are made of their two words.
 use mathlib.Core.Path.{_≡_, ap₂, ap}
 use mathlib.Core.List.{[], _∷_}
 use Prim.Native.Nat.{ℕ, _+_, _^_}

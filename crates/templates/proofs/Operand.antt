@@ -1,4 +1,4 @@
--- What the words of each operand are over whole numbers, and its signed constants. Assumes nothing.
+-- What the words of each operand are over whole numbers, and its signed constants.
 use mathlib.Core.Path.{_≡_, refl, sym, ap, _∙_}
 use mathlib.Core.List.{List}
 use Prim.Native.Nat.{ℕ, suc, _+_, _-_, _*_, _%_, _<_}

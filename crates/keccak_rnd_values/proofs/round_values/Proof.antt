@@ -1,4 +1,4 @@
--- `keccak_rnd_values::round_values` meets its contract: the checks, then the values. Assumes nothing.
+-- `keccak_rnd_values::round_values` meets its contract: the checks, then the values.
 use mathlib.Core.Option.{none}
 use mathlib.Core.Path.{_≡_, sym, _∙_}
 use lib.ListN.{length}

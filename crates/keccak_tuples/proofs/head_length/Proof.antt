@@ -1,4 +1,4 @@
--- `keccak_tuples::head_length` meets its contract: the length of each. Assumes nothing.
+-- `keccak_tuples::head_length` meets its contract: the length of each.
 use native.Mathlib.Omega.{arith}
 use Rattle.lists.proofs.Then.{by-le}
 use Rattle.lookup.proofs.Call.{length-of}

@@ -1,4 +1,4 @@
--- `keccak_tuples::head_tuple` meets its contract: the tuple of the index, in four cases. Assumes nothing.
+-- `keccak_tuples::head_tuple` meets its contract: the tuple of the index, in four cases.
 use mathlib.Core.Path.{_≡_}
 use native.Mathlib.Omega.{arith}
 use borrow.Author.Needs.{needs}

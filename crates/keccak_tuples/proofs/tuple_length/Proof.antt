@@ -1,4 +1,4 @@
--- `keccak_tuples::tuple_length` meets its contract: the length of each. Assumes nothing.
+-- `keccak_tuples::tuple_length` meets its contract: the length of each.
 use native.Mathlib.Omega.{arith}
 use borrow.Author.Needs.{needs}
 use Rattle.lookup.proofs.Call.{length-of}

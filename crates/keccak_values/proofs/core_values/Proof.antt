@@ -1,4 +1,4 @@
--- `keccak_values::core_values` meets its contract: the checks, then the values. Assumes nothing.
+-- `keccak_values::core_values` meets its contract: the checks, then the values.
 use mathlib.Core.Path.{_≡_, sym, _∙_}
 use mathlib.Core.List.{List}
 use mathlib.Core.Option.{none}

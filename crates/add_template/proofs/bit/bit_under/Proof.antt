@@ -1,4 +1,4 @@
--- `bit_under` meets its contract: under a column, or always. Assumes nothing.
+-- `bit_under` meets its contract: under a column, or always.
 use mathlib.Core.Path.{_∙_}
 use native.Mathlib.Omega.{arith}
 use borrow.Author.Needs.{needs}

@@ -1,4 +1,4 @@
--- `is_bit` meets its contract: x times 1 - x. Assumes nothing.
+-- `is_bit` meets its contract: x times 1 - x.
 use mathlib.Core.Path.{ap, _∙_}
 use borrow.Author.Needs.{needs}
 use Rattle.field.specs.Field.{fmul}

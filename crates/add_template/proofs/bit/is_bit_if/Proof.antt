@@ -1,4 +1,4 @@
--- `is_bit_if` meets its contract: the condition first, then x, then 1 - x. Assumes nothing.
+-- `is_bit_if` meets its contract: the condition first, then x, then 1 - x.
 use mathlib.Core.Path.{ap₂, _∙_}
 use borrow.Author.Needs.{needs}
 use Rattle.field.specs.Field.{fmul}

@@ -1,4 +1,4 @@
--- `add_terms_expr` meets its contract: four terms. Assumes nothing.
+-- `add_terms_expr` meets its contract: four terms.
 use native.Mathlib.Omega.{arith}
 use Rattle.add_template.proofs.Sums.{four-terms}
 use Rattle.add_template.specs.Within.{TermsIn}

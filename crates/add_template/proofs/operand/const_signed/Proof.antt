@@ -1,4 +1,4 @@
--- `const_signed` meets its contract: the number itself, or p - 1 less -1 - v. Assumes nothing.
+-- `const_signed` meets its contract: the number itself, or p - 1 less -1 - v.
 use borrow.Author.Needs.{needs}
 use Rattle.add_template.proofs.Signed.{positive-held, negative-held, negative-again}
 use Rattle.add_template.proofs.operand.const_signed.Statement.{statement}
