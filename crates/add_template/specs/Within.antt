@@ -1,5 +1,4 @@
--- What an operand asks of a row: the columns that it names are there, and those that are read as they stand are below
--- p.
+-- What an operand asks of a row: the columns that it names are there and below p.
 use Prim.Native.Nat.{ℕ, _+_, _<_}
 use mathlib.Core.List.{List}
 use lib.ListN.{length}
@@ -13,7 +12,7 @@ use Rattle.templates.specs.declared.AddKind.the-variants.{DWordWL, Linear}
 use Rattle.templates.specs.declared.AddOperand.{AddOperand}
 
 unfoldable pub TermIn : List ℕ → AddLinearTerm → Type 0
-TermIn row (Column c k) = k < length row
+TermIn row (Column c k) = (k < length row) × (word row k < p)
 TermIn row (Constant v) = Unit {0}
 
 unfoldable pub TermsIn : List ℕ → AddTerms → Type 0

@@ -1,4 +1,5 @@
 // constraints/templates.rs: the two words of an ADD operand on a row, over words mod P.
+use super::AddWords;
 use field::Fe;
 use templates::AddKind;
 use templates::AddLinearTerm;
@@ -9,6 +10,7 @@ ghost use Prim.Native.Nat.{_<_};
 ghost use Rattle.field.specs.Field.{p, fadd};
 ghost use Rattle.templates.specs.Templates.{const-signed, add-term-expr, add-terms-expr, add-operand-lo, add-operand-hi};
 ghost use Rattle.add_template.specs.Within.{TermIn, TermsIn, OperandIn};
+ghost use Rattle.add_template.specs.Words.{wordsOn, Elements};
 
 // A signed number mod P.
 fn const_signed(v: i64) -> Fe
@@ -24,7 +26,8 @@ fn const_signed(v: i64) -> Fe
     }
 }
 
-// The sum so far and a term: a column times its coefficient, or a constant.
+// The sum so far and a term: a column times its coefficient, or a constant. A coefficient 1 takes no product, and a term
+// that is not used nothing.
 fn add_term(row: &[u64], sum: Fe, t: AddLinearTerm) -> Fe
     requires { ⌜ (sum .value < p) × TermIn (now row) t ⌝ }
     ensures sum { λ r. ⌜ r .value ≡ fadd (sum .value) (add-term-expr (now (row .entry)) t) ⌝ }
@@ -32,10 +35,18 @@ fn add_term(row: &[u64], sum: Fe, t: AddLinearTerm) -> Fe
 {
     match t {
         AddLinearTerm::Column(coefficient, column) => {
-            let product = Fe { value: row[column] }.mul(const_signed(coefficient));
-            sum.add(product)
+            let word = Fe { value: row[column] };
+            if coefficient == 1 {
+                return sum.add(word);
+            }
+            sum.add(word.mul(const_signed(coefficient)))
         }
-        AddLinearTerm::Constant(v) => sum.add(const_signed(v)),
+        AddLinearTerm::Constant(v) => {
+            if v == 0 {
+                return sum;
+            }
+            sum.add(const_signed(v))
+        }
     }
 }
 
@@ -56,7 +67,7 @@ fn add_terms_expr(row: &[u64], terms: AddTerms) -> Fe
 }
 
 // An operand's low word.
-pub fn add_operand_lo(row: &[u64], op: AddOperand) -> Fe
+fn add_operand_lo(row: &[u64], op: AddOperand) -> Fe
     requires { ⌜ OperandIn (now row) op ⌝ }
     ensures word { λ r. ⌜ r .value ≡ add-operand-lo (now (row .entry)) op ⌝ }
     ensures below { λ r. ⌜ r .value < p ⌝ }
@@ -70,7 +81,7 @@ pub fn add_operand_lo(row: &[u64], op: AddOperand) -> Fe
 }
 
 // An operand's high word.
-pub fn add_operand_hi(row: &[u64], op: AddOperand) -> Fe
+fn add_operand_hi(row: &[u64], op: AddOperand) -> Fe
     requires { ⌜ OperandIn (now row) op ⌝ }
     ensures word { λ r. ⌜ r .value ≡ add-operand-hi (now (row .entry)) op ⌝ }
     ensures below { λ r. ⌜ r .value < p ⌝ }
@@ -82,5 +93,19 @@ pub fn add_operand_hi(row: &[u64], op: AddOperand) -> Fe
             value: row[start + 1],
         },
         AddKind::Linear => add_terms_expr(row, hi),
+    }
+}
+
+// Both words of an operand.
+pub fn add_words(row: &[u64], op: AddOperand) -> AddWords
+    requires { ⌜ OperandIn (now row) op ⌝ }
+    ensures words { λ r. ⌜ r ≡ wordsOn (now (row .entry)) op ⌝ }
+    ensures below { λ r. ⌜ Elements r ⌝ }
+{
+    let lo = add_operand_lo(row, op);
+    let hi = add_operand_hi(row, op);
+    AddWords {
+        lo: lo.value,
+        hi: hi.value,
     }
 }

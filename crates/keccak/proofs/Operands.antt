@@ -1,5 +1,5 @@
--- The words of ADD's operands on a core row are those that the values and the Memw tuples write out, where the first
--- column of each is below p; and so is value 50, whose carry ADD has. Nothing is asked of the range of a byte or a limb.
+-- The words of ADD's operands on a core row, where no column passes p: they are the sums that value 50 and the Memw tuples
+-- write out, and the carry in value 50 is ADD's. Nothing is asked of the range of a byte or a limb.
 use mathlib.Core.Path.{_≡_, sym, ap, ap₂, _∙_}
 use mathlib.Core.List.{List}
 use Prim.Native.Nat.{ℕ, _+_, _%_, _<_}

@@ -1,7 +1,6 @@
 // The Memw tuples of a core row: old value (8), is_register, address (2), new value (8), timestamp (2), three flags. The
 // numbers of 64 bits in them are read as ADD's operands are: the address, a pointer, the timestamp.
-use add_template::add_operand_hi;
-use add_template::add_operand_lo;
+use add_template::add_words;
 use keccak::ADDR;
 use keccak::INPUT_STATE;
 use keccak::MU;
@@ -50,11 +49,9 @@ fn put_access(out: &mut [u64], row: &[u64], write2: u64, write8: u64)
     requires { ⌜ (24 ≤ length (now out)) × ElementRow NUM-COLUMNS (now row) ⌝ }
     ensures { λ _. ⌜ now (out .exit) ≡ sets (now (out .entry)) 19 (word (now (row .entry)) 0 ∷ word (now (row .entry)) 1 ∷ write2 ∷ 0 ∷ write8 ∷ []) ⌝ }
 {
-    let timestamp = AddOperand::dword(TIMESTAMP_0);
-    let lo = add_operand_lo(row, timestamp);
-    let hi = add_operand_hi(row, timestamp);
-    out[19] = lo.value;
-    out[20] = hi.value;
+    let timestamp = add_words(row, AddOperand::dword(TIMESTAMP_0));
+    out[19] = timestamp.lo;
+    out[20] = timestamp.hi;
     out[21] = write2;
     out[22] = 0;
     out[23] = write8;
@@ -66,12 +63,10 @@ pub fn addr_memw(row: &[u64], out: &mut [u64]) -> BusInteraction
     ensures answer { λ r. ⌜ r ≡ interactionOf (addrMemw (now (row .entry))) ⌝ }
     ensures words { λ _. ⌜ now (out .exit) ≡ overwrite (addrMemw (now (row .entry)) .values) (now (out .entry)) ⌝ }
 {
-    let addr = AddOperand::from_dword_bl(ADDR);
-    let lo = add_operand_lo(row, addr);
-    let hi = add_operand_hi(row, addr);
-    put_register(out, 0, lo.value, hi.value);
+    let addr = add_words(row, AddOperand::from_dword_bl(ADDR));
+    put_register(out, 0, addr.lo, addr.hi);
     put_place(out, 1, 20, 0);
-    put_register(out, 11, lo.value, hi.value);
+    put_register(out, 11, addr.lo, addr.hi);
     put_access(out, row, 1, 0);
     BusInteraction {
         bus: Bus::Memw,
@@ -87,11 +82,9 @@ pub fn lane_memw(row: &[u64], i: usize, out: &mut [u64]) -> BusInteraction
     ensures answer { λ r. ⌜ r ≡ interactionOf (laneMemw (now (row .entry)) i) ⌝ }
     ensures words { λ _. ⌜ now (out .exit) ≡ overwrite (laneMemw (now (row .entry)) i .values) (now (out .entry)) ⌝ }
 {
-    let pointer = AddOperand::from_dword_whh(STATE_PTR + 3 * i);
-    let lo = add_operand_lo(row, pointer);
-    let hi = add_operand_hi(row, pointer);
+    let pointer = add_words(row, AddOperand::from_dword_whh(STATE_PTR + 3 * i));
     put_part(out, 0, row, INPUT_STATE + 8 * i, 8);
-    put_place(out, 0, lo.value, hi.value);
+    put_place(out, 0, pointer.lo, pointer.hi);
     put_part(out, 11, row, OUTPUT_STATE + 8 * i, 8);
     put_access(out, row, 0, 1);
     BusInteraction {

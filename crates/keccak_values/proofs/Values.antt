@@ -4,7 +4,7 @@ use mathlib.Core.List.{List, [], _∷_}
 use Prim.Native.Nat.{ℕ, _+_, _*_, _/_, _%_, _<_}
 use native.Mathlib.Nat.{add-zero}
 use native.Mathlib.Omega.{arith}
-use lib.IntN.{pos}
+use lib.IntN.{ℤ, pos}
 use lib.ListN.{set}
 use lib.Seq.{sets}
 use mir.Syntax.{w64}
@@ -15,35 +15,47 @@ use Rattle.lists.proofs.Laws.{sets-more}
 use Rattle.lists.proofs.Then.{then-lt, then-past, at-two}
 use Rattle.field.specs.Field.{p, fmul}
 use Rattle.templates.specs.declared.AddOperand.{AddOperand}
-use Rattle.templates.specs.Templates.{constant, from-dword-bl, from-dword-whh, add-pair-carry-hi, emit-add-pair, isBit}
+use Rattle.templates.specs.Templates.{constant, from-dword-bl, from-dword-whh, bitUnder, isBit}
+use Rattle.add_template.specs.declared.AddWords.{AddWords}
+use Rattle.add_template.specs.Words.{wordsOn, lowCarry, highCarry}
+use Rattle.add_template.proofs.Values.{carry-hi-is, low-value-is, high-value-is}
 use Rattle.keccak.specs.Columns.{ADDR, MU, state-ptr}
 use Rattle.keccak.specs.Values.{pointerValue, topValue, coreValue}
 use Rattle.keccak.proofs.Operands.{top-is}
 
 module _ (row : List ℕ) where
-  -- the two values of a lane, by its operands; the offset was cast to a signed number
-  lane-value : (i j : ℕ) {addr offset pointer : AddOperand} → i < 25 → j < 2 → addr ≡ from-dword-bl ADDR → offset ≡ constant (toZ w64 (i * 8)) → pointer ≡ from-dword-whh (410 + i * 3)
-      → emit-add-pair row (MU ∷ []) addr offset pointer j ≡ coreValue row (2 * i + j)
-  unfolding coreValue pointerValue
-  lane-value i j hi hj a o s =
-      let q : (2 * i + j) / 2 ≡ i = omega arith in
-      let r : (2 * i + j) % 2 ≡ j = omega arith in
-      let z : toZ w64 (i * 8) ≡ pos (i * 8) = toZ-pos w64 (i * 8) (omega arith) in
-      let k : 410 + i * 3 ≡ state-ptr i 0 = omega arith in
-      (λ t. emit-add-pair row (MU ∷ []) (a t) ((o ∙ ap constant z) t) ((s ∙ ap from-dword-whh k) t) j)
-      ∙ sym (at-two (pointerValue row) q r)
-      ∙ sym (then-lt 50 (2 * i + j) _ _ (omega arith))
+  -- words that were made of an operand
+  pub words-made : {o made : AddOperand} {w : AddWords} → made ≡ o → w ≡ wordsOn row made → w ≡ wordsOn row o
+  words-made e f = f ∙ ap (wordsOn row) e
 
-  pub lane-values : (i : ℕ) {addr offset pointer : AddOperand} {low high : ℕ} → i < 25 → addr ≡ from-dword-bl ADDR → offset ≡ constant (toZ w64 (i * 8)) → pointer ≡ from-dword-whh (410 + i * 3)
-      → low ≡ emit-add-pair row (MU ∷ []) addr offset pointer 0 → high ≡ emit-add-pair row (MU ∷ []) addr offset pointer 1
-      → (low ≡ coreValue row (2 * i)) × (high ≡ coreValue row (2 * i + 1))
-  lane-values i h a o s l m =
-      (l ∙ lane-value i 0 h (omega arith) a o s ∙ ap (coreValue row) (add-zero (2 * i)), m ∙ lane-value i 1 h (omega arith) a o s)
+  -- the two values of a lane, by the words of its operands; the offset was cast to a signed number
+  module _ (i : ℕ) (h : i < 25) {addr offset pointer : AddWords} (a : addr ≡ wordsOn row (from-dword-bl ADDR)) (o : offset ≡ wordsOn row (constant (toZ w64 (i * 8))))
+      (s : pointer ≡ wordsOn row (from-dword-whh (410 + i * 3))) where
+    offset-is : offset ≡ wordsOn row (constant (pos (i * 8)))
+    offset-is = o ∙ ap (λ (z : ℤ). wordsOn row (constant z)) (toZ-pos w64 (i * 8) (omega arith))
 
-  -- value 50, by the last lane's
-  pub top-value : ((k : ℕ) → k < 486 → word row k < p) → {addr offset pointer : AddOperand} → addr ≡ from-dword-bl ADDR → offset ≡ constant (pos 192) → pointer ≡ from-dword-whh (state-ptr 24 0)
-      → fmul (word row MU) (add-pair-carry-hi row addr offset pointer) ≡ topValue row
-  top-value below a o s = (λ t. fmul (word row MU) (add-pair-carry-hi row (a t) (o t) (s t))) ∙ top-is row below
+    pointer-is : pointer ≡ wordsOn row (from-dword-whh (state-ptr i 0))
+    pointer-is = let k : 410 + i * 3 ≡ state-ptr i 0 = omega arith in s ∙ ap (λ (k : ℕ). wordsOn row (from-dword-whh k)) k
+
+    at-lane : (j : ℕ) → j < 2 → pointerValue row i j ≡ coreValue row (2 * i + j)
+    unfolding coreValue
+    at-lane j g =
+        let q : (2 * i + j) / 2 ≡ i = omega arith in
+        let r : (2 * i + j) % 2 ≡ j = omega arith in
+        sym (at-two (pointerValue row) q r) ∙ sym (then-lt 50 (2 * i + j) _ _ (omega arith))
+
+    pub low-value : bitUnder row (MU ∷ []) (lowCarry addr offset pointer) ≡ coreValue row (2 * i)
+    unfolding pointerValue
+    low-value = low-value-is row _ _ _ a offset-is pointer-is (MU ∷ []) ∙ at-lane 0 (omega arith) ∙ ap (coreValue row) (add-zero (2 * i))
+
+    pub high-value : bitUnder row (MU ∷ []) (highCarry addr offset pointer) ≡ coreValue row (2 * i + 1)
+    unfolding pointerValue
+    high-value = high-value-is row _ _ _ a offset-is pointer-is (MU ∷ []) ∙ at-lane 1 (omega arith)
+
+  -- value 50, by those of the last lane
+  pub top-value : ((k : ℕ) → k < 486 → word row k < p) → {addr offset pointer : AddWords} → addr ≡ wordsOn row (from-dword-bl ADDR) → offset ≡ wordsOn row (constant (pos 192))
+      → pointer ≡ wordsOn row (from-dword-whh (state-ptr 24 0)) → fmul (word row MU) (highCarry addr offset pointer) ≡ topValue row
+  top-value below a o s = ap (fmul (word row MU)) (carry-hi-is row _ _ _ a o s) ∙ top-is row below
 
   pub value-50 : topValue row ≡ coreValue row 50
   unfolding coreValue

@@ -2,8 +2,8 @@
 -- low words of at most 2^32 + 192 and one of high words below that.
 use mathlib.Core.Path.{_≡_, sym, ap, ap₂, _∙_}
 use mathlib.Core.List.{List, [], _∷_}
-use Prim.Native.Nat.{ℕ, zero, suc, _+_, _*_, _≤_, _<_}
-use native.Mathlib.Nat.{mod-eq-of-lt}
+use Prim.Native.Nat.{ℕ, zero, suc, _+_, _*_, _%_, _≤_, _<_}
+use native.Mathlib.Nat.{mod-eq-of-lt, mod-add-mod, zero-add}
 use native.Mathlib.Omega.{arith}
 use Rattle.lists.specs.Tab.{word}
 use Rattle.field.specs.Field.{p, fadd}
@@ -26,9 +26,9 @@ under-one row c x e h = bit-if-one _ x (ap (fadd 0) e) h
 pub under-zero : (row : List ℕ) (c x : ℕ) → word row c ≡ 0 → bitUnder row (c ∷ []) x ≡ 0
 under-zero row c x e = bit-if-zero _ x (ap (fadd 0) e)
 
--- under two columns, the second of them 1: the condition is their sum
-pub under-two : (row : List ℕ) (c d x : ℕ) → word row c ≡ 0 → word row d ≡ 1 → x < p → bitUnder row (c ∷ d ∷ []) x ≡ isBit x
-under-two row c d x e f h = bit-if-one _ x (ap₂ (λ (a b : ℕ). fadd (fadd 0 a) b) e f) h
+-- under two columns, one of which is 1 and the other 0: the condition is their sum
+pub under-two : (row : List ℕ) (c d x : ℕ) → word row c + word row d ≡ 1 → x < p → bitUnder row (c ∷ d ∷ []) x ≡ isBit x
+under-two row c d x e h = bit-if-one _ x (mod-add-mod (0 + word row c) p (word row d) ∙ ap (λ (n : ℕ). n % p) (ap (λ (n : ℕ). n + word row d) (zero-add (word row c)) ∙ e)) h
 
 pub is-bit-when : (row : List ℕ) (k c : ℕ) → word row c ≡ 1 → word row k < p → emit-is-bit row k (When c) ≡ emit-is-bit row k Always
 is-bit-when row k c e h = bit-if-one _ (word row k) e h

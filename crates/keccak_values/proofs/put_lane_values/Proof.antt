@@ -9,16 +9,16 @@ use Rattle.keccak_values.proofs.put_lane_values.Statement.{statement}
 use Rattle.keccak_values.proofs.put_lane_values.Tie as tie
 
 abbrev Inv-loop : tie.InvT-loop
-Inv-loop row out₀ i₀ out i = Filled out₀ 0 50 (coreValue row) out (2 * i)
+Inv-loop row addr out₀ i₀ out i = Filled out₀ 0 50 (coreValue row) out (2 * i)
 
 abbrev μ-loop : tie.MeasureT-loop
-μ-loop row out₀ i₀ out i = 25 - i
+μ-loop row addr out₀ i₀ out i = 25 - i
 
 loop-holds : tie.Need-loop-holds Inv-loop μ-loop
 loop-holds c = filled-none _ _ _ _
 
 lane-values-requires : tie.Need-lane-values-requires Inv-loop μ-loop
-lane-values-requires c κs = let s = c .before .before .before .before in (s .pre .0, c .loop-test .taken)
+lane-values-requires c κs = let s = c .before .before .before .before in (s .pre .0, c .loop-test .taken, s .pre .2, s .pre .3)
 
 mul-out : tie.Need-mul-out Inv-loop μ-loop
 mul-out c = omega arith

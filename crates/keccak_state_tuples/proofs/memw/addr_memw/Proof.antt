@@ -4,7 +4,8 @@ use mathlib.Core.List.{[], _∷_}
 use native.Mathlib.Omega.{arith}
 use borrow.Author.Needs.{needs}
 use Rattle.lists.specs.Tab.{word}
-use Rattle.templates.specs.Templates.{add-operand-lo, add-operand-hi}
+use Rattle.add_template.specs.declared.AddWords.{AddWords}
+use Rattle.add_template.specs.Words.{wordsOn}
 use Rattle.add_template.proofs.Within.{bl-in, made-in}
 use Rattle.keccak.proofs.Operands.{bytes-lo, bytes-hi}
 use Rattle.keccak_state_tuples.proofs.Tuples.{addr-answer}
@@ -15,11 +16,11 @@ use Rattle.keccak_state_tuples.proofs.memw.addr_memw.Tie as tie
 from-dword-bl-requires : tie.Need-from-dword-bl-requires
 from-dword-bl-requires c κs = search needs
 
-add-operand-lo-requires : tie.Need-add-operand-lo-requires
-add-operand-lo-requires c κs = let row = c .before .before .before .args .row .now in made-in row (c .from-dword-bl .ensures) (bl-in row 2 (omega arith))
-
-add-operand-hi-requires : tie.Need-add-operand-hi-requires
-add-operand-hi-requires c κs = let row = c .before .before .before .before .args .row .now in made-in row (c .before .from-dword-bl .ensures) (bl-in row 2 (omega arith))
+add-words-requires : tie.Need-add-words-requires
+add-words-requires c κs =
+    let s = c .before .before .before in
+    let row = s .args .row .now in
+    made-in row (c .from-dword-bl .ensures) (bl-in row 486 (s .pre .0) 2 (omega arith))
 
 put-register-requires : tie.Need-put-register-requires
 put-register-requires c κs = search needs
@@ -33,8 +34,8 @@ put-register-requires-2 c κs = search needs
 put-access-requires : tie.Need-put-access-requires
 put-access-requires c κs = search needs
 
-shared-slice-read-t18 : tie.Need-shared-slice-read-t18
-shared-slice-read-t18 c = search needs
+shared-slice-read-t17 : tie.Need-shared-slice-read-t17
+shared-slice-read-t17 c = search needs
 
 same-length : tie.Need-same-length
 same-length c = search needs
@@ -45,16 +46,16 @@ returns c =
     let new = access .before .before .before .before in
     let place = new .before .before .before .before in
     let old = place .before .before .before .before in
-    let high = old .before .before in
-    let low = high .before in
-    let made = low .before in
+    let words = old .before .before in
+    let made = words .before in
     let s = made .before .before .before in
     let row = s .args .row .now in
-    let value = register (low .add-operand-lo .result .value) (high .add-operand-hi .result .value) in (
+    let e = words .add-words .ensures .0 ∙ ap (wordsOn row) (made .from-dword-bl .ensures) in
+    let value = register (words .add-words .result .lo) (words .add-words .result .hi) in (
       addr-answer row,
       addr-stored row (s .args .out .now) (s .pre .1)
-          (low .add-operand-lo .ensures .0 ∙ ap (add-operand-lo row) (made .from-dword-bl .ensures) ∙ bytes-lo row (s .pre .0 .below 2 (omega arith)))
-          (high .add-operand-hi .ensures .0 ∙ ap (add-operand-hi row) (made .from-dword-bl .ensures) ∙ bytes-hi row (s .pre .0 .below 6 (omega arith)))
+          (ap (λ (w : AddWords). w .lo) e ∙ bytes-lo row (s .pre .0 .below 2 (omega arith)))
+          (ap (λ (w : AddWords). w .hi) e ∙ bytes-hi row (s .pre .0 .below 6 (omega arith)))
           (memw-parts (s .args .out .now) _ _ _ value value (word row 0 ∷ word row 1 ∷ 1 ∷ 0 ∷ 0 ∷ []) 1 20 0 refl refl (old .put-register .ensures) (place .put-place .ensures) (new .put-register2 .ensures) (access .put-access .ensures)),
     )
 
@@ -63,12 +64,11 @@ addr-memw-spec =
     tie.close
     (tie.spec
     from-dword-bl-requires
-    add-operand-lo-requires
-    add-operand-hi-requires
+    add-words-requires
     put-register-requires
     put-place-requires
     put-register-requires-2
     put-access-requires
-    shared-slice-read-t18
+    shared-slice-read-t17
     same-length
     returns)
