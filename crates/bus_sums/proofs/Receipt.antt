@@ -26,9 +26,9 @@ use Rattle.verdict.specs.Kind.{rows, Passes, Lookups, actives, DistinctTimestam
 use Rattle.verdict.specs.CoreAndRound.{coreLayout, roundLayout, coreKind, verdictAt}
 use Rattle.verdict.specs.Claims.{EachActive, ShortTimestamp, Addressed, Computed, Answers, ClaimsAt, operations, ourRounds}
 use Rattle.verdict.specs.declared.Verdict.the-variants.{Holds}
-use Rattle.verdict.specs.Honest.{witness, witnessCore, witnessRound}
+use Rattle.verdict.specs.Honest.{witness, oneCore, oneRound}
 use Rattle.verdict.proofs.Failures.{verdict-says}
-use Rattle.verdict.proofs.Honest.{witness-holds}
+use Rattle.verdict.proofs.Honest.{witness-right, one-holds}
 use Rattle.verdict.proofs.Tables.{table-rows}
 use Rattle.verdict.proofs.Demand3.{holds-computed, demand3-at}
 use Rattle.bus_sums.specs.Sums.{Fillings, Constrained, SumsHold, Filled, nobody, MAX-ROWS}
@@ -80,13 +80,13 @@ module _ (nr : ℕ) (core round : List ℕ) (few-core : rows coreLayout core ≤
   )
 
 -- the tables that are written for one operation: what is supposed above can be met
-pub witness-sums : Filled 24 witnessCore witnessRound
+pub witness-sums : Filled 24 (oneCore witness) (oneRound witness)
 unfolding coreTable roundTable
 witness-sums =
     let a = table-rows coreLayout (omega arith) (height 4 1) (coreRowAt 1 (λ i. witness)) in
     let b = table-rows roundLayout (omega arith) (roundHeight 24 4 1) (roundRowAt 24 1 (λ i. witness)) in
-    let g = verdict-says 24 witnessCore witnessRound (Holds 1) .0 witness-holds in
-    sums-exactly 24 witnessCore witnessRound (omega (arith, a, height-le 4 1)) (omega (arith, b, height-le 4 (1 * 24))) .1 (g .0, record { passes = g .2; balanced = g .3 })
+    let g = verdict-says 24 (oneCore witness) (oneRound witness) (Holds 1) .0 (one-holds witness witness-right) in
+    sums-exactly 24 (oneCore witness) (oneRound witness) (omega (arith, a, height-le 4 1)) (omega (arith, b, height-le 4 (1 * 24))) .1 (g .0, record { passes = g .2; balanced = g .3 })
 
 -- a core table that meets its constraints, with at most 89,478,485 active rows whose timestamps differ, both words of
 -- each below 2^32: nothing is supposed of its lookups

@@ -44,7 +44,7 @@ use Rattle.verdict.specs.Kind.{rows, row, isActive, active, Passes, Balanced, a
 use Rattle.verdict.specs.CoreAndRound.{coreLayout, roundLayout, coreKind, roundKind, verdictAt}
 use Rattle.verdict.specs.Claims.{Addressed}
 use Rattle.verdict.specs.declared.Verdict.the-variants.{Holds}
-use Rattle.verdict.specs.Honest.{RightOperation, zeroState}
+use Rattle.verdict.specs.Honest.{RightOperation, flatState}
 use Rattle.verdict.proofs.Failures.{verdict-says}
 use Rattle.verdict.proofs.Honest.{written-holds}
 use Rattle.verdict.proofs.Tables.{table-rows, table-whole}
@@ -124,7 +124,7 @@ abbrev written : List ℕ
 written = coreTable 1 1 (λ i. operation)
 
 right : RightOperation 24 operation
-unfolding zeroState
+unfolding flatState
 right =
     record {
       stamp = omega arith;

@@ -18,7 +18,7 @@ use Rattle.keccak_rnd.specs.Row.{roundTable}
 use Rattle.verdict.specs.Kind.{rows, row, Active}
 use Rattle.verdict.specs.CoreAndRound.{coreLayout, coreKind, roundKind}
 use Rattle.verdict.specs.Claims.{Addressed}
-use Rattle.verdict.specs.Honest.{zeroState}
+use Rattle.verdict.specs.Honest.{flatState}
 use Rattle.bus_sums.specs.Sums.{Fillings, Constrained, InField, isWhLayout, Ours, Agree, nobody, MAX-PAIRS}
 
 -- columns: the half, the low and the high half of the word, MU
@@ -38,8 +38,8 @@ operation =
     record {
       timestamp = 5;
       «state_addr» = (2 ^ 32 - 5) * 2 ^ 32;
-      input = zeroState;
-      output = keccakPL 24 zeroState;
+      input = flatState 0;
+      output = keccakPL 24 (flatState 0);
     }
 
 -- its row, but for the high limb of pointer 0: p - 5 is 2^32 - 5 less 2^32 mod p, so that the high carry is 1

@@ -356,7 +356,7 @@ module _ (s : Side) (b : Bus) where
   constant-row-line = constant-line s b
 
 -- "The written tables of an operation have such fillings."
-pub sums-met : Filled 24 witnessCore witnessRound
+pub sums-met : Filled 24 (oneCore witness) (oneRound witness)
 sums-met = witness-sums
 
 -- "MU is 0 or 1": where its value, 51 of a core row and 140 of a round row, is 0, though p is nowhere known to be prime

@@ -54,17 +54,18 @@ fn read_all() -> Turn
     }
 }
 
-// Writes the lines, which it first puts in the lent bytes; what reaches the file no contract says.
-fn write_tally(tally: Tally, out: &mut [u8])
+// Writes the lines, which it first puts in the lent bytes, and answers whether all were taken; what reaches the file no
+// contract says.
+fn write_tally(tally: Tally, out: &mut [u8]) -> bool
     requires { ⌜ 512 ≤ length (now out) ⌝ }
     ensures { λ _. ⌜ now (out .exit) ≡ sets (now (out .entry)) 0 (textOf tally) ⌝ }
 {
     let n = put_tally(tally, out);
-    io::write_all(STDOUT_FILENO, &out[..n]);
+    io::write_all(STDOUT_FILENO, &out[..n])
 }
 
 // Without an `ensures`: it takes and answers nothing, and of the two files no contract speaks. A failed read is told on
-// standard error, and no line is written.
+// standard error, and no line is written; a failed write is told there too.
 fn main() {
     let mut space = [0u8; 512];
     let t = read_all();
@@ -73,5 +74,7 @@ fn main() {
         return;
     }
     let c = t.cursor;
-    write_tally(op_sums::finish(c), &mut space);
+    if !write_tally(op_sums::finish(c), &mut space) {
+        os::fail(b"standard output");
+    }
 }
