@@ -401,11 +401,11 @@ module _ (core : List ℕ) (supposed : Supposed core) where
 
   -- "The round table that the writer makes has fillings too."
   pub code-filled : rows coreLayout core ≤ MAX-ROWS → EachActive (Computed 24) core →
-      (before after : List ℕ) → length before ≡ length (ourRounds 24 4 core) → Wrote (operations core) before after →
-      Filled 24 core after
+      (before after : List ℕ) → size ≤ length before → Wrote (operations core) before after →
+      Filled 24 core (take size after)
   code-filled few right before after e w =
       let c = supposed .passes in
-      subst (Filled 24 core) (sym (ours-written core supposed before after e w))
+      subst (Filled 24 core) (sym (ours-written core supposed before after e w .0))
       (ours-filled 24 (omega arith) (omega arith) core
       (record { whole = c .whole; below = c .below; values = c .values; few = few })
       (supposed .few) (supposed .apart) (supposed .stamps) (c .lookups) right)
