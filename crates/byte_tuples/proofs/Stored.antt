@@ -1,4 +1,4 @@
--- A tuple of bytes is stored: the words before its values, then these; and the first and each turn of a loop that stores some. Assumes nothing.
+-- A tuple of bytes is stored: the words before its values, then these; and the first and each turn of a loop that stores some.
 use mathlib.Core.Path.{_≡_, sym, ap, subst, _∙_}
 use mathlib.Core.List.{List, [], _∷_}
 use Prim.Native.Nat.{ℕ, _+_, _<_}

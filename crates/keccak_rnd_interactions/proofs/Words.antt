@@ -7,7 +7,7 @@ use native.Mathlib.Nat.{zero-add}
 use native.Mathlib.Omega.{arith}
 use lib.ListN.{length}
 use lib.Seq.{sets}
-use Rattle.lists.specs.Sum.{sum}
+use Rattle.lists.specs.Sum.{sumBelow}
 use Rattle.lists.proofs.Sum.{sum-same, sum-const}
 use Rattle.lookup.specs.Tuple.{Tuple}
 use Rattle.lookup.specs.Words.{tupleWords, tuplesWords}
@@ -38,8 +38,8 @@ words-length row =
     (words-same 8 4 _ (λ i. refl))))))))))))
 
 -- the first three
-no-words : (f : ℕ → Tuple) → sum 0 (λ i. length (tupleWords (f i))) ≡ 0
-unfolding sum
+no-words : (f : ℕ → Tuple) → sumBelow 0 (λ i. length (tupleWords (f i))) ≡ 0
+unfolding sumBelow
 no-words f = refl
 
 pub first-length : (row : List ℕ) → length (tuplesWords (roundTuple row) 3) ≡ 427

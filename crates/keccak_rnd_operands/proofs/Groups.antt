@@ -6,7 +6,7 @@ use Prim.Native.Nat.{ℕ, _+_, _-_, _*_, _/_, _%_, _≤_, _<_}
 use native.Mathlib.Nat.{zero-add}
 use native.Mathlib.Omega.{arith}
 use lib.ListN.{length}
-use Rattle.lists.specs.Tab.{tab, then, word}
+use Rattle.lists.specs.Tab.{tab, followedBy, word}
 use Rattle.lists.proofs.Laws.{getD-tab, length-tab}
 use Rattle.lists.proofs.Then.{then-lt, then-ge, then-all, at-two, at-three}
 use Rattle.lookup.specs.Tuple.{Tuple}

@@ -3,7 +3,7 @@
 use Prim.Native.Nat.{ℕ, _+_, _*_, _≤_, _<_}
 use mathlib.Core.Path.{_≡_}
 use mathlib.Core.List.{List}
-use Rattle.lists.specs.Tab.{then, word}
+use Rattle.lists.specs.Tab.{followedBy, word}
 use Rattle.lookup.specs.Tuple.{Tuple}
 use Rattle.byte_tuples.specs.Lanes.{opNumber}
 use Rattle.keccak_rnd.specs.Columns.{NUM-COLUMNS}
@@ -32,8 +32,8 @@ laneTuple row o z = alu row (opNumber (o .op)) (operandByte row (o .a) z) (opera
 -- ---- the tuples on the ByteAlu bus, one after the other: 3 to 162, 183 to 422 and 623 to 1,030
 unfoldable pub aluTuple : List ℕ → ℕ → Tuple
 aluTuple row =
-    then 160 (λ i. roundTuple row (CXZ-TUPLES + i))
-    (then 240 (λ i. roundTuple row (DXZ-TUPLES + i)) (λ i. roundTuple row (CHI-ANDS-TUPLES + i)))
+    followedBy 160 (λ i. roundTuple row (CXZ-TUPLES + i))
+    (followedBy 240 (λ i. roundTuple row (DXZ-TUPLES + i)) (λ i. roundTuple row (CHI-ANDS-TUPLES + i)))
 
 -- lanes of eight of them: where θ's begin, and how many there are
 abbrev pub THETA-LANE : ℕ

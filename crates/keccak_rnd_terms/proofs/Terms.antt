@@ -5,7 +5,7 @@ use Prim.Native.Nat.{ℕ, suc, _+_, _-_, _*_, _/_, _%_, _≤_, _<_}
 use native.Mathlib.Omega.{arith}
 use lib.ListN.{length, set}
 use lib.Seq.{sets, getD-set-other}
-use Rattle.lists.specs.Tab.{tab, then, word}
+use Rattle.lists.specs.Tab.{tab, followedBy, word}
 use Rattle.lists.proofs.Laws.{Filled, tab-same, sets-then, stored-at, stored-long}
 use Rattle.lists.proofs.Then.{then-lt, then-ge, then-past, at-two, at-three}
 use Rattle.field.specs.Field.{p, fadd, fsub}
@@ -71,7 +71,7 @@ module _ (row : List ℕ) where
   module _ (l : List ℕ) {a b : List ℕ} (room : 440 ≤ length l) (e : a ≡ sets l 0 (tab 40 (λ k. rotatedCAt row (k / 8) (k % 8)))) (q : b ≡ sets a 40 (tab 200 (byXYB (piAt row)))) where
     pub pi-word : (k : ℕ) → k < 200 → word b (40 + k) ≡ byXYB (piAt row) k
     pi-word k h =
-        stored-at l b (then 40 (λ k. rotatedCAt row (k / 8) (k % 8)) (byXYB (piAt row))) 240 (40 + k) (omega arith)
+        stored-at l b (followedBy 40 (λ k. rotatedCAt row (k / 8) (k % 8)) (byXYB (piAt row))) 240 (40 + k) (omega arith)
         (q ∙ ap (λ (r : List ℕ). sets r 40 (tab 200 (byXYB (piAt row)))) e ∙ sets-then l 0 40 200 (λ k. rotatedCAt row (k / 8) (k % 8)) (byXYB (piAt row)))
         (omega arith)
         ∙ then-ge 40 k (λ k. rotatedCAt row (k / 8) (k % 8)) (byXYB (piAt row))
@@ -83,8 +83,8 @@ module _ (row : List ℕ) where
         ∙ ap (sets b 240) (tab-same 200 (λ k. fsub 255 (word b (40 + k))) (byXYB (notPiAt row)) (λ k h. ap (fsub 255) (pi-word k h) ∙ not-pi ok (k / 40) (k / 8 % 5) (k % 8) (omega arith)))
         ∙ ap (λ (v : List ℕ). sets v 240 (tab 200 (byXYB (notPiAt row)))) q
         ∙ sets-then a 40 200 200 (byXYB (piAt row)) (byXYB (notPiAt row))
-        ∙ ap (λ (v : List ℕ). sets v 40 (tab 400 (then 200 (byXYB (piAt row)) (byXYB (notPiAt row))))) e
-        ∙ sets-then l 0 40 400 (λ k. rotatedCAt row (k / 8) (k % 8)) (then 200 (byXYB (piAt row)) (byXYB (notPiAt row)))
+        ∙ ap (λ (v : List ℕ). sets v 40 (tab 400 (followedBy 200 (byXYB (piAt row)) (byXYB (notPiAt row))))) e
+        ∙ sets-then l 0 40 400 (λ k. rotatedCAt row (k / 8) (k % 8)) (followedBy 200 (byXYB (piAt row)) (byXYB (notPiAt row)))
 
 -- ---- what is read of them
 pub terms-of : (row l vs : List ℕ) → 440 ≤ length l → vs ≡ sets l 0 (tab 440 (term row)) → TermsOf row vs

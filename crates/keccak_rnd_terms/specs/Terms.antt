@@ -3,7 +3,7 @@ use Prim.Native.Nat.{ℕ, _+_, _-_, _*_, _/_, _%_, _≤_, _<_}
 use mathlib.Core.Path.{_≡_}
 use mathlib.Core.List.{List}
 use lib.ListN.{length}
-use Rattle.lists.specs.Tab.{then, word}
+use Rattle.lists.specs.Tab.{followedBy, word}
 use Rattle.field.specs.Field.{fadd}
 use Rattle.fips202.specs.Fips.{RHO}
 use Rattle.keccak.specs.Columns.{byXYB}
@@ -22,7 +22,7 @@ abbrev pub NOT-PI : ℕ
 NOT-PI = 240
 
 unfoldable pub term : List ℕ → ℕ → ℕ
-term row = then 40 (λ k. rotatedCAt row (k / 8) (k % 8)) (then 200 (byXYB (piAt row)) (byXYB (notPiAt row)))
+term row = followedBy 40 (λ k. rotatedCAt row (k / 8) (k % 8)) (followedBy 200 (byXYB (piAt row)) (byXYB (notPiAt row)))
 
 -- a list that begins with them
 pub record TermsOf (row terms : List ℕ) : Type 0 where

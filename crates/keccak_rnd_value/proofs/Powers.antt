@@ -1,4 +1,4 @@
--- A number times a power of two up to 2^16, mod p, from its two words. Assumes nothing.
+-- A number times a power of two up to 2^16, mod p, from its two words.
 use mathlib.Core.Path.{_≡_, sym, ap, _∙_}
 use Prim.Native.Nat.{ℕ, _+_, _-_, _*_, _/_, _%_, _^_, _≤_, _<_}
 use native.Mathlib.Nat.{add-comm, div-add-mod', div-le-self, mul-div-mul-right}

@@ -1,11 +1,11 @@
--- Residues stored one behind the other, by lanes and by groups, and what the whole says of a row's tuples. Assumes nothing.
+-- Residues stored one behind the other, by lanes and by groups, and what the whole says of a row's tuples.
 use mathlib.Core.Path.{_≡_, sym, ap, _∙_}
 use mathlib.Core.List.{List, [], _∷_}
 use Prim.Native.Nat.{ℕ, _+_, _*_, _≤_, _<_}
 use lib.ListN.{length, drop}
 use lib.Dec.{eqb}
 use lib.Seq.{sets, length-sets, drop-at}
-use Rattle.lists.specs.Tab.{tab, then, word}
+use Rattle.lists.specs.Tab.{tab, followedBy, word}
 use Rattle.lists.proofs.Laws.{Filled, filled-block, sets-add, sets-front, stored-at, length-tab}
 use Rattle.lists.proofs.Then.{then-lt, then-ge}
 use Rattle.lists.proofs.Laws.{getD-tab, tab-same}
@@ -28,11 +28,11 @@ filled-lane t g x h b e same = filled-block 8 x (residues g) h b e (λ z l. same
 
 -- n of f, and then m of g behind them
 pub stored-then : {out out′ : List ℕ} (l : List ℕ) (at n m : ℕ) (f g : ℕ → Tuple) → out ≡ sets l at (tab n (residues f)) → out′ ≡ sets out (at + n) (tab m (residues g))
-    → out′ ≡ sets l at (tab (n + m) (residues (then n f g)))
+    → out′ ≡ sets l at (tab (n + m) (residues (followedBy n f g)))
 stored-then l at n m f g e q =
     q
-    ∙ ap (λ (r : List ℕ). sets r (at + n) (tab m (residues g))) (e ∙ ap (sets l at) (tab-same n (residues f) (residues (then n f g)) (λ k b. same-residue f (then n f g) k k (sym (then-lt n k f g b)))))
-    ∙ sets-add l at n m (residues (then n f g)) (residues g) (λ k b. same-residue (then n f g) g (n + k) k (then-ge n k f g))
+    ∙ ap (λ (r : List ℕ). sets r (at + n) (tab m (residues g))) (e ∙ ap (sets l at) (tab-same n (residues f) (residues (followedBy n f g)) (λ k b. same-residue f (followedBy n f g) k k (sym (then-lt n k f g b)))))
+    ∙ sets-add l at n m (residues (followedBy n f g)) (residues g) (λ k b. same-residue (followedBy n f g) g (n + k) k (then-ge n k f g))
 
 -- n of t, and then the m behind them, which are g's
 pub stored-rest : {out out′ : List ℕ} (l : List ℕ) (at n m : ℕ) (t g : ℕ → Tuple) → ((k : ℕ) → k < m → t (n + k) ≡ g k) → out ≡ sets l at (tab n (residues t))

@@ -1,4 +1,4 @@
--- `keccak_rnd_halfword::half_of` meets its contract: two bytes. Assumes nothing.
+-- `keccak_rnd_halfword::half_of` meets its contract: two bytes.
 use native.Mathlib.Omega.{arith}
 use borrow.Author.Needs.{needs}
 use Rattle.keccak_rnd_halfword.proofs.half_of.Statement.{statement}

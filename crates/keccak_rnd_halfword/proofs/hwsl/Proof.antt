@@ -1,4 +1,4 @@
--- `hwsl` meets its contract: sixteen bits and a shift below 16 fit 64 bits. Assumes nothing.
+-- `hwsl` meets its contract: sixteen bits and a shift below 16 fit 64 bits.
 use mathlib.Core.Path.{sym, ap, _∙_, subst}
 use Prim.Native.Nat.{ℕ, _-_, _<_}
 use native.Mathlib.Omega.{arith}

@@ -1,4 +1,4 @@
--- `shift_lane` meets its contract: a lane is known by its halfwords. Assumes nothing.
+-- `shift_lane` meets its contract: a lane is known by its halfwords.
 use Prim.Native.Nat.{_-_}
 use native.Mathlib.Omega.{arith}
 use borrow.Author.Needs.{needs}

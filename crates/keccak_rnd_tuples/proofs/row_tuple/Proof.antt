@@ -1,4 +1,4 @@
--- `keccak_rnd_tuples::row_tuple` meets its contract: the index in four cases. Assumes nothing.
+-- `keccak_rnd_tuples::row_tuple` meets its contract: the index in four cases.
 use mathlib.Core.Path.{ap}
 use native.Mathlib.Omega.{arith}
 use Rattle.keccak_rnd.specs.Tuples.{roundTuple}

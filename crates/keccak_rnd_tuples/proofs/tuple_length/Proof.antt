@@ -1,4 +1,4 @@
--- `keccak_rnd_tuples::tuple_length` meets its contract: the index in three cases. Assumes nothing.
+-- `keccak_rnd_tuples::tuple_length` meets its contract: the index in three cases.
 use Rattle.keccak_rnd_tuples.proofs.Tuples.{keccak-size, rc-size}
 use borrow.Author.Needs.{needs}
 use Rattle.keccak_rnd_tuples.proofs.tuple_length.Statement.{statement}

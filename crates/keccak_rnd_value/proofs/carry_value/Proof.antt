@@ -1,4 +1,4 @@
--- `keccak_rnd_value::carry_value` meets its contract: the carries stand one after the other. Assumes nothing.
+-- `keccak_rnd_value::carry_value` meets its contract: the carries stand one after the other.
 use mathlib.Core.Path.{_≡_, ap, _∙_}
 use Prim.Native.Nat.{_+_, _*_, _/_, _%_}
 use native.Mathlib.Omega.{arith}

@@ -1,4 +1,4 @@
--- `keccak_rnd_value::element` meets its contract. Assumes nothing.
+-- `keccak_rnd_value::element` meets its contract.
 use mathlib.Core.Path.{refl}
 use borrow.Author.Needs.{needs}
 use Rattle.keccak_rnd_value.proofs.element.Statement.{statement}

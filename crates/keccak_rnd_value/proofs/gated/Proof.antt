@@ -1,4 +1,4 @@
--- `keccak_rnd_value::gated` meets its contract: where MU is 1 the value itself is the product. Assumes nothing.
+-- `keccak_rnd_value::gated` meets its contract: where MU is 1 the value itself is the product.
 use mathlib.Core.Path.{sym, ap, _∙_}
 use Prim.Native.Nat.{ℕ}
 use borrow.Author.Needs.{needs}

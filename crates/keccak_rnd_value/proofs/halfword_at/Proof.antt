@@ -1,4 +1,4 @@
--- `keccak_rnd_value::halfword_at` meets its contract. Assumes nothing.
+-- `keccak_rnd_value::halfword_at` meets its contract.
 use borrow.Author.Needs.{needs}
 use Rattle.keccak_rnd_value.proofs.halfword_at.Statement.{statement}
 use Rattle.keccak_rnd_value.proofs.halfword_at.Tie as tie

@@ -1,4 +1,4 @@
--- `keccak_rnd_value::identity` meets its contract. Assumes nothing.
+-- `keccak_rnd_value::identity` meets its contract.
 use borrow.Author.Needs.{needs}
 use Rattle.keccak_rnd_value.proofs.identity.Statement.{statement}
 use Rattle.keccak_rnd_value.proofs.identity.Tie as tie

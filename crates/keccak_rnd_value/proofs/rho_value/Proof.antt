@@ -1,4 +1,4 @@
--- `keccak_rnd_value::rho_value` meets its contract. Assumes nothing.
+-- `keccak_rnd_value::rho_value` meets its contract.
 use borrow.Author.Needs.{needs}
 use Rattle.keccak_rnd_value.proofs.rho_value.Statement.{statement}
 use Rattle.keccak_rnd_value.proofs.rho_value.Tie as tie

@@ -1,4 +1,4 @@
--- `keccak_rnd_value::theta_value` meets its contract. Assumes nothing.
+-- `keccak_rnd_value::theta_value` meets its contract.
 use borrow.Author.Needs.{needs}
 use Rattle.keccak_rnd_value.proofs.theta_value.Statement.{statement}
 use Rattle.keccak_rnd_value.proofs.theta_value.Tie as tie

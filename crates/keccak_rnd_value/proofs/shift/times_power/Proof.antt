@@ -1,4 +1,4 @@
--- `keccak_rnd_value::shift::times_power` meets its contract: the low word is brought below p, and what passed 2^64 is added. Assumes nothing.
+-- `keccak_rnd_value::shift::times_power` meets its contract: the low word is brought below p, and what passed 2^64 is added.
 use mathlib.Core.Logic.{⊎-elim}
 use mathlib.Core.Path.{_≡_, ap, _∙_}
 use Prim.Native.Nat.{ℕ, _*_, _%_, _^_, _<_}
