@@ -15,8 +15,8 @@ use Rattle.keccak_rnd.specs.Tuples.{alu, areBytes, cxzTuple0, cxzTuple, cxzLeft
 use Rattle.keccak_rnd.proofs.Places.{tuple-at, tuples-from}
 use Rattle.byte_tuples.specs.Lanes.{opNumber, aluLane}
 use Rattle.byte_tuples.specs.declared.Op.the-variants.{And, Xor}
-use Rattle.keccak_rnd_terms.proofs.Terms.{xyb}
-use Rattle.keccak_rnd_operands.specs.declared.Operand.the-variants.{Column, RotatedC, Pi, NotPi}
+use Rattle.keccak_rnd_terms.proofs.Terms.{xyb, rotated-term, pi-term, not-pi-term}
+use Rattle.keccak_rnd_operands.specs.declared.Operand.the-variants.{Column, Term}
 use Rattle.keccak_rnd_operands.specs.declared.Operands.{Operands}
 use Rattle.keccak_rnd_operands.specs.Lanes.{Within, operandByte, laneTuple, aluTuple, OperandsOf, LeftOf, RotOf}
 
@@ -108,9 +108,18 @@ module _ (l : ℕ) where
         tuples = λ row z b. from-lane row 5 l z ∙ stage-at row l z h b;
       }
 
-  pub d-operands : l < 5 → OperandsOf (20 + l) (record { op = Xor; a = Column (203 + ((l + 4) % 5 * 4 + 3) * 8); b = RotatedC ((l + 1) % 5); c = 423 + l * 8 })
+  pub d-operands : l < 5 → OperandsOf (20 + l) (record { op = Xor; a = Column (203 + ((l + 4) % 5 * 4 + 3) * 8); b = Term (8 * ((l + 1) % 5)); c = 423 + l * 8 })
   unfolding Within laneTuple operandByte opNumber
-  d-operands h = record { a-within = omega arith; b-within = omega arith; c-within = omega arith; tuples = λ row z b. from-lane row 20 l z ∙ d-at row l z h b }
+  d-operands h =
+      record {
+        a-within = omega arith;
+        b-within = omega arith;
+        c-within = omega arith;
+        tuples = λ row z b.
+            from-lane row 20 l z
+            ∙ d-at row l z h b
+            ∙ ap (λ (w : ℕ). alu row 2 (word row (203 + ((l + 4) % 5 * 4 + 3) * 8 + z)) w (word row (423 + l * 8 + z))) (sym (rotated-term row ((l + 1) % 5) z (omega arith) b));
+      }
 
   pub theta-operands : l < 25
       → OperandsOf (25 + l)
@@ -120,26 +129,35 @@ module _ (l : ℕ) where
 
   pub ands-operands : l < 25
       → OperandsOf (50 + l)
-      (record { op = And; a = NotPi ((l / 5 + 1) % 5) (l % 5); b = Pi ((l / 5 + 2) % 5) (l % 5); c = 1063 + (l / 5 + 5 * (l % 5)) * 8 })
+      (record { op = And; a = Term (240 + 8 * (5 * ((l / 5 + 1) % 5) + l % 5)); b = Term (40 + 8 * (5 * ((l / 5 + 2) % 5) + l % 5)); c = 1063 + (l / 5 + 5 * (l % 5)) * 8 })
   unfolding Within laneTuple operandByte opNumber
   ands-operands h =
       record {
-        a-within = (omega arith, omega arith);
-        b-within = (omega arith, omega arith);
+        a-within = omega arith;
+        b-within = omega arith;
         c-within = omega arith;
-        tuples = λ row z b. from-lane row 50 l z ∙ ands-at row l z h b;
+        tuples = λ row z b.
+            from-lane row 50 l z
+            ∙ ands-at row l z h b
+            ∙ ap₂ (λ (u v : ℕ). alu row 0 u v (word row (1063 + (l / 5 + 5 * (l % 5)) * 8 + z)))
+            (sym (not-pi-term row ((l / 5 + 1) % 5) (l % 5) z (omega arith) b))
+            (sym (pi-term row ((l / 5 + 2) % 5) (l % 5) z (omega arith) (omega arith) b));
       }
 
   pub chi-operands : l < 25
       → OperandsOf (75 + l)
-      (record { op = Xor; a = Pi (l / 5) (l % 5); b = Column (1063 + (l / 5 + 5 * (l % 5)) * 8); c = 1263 + (l / 5 + 5 * (l % 5)) * 8 })
+      (record { op = Xor; a = Term (40 + 8 * (5 * (l / 5) + l % 5)); b = Column (1063 + (l / 5 + 5 * (l % 5)) * 8); c = 1263 + (l / 5 + 5 * (l % 5)) * 8 })
   unfolding Within laneTuple operandByte opNumber
   chi-operands h =
       record {
-        a-within = (omega arith, omega arith);
+        a-within = omega arith;
         b-within = omega arith;
         c-within = omega arith;
-        tuples = λ row z b. from-lane row 75 l z ∙ chi-at row l z h b;
+        tuples = λ row z b.
+            from-lane row 75 l z
+            ∙ chi-at row l z h b
+            ∙ ap (λ (w : ℕ). alu row 2 w (word row (1063 + (l / 5 + 5 * (l % 5)) * 8 + z)) (word row (1263 + (l / 5 + 5 * (l % 5)) * 8 + z)))
+            (sym (pi-term row (l / 5) (l % 5) z (omega arith) (omega arith) b));
       }
 
 pub iota-operands : OperandsOf 100 (record { op = Xor; a = Column 1263; b = Column 1463; c = 1471 })

@@ -1,17 +1,16 @@
 -- An operand by its kind: where it may stand, a byte of it and its eight bytes.
 use mathlib.Core.Path.{_≡_, refl, sym, ap, subst, _∙_}
 use mathlib.Core.List.{List}
-use Prim.Native.Nat.{ℕ, _+_, _-_, _*_, _≤_, _<_}
+use Prim.Native.Nat.{ℕ, _+_, _-_, _≤_, _<_}
 use native.Mathlib.Omega.{arith}
 use lib.ListN.{length, take, drop, length-drop}
 use lib.Seq.{getD-take, getD-drop, length-take-le}
 use Rattle.lists.specs.Tab.{tab, word}
 use Rattle.lists.proofs.Laws.{tab-same, list-tab}
 use Rattle.keccak_rnd.specs.Columns.{NUM-COLUMNS}
-use Rattle.keccak_rnd_terms.specs.Terms.{TermsOf}
-use Rattle.keccak_rnd_terms.proofs.Terms.{rotated-term, pi-term, not-pi-term}
+use Rattle.keccak_rnd_terms.specs.Terms.{NUM-TERMS, TermsOf}
 use Rattle.keccak_rnd_operands.specs.declared.Operand.{Operand}
-use Rattle.keccak_rnd_operands.specs.declared.Operand.the-variants.{Column, RotatedC, Pi, NotPi}
+use Rattle.keccak_rnd_operands.specs.declared.Operand.the-variants.{Column, Term}
 use Rattle.keccak_rnd_operands.specs.Lanes.{Within, operandByte}
 
 module _ {o : Operand} where
@@ -19,17 +18,9 @@ module _ {o : Operand} where
   unfolding Within
   column-within e h = subst Within e h
 
-  pub rotated-within : {x : ℕ} → o ≡ RotatedC x → Within o → x < 5
+  pub term-within : {k : ℕ} → o ≡ Term k → Within o → k + 8 ≤ NUM-TERMS
   unfolding Within
-  rotated-within e h = subst Within e h
-
-  pub pi-within : {x y : ℕ} → o ≡ Pi x y → Within o → (x < 5) × (y < 5)
-  unfolding Within
-  pi-within e h = subst Within e h
-
-  pub not-pi-within : {x y : ℕ} → o ≡ NotPi x y → Within o → (x < 5) × (y < 5)
-  unfolding Within
-  not-pi-within e h = subst Within e h
+  term-within e h = subst Within e h
 
   module _ (row : List ℕ) where
     -- what was read of an operand of that kind is read of this one
@@ -43,27 +34,10 @@ module _ {o : Operand} where
     unfolding operandByte
     column-lane e h = lane-of e h
 
-    module _ (terms : List ℕ) (t : TermsOf row terms) where
-      pub rotated-lane : {x : ℕ} {vs : List ℕ} → o ≡ RotatedC x → x < 5 → vs ≡ tab 8 (λ z. word terms (8 * x + z)) → vs ≡ tab 8 (operandByte row o)
-      unfolding operandByte
-      rotated-lane {x} e b h =
-          lane-of e (h ∙ tab-same 8 (λ z. word terms (8 * x + z)) (operandByte row (RotatedC x)) (λ z l. t .is (8 * x + z) (omega arith) ∙ rotated-term row x z b l))
-
-      pub pi-lane : {x y : ℕ} {vs : List ℕ} → o ≡ Pi x y → (x < 5) × (y < 5) → vs ≡ tab 8 (λ z. word terms (40 + 8 * (5 * x + y) + z)) → vs ≡ tab 8 (operandByte row o)
-      unfolding operandByte
-      pi-lane {x} {y} e b h =
-          lane-of e
-          (h
-          ∙ tab-same 8 (λ z. word terms (40 + 8 * (5 * x + y) + z)) (operandByte row (Pi x y))
-          (λ z l. t .is (40 + 8 * (5 * x + y) + z) (omega (arith, b .0, b .1)) ∙ pi-term row x y z (b .0) (b .1) l))
-
-      pub not-pi-lane : {x y : ℕ} {vs : List ℕ} → o ≡ NotPi x y → (x < 5) × (y < 5) → vs ≡ tab 8 (λ z. word terms (240 + 8 * (5 * x + y) + z)) → vs ≡ tab 8 (operandByte row o)
-      unfolding operandByte
-      not-pi-lane {x} {y} e b h =
-          lane-of e
-          (h
-          ∙ tab-same 8 (λ z. word terms (240 + 8 * (5 * x + y) + z)) (operandByte row (NotPi x y))
-          (λ z l. t .is (240 + 8 * (5 * x + y) + z) (omega (arith, b .0, b .1)) ∙ not-pi-term row x y z (b .1) l))
+    pub term-lane : {k : ℕ} {vs : List ℕ} (terms : List ℕ) → TermsOf row terms → o ≡ Term k → k + 8 ≤ NUM-TERMS → vs ≡ tab 8 (λ z. word terms (k + z))
+        → vs ≡ tab 8 (operandByte row o)
+    unfolding operandByte
+    term-lane {k} terms t e b h = lane-of e (h ∙ tab-same 8 (λ z. word terms (k + z)) (operandByte row (Term k)) (λ z l. t .is (k + z) (omega arith)))
 
 -- eight words of a list
 pub part-is : (ws : List ℕ) (s : ℕ) → s + 8 ≤ length ws → take (s + 8 - s) (drop s ws) ≡ tab 8 (λ z. word ws (s + z))

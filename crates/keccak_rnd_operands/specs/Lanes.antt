@@ -7,9 +7,10 @@ use Rattle.lists.specs.Tab.{followedBy, word}
 use Rattle.lookup.specs.Tuple.{Tuple}
 use Rattle.byte_tuples.specs.Lanes.{opNumber}
 use Rattle.keccak_rnd.specs.Columns.{NUM-COLUMNS}
-use Rattle.keccak_rnd.specs.Tuples.{CXZ-TUPLES, CXZ-LEFT-TUPLES, DXZ-TUPLES, ROT-TUPLES, CHI-ANDS-TUPLES, alu, areBytes, rotatedCAt, piAt, notPiAt, roundTuple}
+use Rattle.keccak_rnd.specs.Tuples.{CXZ-TUPLES, CXZ-LEFT-TUPLES, DXZ-TUPLES, ROT-TUPLES, CHI-ANDS-TUPLES, alu, areBytes, roundTuple}
+use Rattle.keccak_rnd_terms.specs.Terms.{NUM-TERMS, term}
 use Rattle.keccak_rnd_operands.specs.declared.Operand.{Operand}
-use Rattle.keccak_rnd_operands.specs.declared.Operand.the-variants.{Column, RotatedC, Pi, NotPi}
+use Rattle.keccak_rnd_operands.specs.declared.Operand.the-variants.{Column, Term}
 use Rattle.keccak_rnd_operands.specs.declared.Operands.{Operands}
 use Rattle.keccak_rnd_operands.specs.declared.Pair.{Pair}
 
@@ -17,16 +18,12 @@ use Rattle.keccak_rnd_operands.specs.declared.Pair.{Pair}
 -- byte z of an operand
 unfoldable pub operandByte : List ℕ → Operand → ℕ → ℕ
 operandByte row (Column k) z = word row (k + z)
-operandByte row (RotatedC x) z = rotatedCAt row x z
-operandByte row (Pi x y) z = piAt row x y z
-operandByte row (NotPi x y) z = notPiAt row x y z
+operandByte row (Term k) z = term row (k + z)
 
--- it is within the row, or a lane
+-- all eight are there
 unfoldable pub Within : Operand → Type 0
 Within (Column k) = k + 8 ≤ NUM-COLUMNS
-Within (RotatedC x) = x < 5
-Within (Pi x y) = (x < 5) × (y < 5)
-Within (NotPi x y) = (x < 5) × (y < 5)
+Within (Term k) = k + 8 ≤ NUM-TERMS
 
 -- tuple z of a lane
 unfoldable pub laneTuple : List ℕ → Operands → ℕ → Tuple

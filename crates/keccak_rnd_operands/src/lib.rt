@@ -15,9 +15,7 @@ use keccak_rnd::START;
 use keccak_rnd::THETA;
 use keccak_rnd_terms::NOT_PI;
 use keccak_rnd_terms::PI;
-use keccak_rnd_terms::not_pi_at;
-use keccak_rnd_terms::pi_at;
-use keccak_rnd_terms::rotated_c;
+use keccak_rnd_terms::term_at;
 ghost use mathlib.Core.Path.{_≡_};
 ghost use Prim.Native.Nat.{_+_, _≤_, _<_};
 ghost use lib.ListN.{length};
@@ -42,12 +40,10 @@ pub const IOTA_LANE: usize = 100;
 
 pub const NUM_LANES: usize = 101;
 
-// The eight bytes of an operand: those from a column on, or a lane that no column holds.
+// The eight bytes of an operand: those from a column on, or from a term on.
 pub enum Operand {
     Column(usize),
-    RotatedC(usize),
-    Pi(usize, usize),
-    NotPi(usize, usize),
+    Term(usize),
 }
 
 // op(a, b) = c for each of eight bytes; c is the column of the first.
@@ -91,7 +87,7 @@ fn parity_operands(l: usize) -> Operands
     Operands {
         op: Op::Xor,
         a: Operand::Column(CXZ + ((x + 4) % 5 * 4 + 3) * 8),
-        b: Operand::RotatedC((x + 1) % 5),
+        b: Operand::Term(8 * ((x + 1) % 5)),
         c: DXZ + x * 8,
     }
 }
@@ -124,14 +120,14 @@ fn state_operands(l: usize) -> Operands
     if l < CHI_LANE {
         return Operands {
             op: Op::And,
-            a: Operand::NotPi((x + 1) % 5, y),
-            b: Operand::Pi((x + 2) % 5, y),
+            a: Operand::Term(NOT_PI + 8 * (5 * ((x + 1) % 5) + y)),
+            b: Operand::Term(PI + 8 * (5 * ((x + 2) % 5) + y)),
             c: CHI_ANDS + lane,
         };
     }
     Operands {
         op: Op::Xor,
-        a: Operand::Pi(x, y),
+        a: Operand::Term(PI + 8 * (5 * x + y)),
         b: Operand::Column(CHI_ANDS + lane),
         c: CHI + lane,
     }
@@ -176,9 +172,7 @@ pub fn operand_byte(row: &[u64], operand: Operand, z: usize) -> u64
 {
     match operand {
         Operand::Column(k) => row[k + z],
-        Operand::RotatedC(x) => rotated_c(row, x, z),
-        Operand::Pi(x, y) => pi_at(row, x, y, z),
-        Operand::NotPi(x, y) => not_pi_at(row, x, y, z),
+        Operand::Term(k) => term_at(row, k + z),
     }
 }
 
@@ -198,8 +192,6 @@ pub fn operand_lane<'a>(row: &'a [u64], terms: &'a [u64], operand: Operand) -> &
 {
     match operand {
         Operand::Column(k) => lane_from(row, k),
-        Operand::RotatedC(x) => lane_from(terms, 8 * x),
-        Operand::Pi(x, y) => lane_from(terms, PI + 8 * (5 * x + y)),
-        Operand::NotPi(x, y) => lane_from(terms, NOT_PI + 8 * (5 * x + y)),
+        Operand::Term(k) => lane_from(terms, k),
     }
 }

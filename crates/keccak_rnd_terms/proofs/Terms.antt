@@ -7,7 +7,7 @@ use lib.ListN.{length, set}
 use lib.Seq.{sets, getD-set-other}
 use Rattle.lists.specs.Tab.{tab, followedBy, word}
 use Rattle.lists.proofs.Laws.{Filled, tab-same, sets-then, stored-at, stored-long}
-use Rattle.lists.proofs.Then.{then-lt, then-ge, at-two, at-three}
+use Rattle.lists.proofs.Then.{then-lt, then-ge, then-past, at-two, at-three}
 use Rattle.field.specs.Field.{p, fadd, fsub}
 use Rattle.field.specs.Elements.{ElementRow}
 use Rattle.field.proofs.Field.{mod-p, fsub-sum}
@@ -91,9 +91,28 @@ pub terms-of : (row l vs : List ℕ) → 440 ≤ length l → vs ≡ sets l 0 (t
 terms-of row l vs h e = record { long = stored-long l vs (tab 440 (term row)) 440 h e; is = λ k b. stored-at l vs (term row) 440 k h e b }
 
 module _ (row : List ℕ) where
-  pub rotated-term : (x z : ℕ) → x < 5 → z < 8 → term row (8 * x + z) ≡ rotatedCAt row x z
+  -- by their numbers
+  pub at-rotated : (k : ℕ) → k < 40 → term row k ≡ rotatedCAt row (k / 8) (k % 8)
   unfolding term
-  rotated-term x z hx hz = then-lt 40 (8 * x + z) _ _ (omega arith) ∙ at-two (rotatedCAt row) (part x z hz) (low x z hz)
+  at-rotated k h = then-lt 40 k _ _ h
+
+  pub at-pi : (k : ℕ) → 40 ≤ k → k < 240 → term row k ≡ byXYB (piAt row) (k - 40)
+  unfolding term
+  at-pi k l h =
+      let b : k - 40 < 200 = omega arith in
+      then-past 40 k _ _ l ∙ then-lt 200 (k - 40) _ _ b
+
+  pub at-not-pi : (k : ℕ) → 240 ≤ k → term row k ≡ byXYB (notPiAt row) (k - 240)
+  unfolding term
+  at-not-pi k l =
+      let a : 40 ≤ k = omega arith in
+      let b : 200 ≤ k - 40 = omega arith in
+      let e : k - 40 - 200 ≡ k - 240 = omega arith in
+      then-past 40 k _ _ a ∙ then-past 200 (k - 40) _ _ b ∙ ap (byXYB (notPiAt row)) e
+
+  -- by their lanes
+  pub rotated-term : (x z : ℕ) → x < 5 → z < 8 → term row (8 * x + z) ≡ rotatedCAt row x z
+  rotated-term x z hx hz = at-rotated (8 * x + z) (omega arith) ∙ at-two (rotatedCAt row) (part x z hz) (low x z hz)
     where
       part : (x z : ℕ) → z < 8 → (8 * x + z) / 8 ≡ x
       part x z b = omega arith
@@ -101,7 +120,6 @@ module _ (row : List ℕ) where
       low : (x z : ℕ) → z < 8 → (8 * x + z) % 8 ≡ z
       low x z b = omega arith
 
-  -- a byte of lane (x, y)
   lane-byte : {A : Type 0} (f : ℕ → ℕ → ℕ → A) (x y z : ℕ) → y < 5 → z < 8 → byXYB f (8 * (5 * x + y) + z) ≡ f x y z
   lane-byte f x y z hy hz = xyb f (5 * x + y) z hz ∙ ap₂ (λ (a b : ℕ). f a b z) (part x y hy) (rest x y hy)
     where
@@ -112,19 +130,11 @@ module _ (row : List ℕ) where
       rest x y h = omega arith
 
   pub pi-term : (x y z : ℕ) → x < 5 → y < 5 → z < 8 → term row (40 + 8 * (5 * x + y) + z) ≡ piAt row x y z
-  unfolding term
   pi-term x y z hx hy hz =
-      let e : 40 + 8 * (5 * x + y) + z ≡ 40 + (8 * (5 * x + y) + z) = omega arith in
-      ap (followedBy 40 (λ k. rotatedCAt row (k / 8) (k % 8)) (followedBy 200 (byXYB (piAt row)) (byXYB (notPiAt row)))) e
-      ∙ then-ge 40 (8 * (5 * x + y) + z) _ _
-      ∙ then-lt 200 (8 * (5 * x + y) + z) _ _ (omega arith)
-      ∙ lane-byte (piAt row) x y z hy hz
+      let e : 40 + 8 * (5 * x + y) + z - 40 ≡ 8 * (5 * x + y) + z = omega arith in
+      at-pi (40 + 8 * (5 * x + y) + z) (omega arith) (omega arith) ∙ ap (byXYB (piAt row)) e ∙ lane-byte (piAt row) x y z hy hz
 
   pub not-pi-term : (x y z : ℕ) → y < 5 → z < 8 → term row (240 + 8 * (5 * x + y) + z) ≡ notPiAt row x y z
-  unfolding term
   not-pi-term x y z hy hz =
-      let e : 240 + 8 * (5 * x + y) + z ≡ 40 + (200 + (8 * (5 * x + y) + z)) = omega arith in
-      ap (followedBy 40 (λ k. rotatedCAt row (k / 8) (k % 8)) (followedBy 200 (byXYB (piAt row)) (byXYB (notPiAt row)))) e
-      ∙ then-ge 40 (200 + (8 * (5 * x + y) + z)) _ _
-      ∙ then-ge 200 (8 * (5 * x + y) + z) _ _
-      ∙ lane-byte (notPiAt row) x y z hy hz
+      let e : 240 + 8 * (5 * x + y) + z - 240 ≡ 8 * (5 * x + y) + z = omega arith in
+      at-not-pi (240 + 8 * (5 * x + y) + z) (omega arith) ∙ ap (byXYB (notPiAt row)) e ∙ lane-byte (notPiAt row) x y z hy hz

@@ -26,7 +26,7 @@ pub const PI: usize = 40;
 pub const NOT_PI: usize = 240;
 
 // Byte b of C[x] rotated by one: an even byte takes the carry of the halfword below it.
-pub fn rotated_c(row: &[u64], x: usize, b: usize) -> u64
+fn rotated_c(row: &[u64], x: usize, b: usize) -> u64
     requires { ⌜ ElementRow NUM-COLUMNS (now row) × (x < 5) × (b < 8) ⌝ }
     ensures { λ r. ⌜ r ≡ rotatedCAt (now (row .entry)) x b ⌝ }
 {
@@ -141,7 +141,7 @@ pub fn put_terms(row: &[u64], out: &mut [u64])
 }
 
 // Byte z of lane (x, y) of π.
-pub fn pi_at(row: &[u64], x: usize, y: usize, z: usize) -> u64
+fn pi_at(row: &[u64], x: usize, y: usize, z: usize) -> u64
     requires { ⌜ ElementRow NUM-COLUMNS (now row) × (x < 5) × (y < 5) × (z < 8) ⌝ }
     ensures { λ r. ⌜ r ≡ piAt (now (row .entry)) x y z ⌝ }
 {
@@ -150,10 +150,26 @@ pub fn pi_at(row: &[u64], x: usize, y: usize, z: usize) -> u64
 }
 
 // And 255 less that byte.
-pub fn not_pi_at(row: &[u64], x: usize, y: usize, z: usize) -> u64
+fn not_pi_at(row: &[u64], x: usize, y: usize, z: usize) -> u64
     requires { ⌜ ElementRow NUM-COLUMNS (now row) × (x < 5) × (y < 5) × (z < 8) ⌝ }
     ensures { λ r. ⌜ r ≡ notPiAt (now (row .entry)) x y z ⌝ }
 {
     let a = pi_at(row, x, y, z);
     not_byte(a)
+}
+
+// Term k of a row.
+pub fn term_at(row: &[u64], k: usize) -> u64
+    requires { ⌜ ElementRow NUM-COLUMNS (now row) × (k < NUM-TERMS) ⌝ }
+    ensures { λ r. ⌜ r ≡ term (now (row .entry)) k ⌝ }
+{
+    if k < PI {
+        return rotated_c(row, k / 8, k % 8);
+    }
+    if k < NOT_PI {
+        let i = k - PI;
+        return pi_at(row, i / 40, i / 8 % 5, i % 8);
+    }
+    let i = k - NOT_PI;
+    not_pi_at(row, i / 40, i / 8 % 5, i % 8)
 }

@@ -5,10 +5,10 @@ use Prim.Native.Nat.{ℕ, _+_, _*_, _≤_, _<_}
 use lib.ListN.{length, drop}
 use lib.Dec.{eqb}
 use lib.Seq.{sets, length-sets, drop-at}
-use Rattle.lists.specs.Tab.{tab, followedBy}
+use Rattle.lists.specs.Tab.{tab, followedBy, word}
 use Rattle.lists.proofs.Laws.{Filled, filled-block, sets-add, sets-front, stored-at, length-tab}
 use Rattle.lists.proofs.Then.{then-lt, then-ge}
-use Rattle.lists.proofs.Laws.{tab-same}
+use Rattle.lists.proofs.Laws.{getD-tab, tab-same}
 use Rattle.lookup.specs.Tuple.{Tuple, sender}
 use Rattle.lookup.specs.declared.Bus.the-variants.{ByteAlu}
 use Rattle.byte_tuples.specs.Lanes.{opNumber}
@@ -56,3 +56,7 @@ marked n t l out h e =
 pub of-op : {r : ℕ} {o q : Op} (m a b c : ℕ) → o ≡ q → r ≡ residue (sender ByteAlu m (opNumber q ∷ a ∷ b ∷ c ∷ []))
     → r ≡ residue (sender ByteAlu m (opNumber o ∷ a ∷ b ∷ c ∷ []))
 of-op m a b c e h = h ∙ sym (ap (λ (t : Op). residue (sender ByteAlu m (opNumber t ∷ a ∷ b ∷ c ∷ []))) e)
+
+-- a lane that was made first
+pub lane-stored : {out lane : List ℕ} (l : List ℕ) (at : ℕ) (f : ℕ → ℕ) → lane ≡ tab 8 f → out ≡ sets l at (tab 8 (word lane)) → out ≡ sets l at (tab 8 f)
+lane-stored {lane = lane} l at f h e = e ∙ ap (sets l at) (tab-same 8 (word lane) f (λ k b. ap (λ (r : List ℕ). word r k) h ∙ getD-tab 8 f k 0 b))

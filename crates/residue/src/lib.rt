@@ -1,6 +1,7 @@
 // A tuple's residue: 0 exactly where the tuple needs no match or has one. Of one tuple by its values, with no branch but
 // that on the multiplicity; and of a lane of eight.
 use byte_tuples::Op;
+use lists::put_words;
 ghost use mathlib.Core.Path.{_≡_};
 ghost use mathlib.Core.List.{[], _∷_};
 ghost use Prim.Native.Nat.{_+_, _≤_};
@@ -72,7 +73,22 @@ pub fn is_wh_residue(multiplicity: u64, w: u64, h: u64) -> u64
     (w >> 32) | (h >> 16)
 }
 
-// A lane of eight: op on the words of `a` and of `b`, in those of `row` from c.
+// A lane of eight: op on the words of `a` and of `b`, in those of `row` from c. All are read before the first is stored, so
+// that the compiler may take several at a time.
+fn alu_lane(multiplicity: u64, op: Op, a: &[u64], b: &[u64], row: &[u64], c: usize) -> [u64; 8]
+    requires { ⌜ (8 ≤ length (now a)) × (8 ≤ length (now b)) × (c + 8 ≤ length (now row)) ⌝ }
+    ensures { λ r. ⌜ r ≡ tab 8 (residues (aluLane multiplicity (opNumber op) (now (a .entry)) (now (b .entry)) (now (row .entry)) c)) ⌝ }
+{
+    let mut lane = [0u64; 8];
+    let mut z: usize = 0;
+    while z < 8 {
+        lane[z] = alu_residue(multiplicity, op, a[z], b[z], row[c + z]);
+        z += 1;
+    }
+    lane
+}
+
+// Its residues, into `out` from `at`.
 pub fn put_alu_lane(
     multiplicity: u64,
     op: Op,
@@ -86,11 +102,8 @@ pub fn put_alu_lane(
     requires { ⌜ (8 ≤ length (now a)) × (8 ≤ length (now b)) × (c + 8 ≤ length (now row)) × (at + 8 ≤ length (now out)) ⌝ }
     ensures { λ _. ⌜ now (out .exit) ≡ sets (now (out .entry)) at (tab 8 (residues (aluLane multiplicity (opNumber op) (now (a .entry)) (now (b .entry)) (now (row .entry)) c))) ⌝ }
 {
-    let mut z: usize = 0;
-    while z < 8 {
-        out[at + z] = alu_residue(multiplicity, op, a[z], b[z], row[c + z]);
-        z += 1;
-    }
+    let lane = alu_lane(multiplicity, op, a, b, row, c);
+    put_words(out, at, &lane, 8);
 }
 
 // A lane of eight pairs of bytes: the words from a and from b.

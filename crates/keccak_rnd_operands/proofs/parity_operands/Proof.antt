@@ -1,6 +1,6 @@
 -- `keccak_rnd_operands::parity_operands` meets its contract, group by group.
 use native.Mathlib.Omega.{arith}
-use Rattle.keccak_rnd_operands.proofs.Groups.{d-operands, parity-operands, stage-operands, same-lane}
+use Rattle.keccak_rnd_operands.proofs.Groups.{stage-operands, parity-operands, d-operands, same-lane}
 use Rattle.keccak_rnd_operands.proofs.parity_operands.Statement.{statement}
 use Rattle.keccak_rnd_operands.proofs.parity_operands.Tie as tie
 
@@ -94,11 +94,14 @@ add-t40 c = omega arith
 add-t42 : tie.Need-add-t42
 add-t42 c = omega arith
 
-mul-t45 : tie.Need-mul-t45
-mul-t45 c = omega arith
+mul-t44 : tie.Need-mul-t44
+mul-t44 c = omega arith
 
-add-t46 : tie.Need-add-t46
-add-t46 c = omega arith
+mul-t46 : tie.Need-mul-t46
+mul-t46 c = omega arith
+
+add-t47 : tie.Need-add-t47
+add-t47 c = omega arith
 
 returns-3 : tie.Need-returns-3
 returns-3 c = same-lane (omega arith) (d-operands _ (omega arith))
@@ -137,6 +140,7 @@ parity-operands-spec =
     mul-t39
     add-t40
     add-t42
-    mul-t45
-    add-t46
+    mul-t44
+    mul-t46
+    add-t47
     returns-3)
