@@ -311,7 +311,8 @@ keccak_tables_tuple keccak_tables_is_wh_bus_interaction(const uint64_t *row, siz
 /* ---- the core table ---- */
 
 /*
- * Writes the core row of operation `index` of a list.
+ * Writes the core row of operation `index` of a list. Every address of the list is checked, so a call's time grows with the list: where
+ * one row is wanted, lend its 52 words alone, `keccak_tables_keccak_row(ops + 52 * index, 52, 0, row, 486)`.
  * 1 more than 89,478,485 operations, then index >= their number; 2 the list; 3 row < 486; 4 the first high address of the list.
  */
 KECCAK_TABLES_MUST_USE
@@ -322,6 +323,14 @@ keccak_tables_answer keccak_tables_keccak_row(const uint64_t *ops, size_t ops_le
 KECCAK_TABLES_MUST_USE
 keccak_tables_answer keccak_tables_generate_keccak_trace(const uint64_t *ops, size_t ops_length, uint64_t *table,
                                                          size_t table_length);
+
+/*
+ * Writes the rows of a list's operations alone, with no padding. The rows of two lists, one after the other, are those of the list that
+ * the two make, so threads can fill one table, each its own part from its part of the list.
+ * 1 more than 89,478,485 operations; 2 the list; 3 table < 486 n; 4 a high address.
+ */
+KECCAK_TABLES_MUST_USE
+keccak_tables_answer keccak_tables_keccak_rows(const uint64_t *ops, size_t ops_length, uint64_t *table, size_t table_length);
 
 /* Writes the keys of a list, 25 to an operation. 1 more than 89,478,485 operations; 2 the list; 3 out < 50 n; 4 a high address. */
 KECCAK_TABLES_MUST_USE
@@ -362,6 +371,10 @@ keccak_tables_answer keccak_tables_keccak_rnd_row(uint64_t timestamp, const uint
 KECCAK_TABLES_MUST_USE
 keccak_tables_answer keccak_tables_generate_keccak_rnd_trace(const uint64_t *ops, size_t ops_length, uint64_t *table,
                                                              size_t table_length);
+
+/* Writes the rows of a list's operations alone, 24 to each, likewise. 1, 2 and 4 as the table; 3 table < 24 * 1,480 n. */
+KECCAK_TABLES_MUST_USE
+keccak_tables_answer keccak_tables_keccak_rnd_rows(const uint64_t *ops, size_t ops_length, uint64_t *table, size_t table_length);
 
 /* The height of the round table of n operations: the next power of two of 24 n, at least 4. 1 n > 89,478,485. */
 KECCAK_TABLES_MUST_USE

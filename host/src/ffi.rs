@@ -148,6 +148,7 @@ bind! {
 
     keccak_row = keccak_tables_keccak_row(ops: &[u64], index: usize, row: &mut [u64]) -> FlatAnswer;
     generate_keccak_trace = keccak_tables_generate_keccak_trace(ops: &[u64], table: &mut [u64]) -> FlatAnswer;
+    keccak_rows = keccak_tables_keccak_rows(ops: &[u64], table: &mut [u64]) -> FlatAnswer;
     is_wh_keys = keccak_tables_is_wh_keys(ops: &[u64], out: &mut [u64]) -> FlatAnswer;
     keccak_height = keccak_tables_keccak_height(n: usize) -> FlatNumber;
     keccak_values = keccak_tables_keccak_values(row: &[u64], out: &mut [u64]) -> FlatAnswer;
@@ -159,6 +160,7 @@ bind! {
     keccak_rnd_row =
         keccak_tables_keccak_rnd_row(timestamp: u64, start: &[u64], round: usize, row: &mut [u64]) -> FlatAnswer;
     generate_keccak_rnd_trace = keccak_tables_generate_keccak_rnd_trace(ops: &[u64], table: &mut [u64]) -> FlatAnswer;
+    keccak_rnd_rows = keccak_tables_keccak_rnd_rows(ops: &[u64], table: &mut [u64]) -> FlatAnswer;
     keccak_rnd_height = keccak_tables_keccak_rnd_height(n: usize) -> FlatNumber;
     padding_are_bytes = keccak_tables_padding_are_bytes(n: usize) -> FlatNumber;
     keccak_rnd_values = keccak_tables_keccak_rnd_values(row: &[u64], out: &mut [u64]) -> FlatAnswer;

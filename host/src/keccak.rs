@@ -19,6 +19,7 @@
 
 pub mod cols;
 
+use crate::all_cores;
 use crate::ffi;
 use crate::operation::OP_WORDS;
 use crate::refusal::Refusal;
@@ -47,6 +48,20 @@ pub const LAST_ADDRESS: u64 = u64::MAX - 192;
 
 /// Writes the row of operation `index` of a list to the front of `row`.
 ///
+/// Every address of the list is checked, on each call, so its time grows with the list. Where one row is wanted, lend its
+/// operation alone; the rows of many are [`keccak_rows`].
+///
+/// ```
+/// use keccak_tables::{OP_WORDS, Operation, Refusal, keccak};
+///
+/// let operation = |timestamp| Operation { timestamp, address: 4096, input: [0; 25], output: [0; 25] };
+/// let list = Operation::list(&[operation(5), operation(6), operation(7)]);
+/// let mut row = [0; keccak::NUM_COLUMNS];
+/// keccak::keccak_row(&list[2 * OP_WORDS..][..OP_WORDS], 0, &mut row)?;
+/// assert_eq!(row[0], 7);
+/// # Ok::<(), Refusal>(())
+/// ```
+///
 /// # Errors
 ///
 /// [`PastEnd`](Refusal::PastEnd): more than [`MAX_OPS`](crate::MAX_OPS) operations, then `index` is not below their
@@ -69,7 +84,37 @@ pub fn generate_keccak_trace(ops: &[u64], table: &mut [u64]) -> Result<(), Refus
     ffi::generate_keccak_trace(ops, table).into()
 }
 
-/// The core table of a list of operations, in memory of its own.
+/// Writes the rows of a list of operations, without the table's padding, to the front of `table`.
+///
+/// The rows of two lists, one after the other, are those of the list that the two make, so threads can fill one table:
+///
+/// ```
+/// use keccak_tables::{OP_WORDS, Operation, Refusal, keccak};
+///
+/// let operation = |timestamp| Operation { timestamp, address: 4096, input: [0; 25], output: [0; 25] };
+/// let list = Operation::list(&[operation(5), operation(6), operation(7)]);
+/// let mut rows = vec![0; 3 * keccak::NUM_COLUMNS];
+/// let (early, late) = rows.split_at_mut(2 * keccak::NUM_COLUMNS);
+/// std::thread::scope(|scope| {
+///     let early = scope.spawn(|| keccak::keccak_rows(&list[..2 * OP_WORDS], early));
+///     keccak::keccak_rows(&list[2 * OP_WORDS..], late)?;
+///     early.join().expect("no call panics")
+/// })?;
+/// assert_eq!(rows, keccak::keccak_table(&list)?[..rows.len()]);
+/// # Ok::<(), Refusal>(())
+/// ```
+///
+/// # Errors
+///
+/// [`PastEnd`](Refusal::PastEnd): more than [`MAX_OPS`](crate::MAX_OPS) operations; [`NotWhole`](Refusal::NotWhole):
+/// `ops` is not whole operations; [`TooShort`](Refusal::TooShort): `table` has fewer than 486 words for each operation;
+/// [`HighAddress`](Refusal::HighAddress): an operation's address is above
+/// [`LAST_ADDRESS`].
+pub fn keccak_rows(ops: &[u64], table: &mut [u64]) -> Result<(), Refusal> {
+    ffi::keccak_rows(ops, table).into()
+}
+
+/// The core table of a list of operations, in memory of its own. The rows of a long list are written on all cores.
 ///
 /// # Errors
 ///
@@ -77,9 +122,24 @@ pub fn generate_keccak_trace(ops: &[u64], table: &mut [u64]) -> Result<(), Refus
 /// `ops` is not whole operations; [`HighAddress`](Refusal::HighAddress): an operation's address is above
 /// [`LAST_ADDRESS`].
 pub fn keccak_table(ops: &[u64]) -> Result<Vec<u64>, Refusal> {
-    let mut table = vec![0; keccak_height(ops.len() / OP_WORDS)? * NUM_COLUMNS];
-    generate_keccak_trace(ops, &mut table)?;
+    let n = ops.len() / OP_WORDS;
+    let mut table = vec![0; keccak_height(n)? * NUM_COLUMNS];
+    let (rows, padding) = table.split_at_mut(n * NUM_COLUMNS);
+    if all_cores::write(ops, rows, keccak_rows) {
+        pad(padding)?;
+    } else {
+        generate_keccak_trace(ops, &mut table)?;
+    }
     Ok(table)
+}
+
+/// Writes padding rows: those of the table of no operations.
+fn pad(rows: &mut [u64]) -> Result<(), Refusal> {
+    let padding = keccak_table(&[])?;
+    for row in rows.chunks_mut(NUM_COLUMNS) {
+        row.copy_from_slice(&padding[..NUM_COLUMNS]);
+    }
+    Ok(())
 }
 
 /// Writes the IS_WH keys of a list of operations: for each lane the pointer's upper 32 bits, then its bits 16 to 31.

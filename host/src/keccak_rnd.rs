@@ -16,6 +16,7 @@
 
 pub mod cols;
 
+use crate::all_cores;
 use crate::ffi;
 use crate::operation::OP_WORDS;
 use crate::refusal::Refusal;
@@ -62,7 +63,21 @@ pub fn generate_keccak_rnd_trace(ops: &[u64], table: &mut [u64]) -> Result<(), R
     ffi::generate_keccak_rnd_trace(ops, table).into()
 }
 
-/// The round table of a list of operations, in memory of its own.
+/// Writes the rows of a list of operations, 24 to each and without the table's padding, to the front of `table`. The rows of two
+/// lists, one after the other, are those of the list that the two make, so threads can fill one table, as with
+/// [`keccak_rows`](crate::keccak::keccak_rows).
+///
+/// # Errors
+///
+/// [`PastEnd`](Refusal::PastEnd): more than [`MAX_OPS`](crate::MAX_OPS) operations; [`NotWhole`](Refusal::NotWhole):
+/// `ops` is not whole operations; [`TooShort`](Refusal::TooShort): `table` has fewer than 24 times 1,480 words for each
+/// operation; [`HighAddress`](Refusal::HighAddress): an operation's address is above
+/// [`LAST_ADDRESS`](crate::keccak::LAST_ADDRESS).
+pub fn keccak_rnd_rows(ops: &[u64], table: &mut [u64]) -> Result<(), Refusal> {
+    ffi::keccak_rnd_rows(ops, table).into()
+}
+
+/// The round table of a list of operations, in memory of its own. The rows of a long list are written on all cores.
 ///
 /// # Errors
 ///
@@ -70,8 +85,12 @@ pub fn generate_keccak_rnd_trace(ops: &[u64], table: &mut [u64]) -> Result<(), R
 /// `ops` is not whole operations; [`HighAddress`](Refusal::HighAddress): an operation's address is above
 /// [`LAST_ADDRESS`](crate::keccak::LAST_ADDRESS).
 pub fn keccak_rnd_table(ops: &[u64]) -> Result<Vec<u64>, Refusal> {
-    let mut table = vec![0; keccak_rnd_height(ops.len() / OP_WORDS)? * NUM_COLUMNS];
-    generate_keccak_rnd_trace(ops, &mut table)?;
+    let n = ops.len() / OP_WORDS;
+    let mut table = vec![0; keccak_rnd_height(n)? * NUM_COLUMNS];
+    // The padding is zero, as the memory is.
+    if !all_cores::write(ops, &mut table[..n * ROUNDS * NUM_COLUMNS], keccak_rnd_rows) {
+        generate_keccak_rnd_trace(ops, &mut table)?;
+    }
     Ok(table)
 }
 

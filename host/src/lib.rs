@@ -6,7 +6,8 @@
 //! the caller must meet; the two that put a table into memory of its own need that memory, as any `Vec`.
 //!
 //! The functions behind these are written in Rattle and proved against their contracts
-//! (`crates/keccak_tables/src`); this crate only turns slices into pointers and flat answers into `Result`s.
+//! (`crates/keccak_tables/src`); this crate only turns slices into pointers and flat answers into `Result`s, and shares the rows of
+//! a long list among threads.
 //!
 //! ```
 //! use keccak_tables::{Operation, Refusal, keccak, keccak_rnd};
@@ -34,6 +35,7 @@ pub mod layout;
 pub mod operation_file;
 pub mod verdict;
 
+mod all_cores;
 #[allow(unsafe_code)]
 mod ffi;
 mod operation;

@@ -2,6 +2,8 @@
 
 use std::fmt;
 
+use crate::operation::MAX_OPS;
+
 /// Which of the lent slices is not whole.
 #[derive(Debug, Clone, Copy, PartialEq, Eq, Hash)]
 pub enum Lent {
@@ -15,6 +17,8 @@ pub enum Lent {
 
 /// Why a call did nothing. A call's checks are made in this order, each over all its arguments; but a file is read before the
 /// slice that takes its words is looked at, record by record, and there 6 comes before 4.
+///
+/// Which argument it was stands in no refusal: the `# Errors` of the call tell it by the number and the detail.
 ///
 /// Later versions may refuse for further reasons, so a `match` needs an arm for the rest.
 #[non_exhaustive]
@@ -103,10 +107,11 @@ impl Refusal {
 impl fmt::Display for Refusal {
     fn fmt(&self, f: &mut fmt::Formatter<'_>) -> fmt::Result {
         match *self {
-            Self::PastEnd { limit } => write!(
-                f,
-                "an index, a kind, a round or a number of operations is past its end: {limit} or more"
-            ),
+            // No other argument has this end; of a smaller one the number does not say which argument it was.
+            Self::PastEnd { limit } if limit == MAX_OPS as u64 + 1 => {
+                write!(f, "there are more than {MAX_OPS} operations")
+            }
+            Self::PastEnd { limit } => write!(f, "an index, a kind, a Z or a round is past its end: {limit} or more"),
             Self::NotWhole { which: Lent::Core } => write!(f, "the core table is not whole rows"),
             Self::NotWhole { which: Lent::Round } => write!(f, "the round table is not whole rows"),
             Self::NotWhole { which: Lent::List } => write!(f, "the list is not whole operations"),
@@ -130,11 +135,16 @@ mod tests {
     #[test]
     fn each_refusal_has_its_number_its_detail_and_its_words() {
         let whole = |which| Refusal::NotWhole { which };
-        let past_end = "an index, a kind, a round or a number of operations is past its end: 16 or more";
+        let past_end = "an index, a kind, a Z or a round is past its end: 16 or more";
         let last_lane = "the last of the 25 lanes from address 9 would start past 2^64 - 1";
         let bad_record = "the record that starts at byte 418 is cut or has a wrong mark";
         let cases = [
             (Refusal::PastEnd { limit: 16 }, [1, 16], past_end),
+            (
+                Refusal::PastEnd { limit: 89_478_486 },
+                [1, 89_478_486],
+                "there are more than 89478485 operations",
+            ),
             (whole(Lent::Core), [2, 0], "the core table is not whole rows"),
             (whole(Lent::Round), [2, 1], "the round table is not whole rows"),
             (whole(Lent::List), [2, 2], "the list is not whole operations"),

@@ -248,6 +248,36 @@ static void round_rows(void) {
     REFUSED(answer, 3, ROUND);
 }
 
+/* The rows of two operations, each in its own half of a slice; and one call for both. */
+static void rows_in_parts(void) {
+    uint64_t list[104], rows[2 * 486 + 1], parts[2 * 486];
+    memcpy(list, operation, sizeof operation);
+    memcpy(list + 52, operation, sizeof operation);
+    list[52] = TIMESTAMP + 1;
+    rows[2 * 486] = GUARD;
+    keccak_tables_answer answer = CALL(keccak_tables_keccak_rows)(list, 104, rows, 2 * 486);
+    DONE(answer);
+    CHECK(memcmp(rows, core, 486 * sizeof *rows) == 0 && rows[486] == TIMESTAMP + 1 && rows[2 * 486] == GUARD);
+    for (size_t i = 0; i < 2; i++) {
+        answer = keccak_tables_keccak_rows(list + 52 * i, 52, parts + 486 * i, 486);
+        DONE(answer);
+    }
+    CHECK(memcmp(rows, parts, sizeof parts) == 0);
+    answer = keccak_tables_keccak_rows(list, 104, rows, 2 * 486 - 1);
+    REFUSED(answer, 3, 2 * 486);
+
+    uint64_t *round = calloc(2 * 24 * 1480 + 1, sizeof *round);
+    CHECK(round != NULL);
+    round[2 * 24 * 1480] = GUARD;
+    answer = CALL(keccak_tables_keccak_rnd_rows)(list, 104, round, 2 * 24 * 1480);
+    DONE(answer);
+    CHECK(memcmp(round, rounds, 24 * 1480 * sizeof *round) == 0 && round[24 * 1480] == TIMESTAMP + 1);
+    CHECK(round[2 * 24 * 1480] == GUARD);
+    answer = keccak_tables_keccak_rnd_rows(list, 103, round, 2 * 24 * 1480);
+    REFUSED(answer, 2, 2);
+    free(round);
+}
+
 static void round_numbers(void) {
     keccak_tables_number number = CALL(keccak_tables_keccak_rnd_height)(2731);
     DONE(number);
@@ -388,6 +418,7 @@ int main(void) {
     core_keys();
     core_evaluations();
     round_rows();
+    rows_in_parts();
     round_numbers();
     round_evaluations();
     state_orders();

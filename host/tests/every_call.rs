@@ -138,6 +138,30 @@ fn core_row_and_table_calls() {
     assert_eq!(keccak::keccak_table(&list[1..]), Err(not_whole));
 }
 
+/// The rows of two operations, by one call and by one each into its own part; a list that is refused as the table is.
+#[test]
+fn core_rows_calls() {
+    let list = Operation::list(&[
+        operation(),
+        Operation {
+            timestamp: 6,
+            ..operation()
+        },
+    ]);
+    let words = 2 * keccak::NUM_COLUMNS;
+    let mut rows = vec![GUARD; words + 1];
+    assert_eq!(keccak::keccak_rows(&list, &mut rows), Ok(()));
+    assert_eq!((&rows[..486], rows[486], rows[words]), (&core_row()[..486], 6, GUARD));
+    let mut parts = vec![GUARD; words];
+    for (part, ops) in parts.chunks_mut(486).zip(list.chunks(OP_WORDS)) {
+        assert_eq!(keccak::keccak_rows(ops, part), Ok(()));
+    }
+    assert_eq!(parts, rows[..words]);
+    let refused = keccak::keccak_rows(&list, &mut rows[..words - 1]);
+    assert_eq!(refused, Err(Refusal::TooShort { needed: words as u64 }));
+    assert_eq!(parts, rows[..words]);
+}
+
 #[test]
 fn core_key_and_height_calls() {
     let mut list = operation().words();
@@ -206,6 +230,66 @@ fn round_row_and_table_calls() {
     assert_eq!(keccak_rnd::keccak_rnd_height(MAX_OPS + 1), Err(TOO_MANY));
     assert_eq!(keccak_rnd::padding_are_bytes(2), Ok(3_520));
     assert_eq!(keccak_rnd::padding_are_bytes(MAX_OPS + 1), Err(TOO_MANY));
+}
+
+/// The same of the round rows, 24 to each operation.
+#[test]
+fn round_rows_calls() {
+    let list = Operation::list(&[
+        operation(),
+        Operation {
+            timestamp: 6,
+            ..operation()
+        },
+    ]);
+    let part_words = 24 * keccak_rnd::NUM_COLUMNS;
+    let mut rows = vec![GUARD; 2 * part_words + 1];
+    assert_eq!(keccak_rnd::keccak_rnd_rows(&list, &mut rows), Ok(()));
+    assert_eq!((&rows[..1480], rows[part_words]), (&round_row()[..1480], 6));
+    assert_eq!(rows[2 * part_words], GUARD);
+    let mut parts = vec![GUARD; 2 * part_words];
+    for (part, ops) in parts.chunks_mut(part_words).zip(list.chunks(OP_WORDS)) {
+        assert_eq!(keccak_rnd::keccak_rnd_rows(ops, part), Ok(()));
+    }
+    assert_eq!(parts, rows[..2 * part_words]);
+    let refused = keccak_rnd::keccak_rnd_rows(&list[..103], &mut rows);
+    assert_eq!(refused, Err(Refusal::NotWhole { which: Lent::List }));
+    assert_eq!(parts, rows[..2 * part_words]);
+}
+
+/// A table in memory of its own, as the call on the whole list writes it: of lists that are written on all cores and of one
+/// operation fewer; and refused as that call refuses.
+#[test]
+fn tables_on_all_cores_are_those_of_one_call() {
+    type Table = fn(&[u64]) -> Result<Vec<u64>, Refusal>;
+    type Call = fn(&[u64], &mut [u64]) -> Result<(), Refusal>;
+    let core: (Table, Call) = (keccak::keccak_table, keccak::generate_keccak_trace);
+    let round: (Table, Call) = (keccak_rnd::keccak_rnd_table, keccak_rnd::generate_keccak_rnd_trace);
+    for ((table, call), n) in [
+        (core, 1078),
+        (core, 1079),
+        (core, 5001),
+        (round, 14),
+        (round, 15),
+        (round, 100),
+    ] {
+        let at = |at| Operation {
+            timestamp: at,
+            input: [at; 25],
+            ..operation()
+        };
+        let mut list: Vec<u64> = (0..n).flat_map(|i| at(i).words()).collect();
+        let written = table(&list).expect("a table");
+        let mut expected = vec![GUARD; written.len()];
+        assert_eq!(call(&list, &mut expected), Ok(()));
+        assert!(written == expected, "{n} operations");
+        // Two high addresses, in the first part and in the last: the first is told.
+        for (i, address) in [(n - 1, u64::MAX), (n / 4, u64::MAX - 1)] {
+            list[i as usize * OP_WORDS + 1] = address;
+            assert_eq!(table(&list), Err(Refusal::HighAddress { address }));
+        }
+        assert_eq!(table(&list[1..]), Err(Refusal::NotWhole { which: Lent::List }));
+    }
 }
 
 #[test]

@@ -54,28 +54,32 @@ fn records(name: &str, count: u64) -> File {
     file
 }
 
+/// What the program says on standard error: one line, which names the stream and why it failed.
+fn said(stderr: Vec<u8>, stream: &str) {
+    let said = String::from_utf8(stderr).expect("text");
+    let line = said.strip_suffix('\n').and_then(|line| line.strip_prefix(stream));
+    let why = line.and_then(|line| line.strip_prefix(": ")).unwrap_or_default();
+    assert!(!why.is_empty() && !why.contains('\n'), "{said}");
+}
+
 /// A failed read prints no count of what was read before it.
 #[test]
 fn a_failed_read_is_told_on_standard_error_alone() {
     let folder = File::open(env!("CARGO_MANIFEST_DIR")).expect("a folder can be opened");
     let Output { stdout, stderr, .. } = ran(folder, Stdio::piped());
     assert!(stdout.is_empty());
-    let said = String::from_utf8(stderr).expect("text");
-    assert!(
-        said.starts_with("standard input: ") && said.ends_with('\n') && said.lines().count() == 1,
-        "{said}"
-    );
+    said(stderr, "standard input");
 }
 
-/// No contract speaks of a write that fails: the program ends, and that is all that is promised.
 #[test]
-fn a_full_output_lets_the_program_end() {
+fn a_failed_write_is_told_on_standard_error() {
     let full = File::options()
         .write(true)
         .open("/dev/full")
         .expect("/dev/full can be opened");
-    let Output { status, stdout, .. } = ran(records("full", 1), full);
-    assert!(status.code().is_some() && stdout.is_empty());
+    let Output { status, stderr, .. } = ran(records("full", 1), full);
+    assert!(status.code().is_some());
+    said(stderr, "standard output");
 }
 
 /// 250,800 bytes, which are more than one read takes. The sums are the scope's multiples of 600; 1,984 of the round rows are

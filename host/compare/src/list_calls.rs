@@ -28,7 +28,7 @@ impl ListCall {
 }
 
 /// All of them.
-pub const LIST_CALLS: [ListCall; 4] = [
+pub const LIST_CALLS: [ListCall; 6] = [
     ListCall {
         name: "generate_keccak_trace",
         takes_index: false,
@@ -40,6 +40,18 @@ pub const LIST_CALLS: [ListCall; 4] = [
         takes_index: false,
         needed: |n| (24 * n).next_power_of_two().max(4) * 1480,
         call: |ops, _, table| keccak_rnd::generate_keccak_rnd_trace(ops, table),
+    },
+    ListCall {
+        name: "keccak_rows",
+        takes_index: false,
+        needed: |n| 486 * n,
+        call: |ops, _, table| keccak::keccak_rows(ops, table),
+    },
+    ListCall {
+        name: "keccak_rnd_rows",
+        takes_index: false,
+        needed: |n| 24 * 1480 * n,
+        call: |ops, _, table| keccak_rnd::keccak_rnd_rows(ops, table),
     },
     ListCall {
         name: "is_wh_keys",

@@ -35,7 +35,7 @@ use crate::{rows, tuples, values, verdicts};
 /// | `verdict` | | core, round | | | core, round | |
 /// | a file's reader | n | | | address | | mark, cut |
 /// | `read_operations` | n | | list | address | | mark, cut |
-pub const MATRIX: [(&str, &[u64]); 30] = [
+pub const MATRIX: [(&str, &[u64]); 32] = [
     ("generate_bitwise_row", &[0, 1, 3]),
     ("bitwise_row_index", &[0, 1]),
     ("bitwise_bump", &[0, 1, 3, 5]),
@@ -48,6 +48,7 @@ pub const MATRIX: [(&str, &[u64]); 30] = [
     ("is_wh_bus_interaction", &[0, 1, 3, 5]),
     ("keccak_row", &[0, 1, 2, 3, 4]),
     ("generate_keccak_trace", &[0, 1, 2, 3, 4]),
+    ("keccak_rows", &[0, 1, 2, 3, 4]),
     ("is_wh_keys", &[0, 1, 2, 3, 4]),
     ("keccak_height", &[0, 1]),
     ("keccak_values", &[0, 3, 5]),
@@ -55,6 +56,7 @@ pub const MATRIX: [(&str, &[u64]); 30] = [
     ("keccak_bus_interactions", &[0, 3, 5]),
     ("keccak_rnd_row", &[0, 1, 3]),
     ("generate_keccak_rnd_trace", &[0, 1, 2, 3, 4]),
+    ("keccak_rnd_rows", &[0, 1, 2, 3, 4]),
     ("keccak_rnd_height", &[0, 1]),
     ("padding_are_bytes", &[0, 1]),
     ("keccak_rnd_values", &[0, 3, 5]),

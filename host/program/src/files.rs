@@ -177,12 +177,15 @@ impl<'a> WordFile<'a> {
     }
 
     pub fn put(&mut self, words: &[u64]) -> Result<(), Failure> {
-        let mut put = || {
-            words
-                .iter()
-                .try_for_each(|word| self.file.write_all(&word.to_le_bytes()))
-        };
-        put().map_err(Failure::file(self.path))
+        let mut buffer = [0; PIECE_BYTES];
+        for words in words.chunks(PIECE_BYTES / 8) {
+            let bytes = &mut buffer[..8 * words.len()];
+            for (bytes, word) in bytes.as_chunks_mut().0.iter_mut().zip(words) {
+                *bytes = word.to_le_bytes();
+            }
+            self.file.write_all(bytes).map_err(Failure::file(self.path))?;
+        }
+        Ok(())
     }
 
     /// Writes what is still held back.

@@ -1,23 +1,27 @@
 //! `write OPS CORE ROUND`: the two tables of an operation file.
 //!
 //! The file is read twice: once to its end, for its sums and faults, then in pieces of a few records. The rows of an
-//! operation don't depend on the others, so each piece's tables are made on their own and their rows put behind those
-//! that are already there; what is held in memory does not grow with the file. Both tables are written beside their names and take
-//! them when both are whole, so that a run that is cut short leaves what was there before.
+//! operation don't depend on the others, so each piece's rows are made on their own, a part of them on each core, and put behind
+//! those that are already there; what is held in memory does not grow with the file. Both tables are written beside their names and
+//! take them when both are whole, so that a run that is cut short leaves what was there before.
 
 use std::ffi::OsString;
 use std::fs::File;
 use std::io::{self, Seek};
 use std::path::Path;
+use std::thread::{self, Builder};
 
 use super::files::{self, Target, WordFile};
 use super::progress::Progress;
 use super::{Failure, Outcome, Streams, file_refused, tally};
 use keccak_tables::operation_file::{RECORD_BYTES, Sums, read_operations};
-use keccak_tables::{OP_WORDS, keccak, keccak_rnd};
+use keccak_tables::{OP_WORDS, Refusal, keccak, keccak_rnd};
 
 /// How many records are read at once: 24 rows each, 18 megabytes.
 const PIECE_RECORDS: usize = 64;
+
+/// The words of a record's round rows.
+const ROUNDS_WORDS: usize = keccak_rnd::ROUNDS * keccak_rnd::NUM_COLUMNS;
 
 pub fn write(arguments: &[OsString], streams: &mut Streams) -> Result<Outcome, Failure> {
     let [ops, core, round] = arguments else {
@@ -78,10 +82,11 @@ impl Tables<'_> {
     /// Puts the rows of the whole file.
     fn write(mut self, mut ops: File, sums: &Sums) -> Result<(), Failure> {
         let mut buffer = [0; PIECE_RECORDS * RECORD_BYTES];
+        let mut rows = Rows::new();
         loop {
             match files::fill(&mut ops, &mut buffer).map_err(Failure::file(self.path))? {
                 0 => return self.close(sums),
-                got => self.put(&buffer[..got])?,
+                got => self.put(&buffer[..got], &mut rows)?,
             }
         }
     }
@@ -95,15 +100,11 @@ impl Tables<'_> {
     }
 
     /// Puts the rows of some records.
-    fn put(&mut self, file: &[u8]) -> Result<(), Failure> {
+    fn put(&mut self, file: &[u8], rows: &mut Rows) -> Result<(), Failure> {
+        rows.make(file).map_err(|_| self.changed())?;
         let records = file.len() / RECORD_BYTES;
-        let mut ops = vec![0; records * OP_WORDS];
-        read_operations(file, &mut ops).map_err(|_| self.changed())?;
-        let core = keccak::keccak_table(&ops).map_err(|_| self.changed())?;
-        let round = keccak_rnd::keccak_rnd_table(&ops).map_err(|_| self.changed())?;
-        self.core.put(&core[..records * keccak::NUM_COLUMNS])?;
-        self.round
-            .put(&round[..records * keccak_rnd::ROUNDS * keccak_rnd::NUM_COLUMNS])?;
+        self.core.put(&rows.core[..records * keccak::NUM_COLUMNS])?;
+        self.round.put(&rows.round[..records * ROUNDS_WORDS])?;
         self.written += records as u64;
         self.progress.add(((1 + keccak_rnd::ROUNDS) * records) as u64);
         Ok(())
@@ -130,4 +131,56 @@ impl Tables<'_> {
         self.core.finish()?;
         self.round.finish()
     }
+}
+
+/// Room for the rows of a piece.
+struct Rows {
+    core: Vec<u64>,
+    round: Vec<u64>,
+    cores: usize,
+}
+
+impl Rows {
+    fn new() -> Self {
+        Self {
+            core: vec![0; PIECE_RECORDS * keccak::NUM_COLUMNS],
+            round: vec![0; PIECE_RECORDS * ROUNDS_WORDS],
+            cores: thread::available_parallelism().map_or(1, usize::from),
+        }
+    }
+
+    /// Makes the rows of some records. What the cores don't make together, one makes alone, or says why not.
+    fn make(&mut self, file: &[u8]) -> Result<(), Refusal> {
+        if self.make_in_parts(file) {
+            return Ok(());
+        }
+        make(file, &mut self.core, &mut self.round)
+    }
+
+    /// Makes a part on each core, and says whether all were made. What is one part alone is not worth a thread.
+    fn make_in_parts(&mut self, file: &[u8]) -> bool {
+        let part = PIECE_RECORDS.div_ceil(self.cores);
+        if file.len() <= part * RECORD_BYTES {
+            return false;
+        }
+        let core = self.core.chunks_mut(part * keccak::NUM_COLUMNS);
+        let round = self.round.chunks_mut(part * ROUNDS_WORDS);
+        thread::scope(|scope| {
+            let parts = file.chunks(part * RECORD_BYTES).zip(core.zip(round));
+            let begun = parts.map(|(file, (core, round))| {
+                let make = move || make(file, core, round).is_ok();
+                Builder::new().spawn_scoped(scope, make).ok()
+            });
+            let begun: Option<Vec<_>> = begun.collect();
+            begun.is_some_and(|begun| begun.into_iter().all(|thread| thread.join().unwrap_or(false)))
+        })
+    }
+}
+
+/// Writes the rows of some records.
+fn make(file: &[u8], core: &mut [u64], round: &mut [u64]) -> Result<(), Refusal> {
+    let mut ops = vec![0; file.len() / RECORD_BYTES * OP_WORDS];
+    read_operations(file, &mut ops)?;
+    keccak::keccak_rows(&ops, core)?;
+    keccak_rnd::keccak_rnd_rows(&ops, round)
 }

@@ -21,6 +21,11 @@ pub fn compare(comparison: &mut Comparison, words: &mut Words, n: usize) {
         left -= n;
     }
     at_edges(comparison, words);
+    comparison.group("core tables of 1,000 to 1,200 and of 3,000 operations");
+    for n in (1000..=1200).step_by(40).chain([1078, 1079, 3000]) {
+        let ops = words.operations(n);
+        core_tables(comparison, words, &ops);
+    }
     comparison.group("single core rows");
     for n in [1, 2, 7, 24] {
         let ops = words.operations(n);
@@ -69,18 +74,64 @@ fn at_edges(comparison: &mut Comparison, words: &mut Words) {
     }
 }
 
-/// Both tables and the keys of a list.
+/// Both tables, whole and their rows alone, and the keys of a list.
 fn tables(comparison: &mut Comparison, words: &mut Words, ops: &[u64]) {
-    let core = ("core table", keccak::NUM_COLUMNS, 1);
-    let expected = oracle::core_table(ops);
-    table(comparison, words, core, ops, keccak::generate_keccak_trace, &expected);
+    core_tables(comparison, words, ops);
     let round = ("round table", keccak_rnd::NUM_COLUMNS, keccak_rnd::ROUNDS);
     let expected = oracle::round_table(ops);
     let call = keccak_rnd::generate_keccak_rnd_trace;
     table(comparison, words, round, ops, call, &expected);
+    own_memory(comparison, round, ops, keccak_rnd::keccak_rnd_table, &expected);
+    let round = ("round rows", keccak_rnd::NUM_COLUMNS, keccak_rnd::ROUNDS);
+    parts(comparison, words, round, ops, keccak_rnd::keccak_rnd_rows, &expected);
     let keys = ("keys", keccak::KEY_WORDS, 1);
     let expected = oracle::is_wh_keys(ops);
     table(comparison, words, keys, ops, keccak::is_wh_keys, &expected);
+}
+
+fn core_tables(comparison: &mut Comparison, words: &mut Words, ops: &[u64]) {
+    let core = ("core table", keccak::NUM_COLUMNS, 1);
+    let expected = oracle::core_table(ops);
+    table(comparison, words, core, ops, keccak::generate_keccak_trace, &expected);
+    own_memory(comparison, core, ops, keccak::keccak_table, &expected);
+    let core = ("core rows", keccak::NUM_COLUMNS, 1);
+    parts(comparison, words, core, ops, keccak::keccak_rows, &expected);
+}
+
+/// A table in memory of its own, where a long list is written on all cores.
+fn own_memory(
+    comparison: &mut Comparison,
+    (name, width, rows): (&str, usize, usize),
+    ops: &[u64],
+    call: fn(&[u64]) -> Result<Vec<u64>, Refusal>,
+    expected: &[u64],
+) {
+    let input = || format!("{name} of {} operations in memory of its own", ops.len() / OP_WORDS);
+    if let Some(table) = comparison.done(input, call(ops)) {
+        comparison.equal(in_table(name, ops, width, rows), &table, expected);
+    }
+}
+
+/// The rows of a list alone, by one call; and by two calls for two parts of it, each into its own part of one slice.
+fn parts(
+    comparison: &mut Comparison,
+    words: &mut Words,
+    (name, width, rows): (&str, usize, usize),
+    ops: &[u64],
+    call: fn(&[u64], &mut [u64]) -> Result<(), Refusal>,
+    expected: &[u64],
+) {
+    let n = ops.len() / OP_WORDS;
+    let expected = &expected[..n * rows * width];
+    table(comparison, words, (name, width, rows), ops, call, expected);
+    let cut = words.below(n as u64 + 1) as usize;
+    let mut lent = Lent::drawn(expected.len() + words.below(9) as usize, words);
+    let (early, late) = lent.slice().split_at_mut(cut * rows * width);
+    for (ops, part) in [(&ops[..cut * OP_WORDS], early), (&ops[cut * OP_WORDS..], late)] {
+        let answer = call(ops, part);
+        comparison.done(|| format!("{name} of a part, {ops:?}"), answer);
+    }
+    lent.holds(comparison, in_table(name, ops, width, rows), expected);
 }
 
 /// One of them, by its name, its width and its rows to an operation, into a slice that is a little longer than it has to be.

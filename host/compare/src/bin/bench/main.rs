@@ -1,9 +1,10 @@
 //! Times the proved calls against the published Rust's on the same inputs: `bench rows`, `bench lookups`, `bench values`,
-//! `bench tuples`, `bench verdict`; and what has no counterpart there: `bench tally`, `bench shuffled`.
+//! `bench tuples`, `bench verdict`; and what has no counterpart there: `bench cores`, `bench tally`, `bench shuffled`.
 //! `bench all` runs each in turn and ends with a table of the ratios.
 //! It prints for each call the best of several runs, ours and theirs in turn, and lines `ratio NAME X.XX`: our time over
 //! theirs. The comment at the top of each area's file says what is timed.
 
+mod cores;
 mod lookups;
 mod rows;
 mod shuffled;
@@ -16,7 +17,7 @@ mod verdict;
 use std::process::ExitCode;
 
 const USAGE: &str = "\
-usage: bench all | bench rows | bench lookups | bench values | bench tuples | bench verdict
+usage: bench all | bench rows | bench lookups | bench values | bench tuples | bench verdict | bench cores
        bench tally [BYTES]      (of the operation file; 1000000000 where none are given)
        bench shuffled [CALLS]   (100 where none are given)
 BYTES and CALLS are 1 or more.";
@@ -39,10 +40,18 @@ fn main() -> ExitCode {
         ("values", None) => values::run(),
         ("tuples", None) => tuples::run(),
         ("verdict", None) => verdict::run(),
+        ("cores", None) => cores::run(),
         ("tally", bytes) => tally::run(bytes.unwrap_or(tally::BYTES)),
         ("shuffled", calls) => shuffled::run(calls.unwrap_or(shuffled::CALLS)),
         ("all", None) => {
-            for run in [rows::run, lookups::run, values::run, tuples::run, verdict::run] {
+            for run in [
+                rows::run,
+                cores::run,
+                lookups::run,
+                values::run,
+                tuples::run,
+                verdict::run,
+            ] {
                 run();
             }
             tally::run(tally::BYTES);

@@ -30,7 +30,7 @@ pub fn run() {
     constant_table();
 }
 
-fn operations(n: usize) -> Vec<Operation> {
+pub fn operations(n: usize) -> Vec<Operation> {
     let mut words = Words::new(7);
     (0..n).map(|_| words.operation()).collect()
 }
@@ -64,29 +64,33 @@ fn core_rows(name: &str, n: usize, runs: usize) {
     let operations = operations(n);
     let theirs = core_operations(&operations);
     let rust = || tables::keccak::generate_keccak_trace(black_box(&theirs));
-    let ours = (
-        keccak::keccak_table as Allocating,
-        keccak::generate_keccak_trace as Lent,
-    );
     let size = (n.next_power_of_two(), keccak::NUM_COLUMNS);
-    table(name, &operations, size, runs, ours, rust);
+    table(name, &operations, size, runs, keccak::generate_keccak_trace, rust);
 }
 
 fn round_rows(name: &str, n: usize, runs: usize) {
     let operations = operations(n);
     let theirs = round_operations(&operations);
     let rust = || tables::keccak_rnd::generate_keccak_rnd_trace(black_box(&theirs));
-    let ours = (
-        keccak_rnd::keccak_rnd_table as Allocating,
-        keccak_rnd::generate_keccak_rnd_trace as Lent,
-    );
     let size = ((24 * n).next_power_of_two(), keccak_rnd::NUM_COLUMNS);
-    table(name, &operations, size, runs, ours, rust);
+    table(
+        name,
+        &operations,
+        size,
+        runs,
+        keccak_rnd::generate_keccak_rnd_trace,
+        rust,
+    );
 }
 
-/// Our two writers of a table: into memory of its own, and into memory that is lent.
-type Allocating = fn(&[u64]) -> Result<Vec<u64>, Refusal>;
-type Lent = fn(&[u64], &mut [u64]) -> Result<(), Refusal>;
+/// A call that writes the table of a list into memory that is lent.
+pub type Call = fn(&[u64], &mut [u64]) -> Result<(), Refusal>;
+
+/// One call, into memory of its own.
+pub fn allocated(call: Call, ops: &[u64], words: usize) -> Result<Vec<u64>, Refusal> {
+    let mut table = vec![0; words];
+    call(ops, &mut table).map(|()| table)
+}
 
 /// A table writer's four times, and its two ratios.
 fn table<T>(
@@ -94,7 +98,7 @@ fn table<T>(
     operations: &[Operation],
     (rows, columns): (usize, usize),
     runs: usize,
-    (allocating, lent): (Allocating, Lent),
+    call: Call,
     rust: impl Fn() -> T,
 ) {
     let ops = flat(operations);
@@ -104,8 +108,8 @@ fn table<T>(
     let [allocating, lent, rust, zeros] = best(
         runs,
         [
-            Box::new(|| time(|| allocating(black_box(&ops)))),
-            Box::new(|| time(|| lent(black_box(&ops), black_box(&mut kept)))),
+            Box::new(|| time(|| allocated(call, black_box(&ops), words))),
+            Box::new(|| time(|| call(black_box(&ops), black_box(&mut kept)))),
             Box::new(|| time(&rust)),
             Box::new(|| time(|| vec![0u64; black_box(words)])),
         ],
