@@ -6,9 +6,9 @@ use native.Mathlib.Omega.{arith}
 use Rattle.lists.specs.Tab.{word}
 use Rattle.lists.proofs.Reading.{Alike, ReadsFirst}
 use Rattle.field.specs.Field.{fadd, fmul}
-use Rattle.lookup.specs.Tuple.{receiver}
-use Rattle.lookup.specs.Call.{RestNotRead}
-use Rattle.lookup.proofs.Reading.{tuple-rest}
+use Rattle.tuple.specs.Tuple.{receiver}
+use Rattle.tuple.specs.Call.{RestNotRead}
+use Rattle.tuple.proofs.Reading.{tuple-rest}
 use Rattle.bitwise.specs.declared.BitwiseOperationType.{BitwiseOperationType}
 use Rattle.bitwise.specs.declared.BitwiseOperationType.the-variants as kind
 use Rattle.bitwise.specs.Columns.{X, Y, Z, AND, OR, XOR, MSB8, MSB16, ZERO, SLL, SLLC, NUM-COLUMNS, NUM-LOOKUP-TYPES}

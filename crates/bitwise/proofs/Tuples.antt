@@ -9,8 +9,8 @@ use lib.Bits.{bitXor, bitAnd, bitOr}
 use lib.Dec.{leb, eqb}
 use Rattle.lists.specs.Tab.{word, pick}
 use Rattle.field.specs.Field.{fadd, fmul}
-use Rattle.lookup.specs.Tuple.{receiver}
-use Rattle.lookup.specs.declared.Bus.the-variants.{ByteAlu, AreBytes, IsHalfword, Msb8, Msb16, Zero, IsB20, Hwsl}
+use Rattle.tuple.specs.Tuple.{receiver}
+use Rattle.tuple.specs.declared.Bus.the-variants.{ByteAlu, AreBytes, IsHalfword, Msb8, Msb16, Zero, IsB20, Hwsl}
 use Rattle.bitwise.specs.Row.{rowOfXYZ, bitwiseRow, row-index}
 use Rattle.bitwise.specs.Tuples.{kindAt, bitwiseTuple}
 use Rattle.bitwise.proofs.Rows.{row-of-index, msb8-is, msb16-is, zero-is}

@@ -7,7 +7,7 @@ use lib.Bits.{bitXor, bitAnd, bitOr}
 use lib.Dec.{eqb, ltb}
 use lib.ListN.{length, getD}
 use Rattle.bitwise.specs.declared.BitwiseOperationType.{BitwiseOperationType}
-use Rattle.lookup.specs.declared.Bus.{Bus}
+use Rattle.tuple.specs.declared.Bus.{Bus}
 use Rattle.bitwise.specs.Columns.{NUM-ROWS}
 use Rattle.bitwise.specs.Row.{bitwiseRow}
 use Rattle.bitwise.specs.Tuples.{kindBus, kindValues}

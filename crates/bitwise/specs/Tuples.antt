@@ -4,9 +4,9 @@ use mathlib.Core.List.{List, [], _∷_}
 use lib.ListN.{getD}
 use Rattle.lists.specs.Tab.{word}
 use Rattle.field.specs.Field.{fadd, fmul}
-use Rattle.lookup.specs.Tuple.{Tuple, receiver, ALU-AND, ALU-OR, ALU-XOR}
-use Rattle.lookup.specs.declared.Bus.{Bus}
-use Rattle.lookup.specs.declared.Bus.the-variants.{ByteAlu, AreBytes, IsHalfword, Msb8, Msb16, Zero, IsB20, Hwsl}
+use Rattle.tuple.specs.Tuple.{Tuple, receiver, ALU-AND, ALU-OR, ALU-XOR}
+use Rattle.tuple.specs.declared.Bus.{Bus}
+use Rattle.tuple.specs.declared.Bus.the-variants.{ByteAlu, AreBytes, IsHalfword, Msb8, Msb16, Zero, IsB20, Hwsl}
 use Rattle.bitwise.specs.declared.BitwiseOperationType.{BitwiseOperationType}
 use Rattle.bitwise.specs.declared.BitwiseOperationType.the-variants as kind
 use Rattle.bitwise.specs.Columns.{X, Y, Z, AND, OR, XOR, MSB8, MSB16, ZERO, SLL, SLLC}

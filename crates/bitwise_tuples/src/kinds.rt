@@ -1,6 +1,6 @@
 // tables/bitwise.rs: the kinds of lookup by their numbers, with the bus and the number of values of each.
 use bitwise::BitwiseOperationType;
-use lookup::Bus;
+use tuple::Bus;
 ghost use mathlib.Core.Path.{_≡_};
 ghost use Rattle.bitwise.specs.Tuples.{kindAt, kindBus, kindSize};
 

@@ -7,13 +7,13 @@ use kinds::kind_at;
 use kinds::kind_bus;
 use kinds::kind_size;
 use lists::put_words;
-use lookup::BusInteraction;
-use lookup::Side;
-use lookup::TupleAnswer;
-use lookup::check::check_tuple;
+use tuple::BusInteraction;
+use tuple::Side;
+use tuple::TupleAnswer;
+use tuple::check::check_tuple;
 use values::kind_values;
 ghost use mathlib.Core.Path.{_≡_};
-ghost use Rattle.lookup.specs.Call.{tupleAnswerOf, tupleAfter};
+ghost use Rattle.tuple.specs.Call.{tupleAnswerOf, tupleAfter};
 ghost use Rattle.bitwise.specs.Columns.{NUM-COLUMNS, NUM-LOOKUP-TYPES};
 ghost use Rattle.bitwise.specs.Tuples.{bitwiseTuple};
 

@@ -10,11 +10,11 @@ use native.Mathlib.Omega.{arith}
 use Rattle.lists.specs.Tab.{word, tab, tabFrom}
 use Rattle.lists.specs.Sum.{sumBelow}
 use Rattle.lists.proofs.Sum.{sum-part, sum-const}
-use Rattle.lookup.specs.Tuple.{Tuple, onBus, busSum, sameSide, sameBus}
-use Rattle.lookup.specs.declared.Bus.{Bus}
-use Rattle.lookup.specs.declared.Bus.the-variants.{ByteAlu, AreBytes, IsHalfword, IsWh, KeccakRc, Keccak, Memw, Ecall, Msb8, Msb16, Zero, IsB20, Hwsl}
-use Rattle.lookup.specs.declared.Side.{Side}
-use Rattle.lookup.specs.declared.Side.the-variants.{Sender, Receiver}
+use Rattle.tuple.specs.Tuple.{Tuple, onBus, busSum, sameSide, sameBus}
+use Rattle.tuple.specs.declared.Bus.{Bus}
+use Rattle.tuple.specs.declared.Bus.the-variants.{ByteAlu, AreBytes, IsHalfword, IsWh, KeccakRc, Keccak, Memw, Ecall, Msb8, Msb16, Zero, IsB20, Hwsl}
+use Rattle.tuple.specs.declared.Side.{Side}
+use Rattle.tuple.specs.declared.Side.the-variants.{Sender, Receiver}
 use Rattle.is_wh.specs.Tuples.{isWhTuple}
 use Rattle.bitwise.specs.Row.{bitwiseRow, rowOfXYZ}
 use Rattle.bitwise.specs.Tuples.{kindAt}

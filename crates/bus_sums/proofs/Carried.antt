@@ -11,11 +11,11 @@ use Rattle.lists.proofs.Sum.{sum-same}
 use Rattle.lists.proofs.Count.{sum-tests}
 use Rattle.lists.proofs.Tests.{T-of, true-not-false, false-and}
 use Rattle.lists.proofs.Then.{T-true}
-use Rattle.lookup.specs.Tuple.{Tuple, sameBus, sameSide}
-use Rattle.lookup.specs.declared.Bus.the-variants.{Keccak}
-use Rattle.lookup.specs.declared.Side.{Side}
-use Rattle.lookup.specs.declared.Side.the-variants.{Sender, Receiver}
-use Rattle.lookup.proofs.Buses.{bus-decides}
+use Rattle.tuple.specs.Tuple.{Tuple, sameBus, sameSide}
+use Rattle.tuple.specs.declared.Bus.the-variants.{Keccak}
+use Rattle.tuple.specs.declared.Side.{Side}
+use Rattle.tuple.specs.declared.Side.the-variants.{Sender, Receiver}
+use Rattle.tuple.proofs.Buses.{bus-decides}
 use Rattle.verdict.specs.Kind.{Kind, rows, row, isActive, onKeccak, keccakTest, activeTuple, activeTuples, OnBus}
 use Rattle.verdict.proofs.Tuples.{place, at-place}
 use Rattle.bus_sums.specs.Sums.{share, shares, tupleAt, tableShare}

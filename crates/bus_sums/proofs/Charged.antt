@@ -12,10 +12,10 @@ use Rattle.lists.specs.Tab.{word, tab, pick}
 use Rattle.lists.specs.Sum.{sumBelow}
 use Rattle.lists.proofs.Laws.{getD-tab}
 use Rattle.lists.proofs.Sum.{and-left, and-right, and-both}
-use Rattle.lookup.specs.Tuple.{Tuple, receiver}
-use Rattle.lookup.specs.declared.Bus.{Bus}
-use Rattle.lookup.specs.declared.Bus.the-variants.{KeccakRc}
-use Rattle.lookup.specs.declared.Side.the-variants.{Receiver}
+use Rattle.tuple.specs.Tuple.{Tuple, receiver}
+use Rattle.tuple.specs.declared.Bus.{Bus}
+use Rattle.tuple.specs.declared.Bus.the-variants.{KeccakRc}
+use Rattle.tuple.specs.declared.Side.the-variants.{Receiver}
 use Rattle.bitwise.specs.Row.{bitwiseRow, rowOfXYZ}
 use Rattle.bitwise.specs.Tuples.{kindAt, kindBus, kindValues, mu-column}
 use Rattle.bitwise.proofs.Numbers.{mu-column-at}

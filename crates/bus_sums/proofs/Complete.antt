@@ -6,10 +6,10 @@ use mathlib.Core.Path.{_≡_, refl, sym, ap, subst}
 use Prim.Native.Nat.{ℕ, _%_, _≤_}
 use native.Mathlib.Omega.{arith}
 use Rattle.field.specs.Field.{p}
-use Rattle.lookup.specs.Tuple.{busNumber}
-use Rattle.lookup.specs.declared.Bus.{Bus}
-use Rattle.lookup.specs.declared.Bus.the-variants.{ByteAlu, AreBytes, IsHalfword, IsWh, KeccakRc, Keccak, IsB20, Memw, Ecall, Msb8, Msb16, Zero, Hwsl}
-use Rattle.lookup.specs.declared.Side.the-variants.{Sender}
+use Rattle.tuple.specs.Tuple.{busNumber}
+use Rattle.tuple.specs.declared.Bus.{Bus}
+use Rattle.tuple.specs.declared.Bus.the-variants.{ByteAlu, AreBytes, IsHalfword, IsWh, KeccakRc, Keccak, IsB20, Memw, Ecall, Msb8, Msb16, Zero, Hwsl}
+use Rattle.tuple.specs.declared.Side.the-variants.{Sender}
 use Rattle.bitwise.specs.Found.{BitwiseFound}
 use Rattle.bitwise.proofs.Found.{half-occurs}
 use Rattle.matching.specs.Matching.{FoundOn}

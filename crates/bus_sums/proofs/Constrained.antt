@@ -11,9 +11,9 @@ use Rattle.lists.specs.Tab.{word}
 use Rattle.lists.proofs.Laws.{word-rowAt}
 use Rattle.lists.proofs.Then.{then-past}
 use Rattle.field.specs.Field.{p}
-use Rattle.lookup.specs.declared.Bus.{Bus}
-use Rattle.lookup.specs.declared.Bus.the-variants.{Keccak}
-use Rattle.lookup.specs.declared.Side.{Side}
+use Rattle.tuple.specs.declared.Bus.{Bus}
+use Rattle.tuple.specs.declared.Bus.the-variants.{Keccak}
+use Rattle.tuple.specs.declared.Side.{Side}
 use Rattle.templates.specs.Templates.{isBit}
 use Rattle.keccak.specs.Values.{coreValue}
 use Rattle.keccak_rnd.specs.Values.{roundValue}

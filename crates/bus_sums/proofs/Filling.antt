@@ -13,11 +13,11 @@ use native.Mathlib.Omega.{arith}
 use Rattle.lists.proofs.Then.{by-le}
 use Rattle.field.specs.Field.{p}
 use Rattle.field.proofs.Field.{mod-p}
-use Rattle.lookup.specs.Tuple.{busNumber}
-use Rattle.lookup.specs.declared.Bus.{Bus}
-use Rattle.lookup.specs.declared.Bus.the-variants.{ByteAlu, AreBytes, IsHalfword, IsWh, KeccakRc, Keccak, IsB20}
-use Rattle.lookup.specs.declared.Side.{Side}
-use Rattle.lookup.specs.declared.Side.the-variants.{Sender, Receiver}
+use Rattle.tuple.specs.Tuple.{busNumber}
+use Rattle.tuple.specs.declared.Bus.{Bus}
+use Rattle.tuple.specs.declared.Bus.the-variants.{ByteAlu, AreBytes, IsHalfword, IsWh, KeccakRc, Keccak, IsB20}
+use Rattle.tuple.specs.declared.Side.{Side}
+use Rattle.tuple.specs.declared.Side.the-variants.{Sender, Receiver}
 use Rattle.bitwise.specs.Found.{BitwiseFound}
 use Rattle.matching.specs.Matching.{FoundOn}
 use Rattle.verdict.specs.Kind.{Kind, rows, MatchedAt, Balanced, activeTuples, Whole, Elements}

@@ -14,11 +14,11 @@ use Rattle.lists.proofs.Laws.{rowAt-table, length-table, getD-tab}
 use Rattle.lists.proofs.Sum.{sum-same, sum-then, sum-part}
 use Rattle.lists.proofs.Then.{by-le, at-two}
 use Rattle.field.specs.Field.{p, fadd, fmul}
-use Rattle.lookup.specs.Tuple.{Tuple, receiver, sameBus, sameSide}
-use Rattle.lookup.specs.declared.Bus.{Bus}
-use Rattle.lookup.specs.declared.Bus.the-variants.{IsHalfword, IsWh, IsB20}
-use Rattle.lookup.specs.declared.Side.{Side}
-use Rattle.lookup.specs.declared.Side.the-variants.{Sender, Receiver}
+use Rattle.tuple.specs.Tuple.{Tuple, receiver, sameBus, sameSide}
+use Rattle.tuple.specs.declared.Bus.{Bus}
+use Rattle.tuple.specs.declared.Bus.the-variants.{IsHalfword, IsWh, IsB20}
+use Rattle.tuple.specs.declared.Side.{Side}
+use Rattle.tuple.specs.declared.Side.the-variants.{Sender, Receiver}
 use Rattle.is_wh.specs.Tuples.{isWhTuple}
 use Rattle.is_wh.proofs.Tuples.{mu-sent, half-sent, pair-received}
 use Rattle.is_wh.proofs.Received.{pairRow}

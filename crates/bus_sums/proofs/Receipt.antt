@@ -16,7 +16,7 @@ use Prim.Native.Nat.{ℕ, _*_, _≤_}
 use native.Mathlib.Nat.{mul-le-mul}
 use native.Mathlib.Omega.{arith}
 use Rattle.answer.specs.Limits.{MAX-OPS}
-use Rattle.lookup.specs.declared.Bus.{Bus}
+use Rattle.tuple.specs.declared.Bus.{Bus}
 use Rattle.keccak.specs.Height.{height}
 use Rattle.keccak.specs.Row.{opAt, coreTable, coreRowAt}
 use Rattle.keccak.specs.Refusals.{opCount}

@@ -11,10 +11,10 @@ use lib.ListN.{getD}
 use Rattle.lists.specs.Tab.{word, tab}
 use Rattle.lists.proofs.Then.{by-le}
 use Rattle.field.specs.Field.{fadd, fmul}
-use Rattle.lookup.specs.Tuple.{Tuple, busNumber, sideNumber}
-use Rattle.lookup.specs.declared.Bus.{Bus}
-use Rattle.lookup.specs.declared.Bus.the-variants.{IsB20}
-use Rattle.lookup.specs.declared.Side.the-variants.{Sender, Receiver}
+use Rattle.tuple.specs.Tuple.{Tuple, busNumber, sideNumber}
+use Rattle.tuple.specs.declared.Bus.{Bus}
+use Rattle.tuple.specs.declared.Bus.the-variants.{IsB20}
+use Rattle.tuple.specs.declared.Side.the-variants.{Sender, Receiver}
 use Rattle.is_wh.specs.Tuples.{isWhTuple}
 use Rattle.is_wh.proofs.Tuples.{mu-sent, half-sent, pair-received}
 use Rattle.bitwise.specs.declared.BitwiseOperationType.{BitwiseOperationType}

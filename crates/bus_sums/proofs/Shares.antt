@@ -21,11 +21,11 @@ use Rattle.lists.proofs.Select.{words-sound, words-same}
 use Rattle.lists.proofs.Tests.{true-not-false}
 use Rattle.lists.proofs.Then.{T-true}
 use Rattle.field.specs.Field.{p}
-use Rattle.lookup.specs.Tuple.{Tuple, onBus, busSum, sameSide, sameBus}
-use Rattle.lookup.specs.declared.Bus.{Bus}
-use Rattle.lookup.specs.declared.Side.{Side}
-use Rattle.lookup.specs.declared.Side.the-variants.{Sender, Receiver}
-use Rattle.lookup.proofs.Buses.{bus-decides}
+use Rattle.tuple.specs.Tuple.{Tuple, onBus, busSum, sameSide, sameBus}
+use Rattle.tuple.specs.declared.Bus.{Bus}
+use Rattle.tuple.specs.declared.Side.{Side}
+use Rattle.tuple.specs.declared.Side.the-variants.{Sender, Receiver}
+use Rattle.tuple.proofs.Buses.{bus-decides}
 use Rattle.bus_sums.specs.Sums.{share, shares}
 
 -- ---- sums

@@ -11,11 +11,11 @@ use native.Mathlib.Nat.{mod-eq-of-lt}
 use native.Mathlib.Omega.{arith}
 use Rattle.lists.specs.Tab.{word}
 use Rattle.field.specs.Field.{p}
-use Rattle.lookup.specs.Tuple.{Tuple}
-use Rattle.lookup.specs.declared.Bus.{Bus}
-use Rattle.lookup.specs.declared.Bus.the-variants.{ByteAlu, AreBytes, IsHalfword, IsWh, KeccakRc, Keccak, IsB20, Memw, Ecall, Msb8, Msb16, Zero, Hwsl}
-use Rattle.lookup.specs.declared.Side.{Side}
-use Rattle.lookup.specs.declared.Side.the-variants.{Sender, Receiver}
+use Rattle.tuple.specs.Tuple.{Tuple}
+use Rattle.tuple.specs.declared.Bus.{Bus}
+use Rattle.tuple.specs.declared.Bus.the-variants.{ByteAlu, AreBytes, IsHalfword, IsWh, KeccakRc, Keccak, IsB20, Memw, Ecall, Msb8, Msb16, Zero, Hwsl}
+use Rattle.tuple.specs.declared.Side.{Side}
+use Rattle.tuple.specs.declared.Side.the-variants.{Sender, Receiver}
 use Rattle.is_wh.specs.Found.{IsWhFound}
 use Rattle.is_wh.specs.Tuples.{isWhTuple}
 use Rattle.is_wh.proofs.Tuples.{mu-sent, half-sent}

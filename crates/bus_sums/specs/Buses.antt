@@ -3,11 +3,11 @@
 -- the sum over the tuples of the row, so on a side of a bus that its line does not name a table has no tuple.
 use Prim.Native.Nat.{ℕ, _+_, _*_}
 use mathlib.Core.List.{[]}
-use Rattle.lookup.specs.Tuple.{sender, receiver, onBus}
-use Rattle.lookup.specs.declared.Bus.{Bus}
-use Rattle.lookup.specs.declared.Bus.the-variants.{ByteAlu, AreBytes, IsHalfword, IsWh, KeccakRc, Keccak, Memw}
-use Rattle.lookup.specs.declared.Bus.the-variants.{Ecall, Msb8, Msb16, Zero, IsB20, Hwsl}
-use Rattle.lookup.specs.declared.Side.{Side}
+use Rattle.tuple.specs.Tuple.{sender, receiver, onBus}
+use Rattle.tuple.specs.declared.Bus.{Bus}
+use Rattle.tuple.specs.declared.Bus.the-variants.{ByteAlu, AreBytes, IsHalfword, IsWh, KeccakRc, Keccak, Memw}
+use Rattle.tuple.specs.declared.Bus.the-variants.{Ecall, Msb8, Msb16, Zero, IsB20, Hwsl}
+use Rattle.tuple.specs.declared.Side.{Side}
 
 module _ (s : Side) (b : Bus) where
   -- what is added by a tuple that is sent m times on the bus c, and by one that is received m times

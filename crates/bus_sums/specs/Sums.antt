@@ -16,12 +16,12 @@ use Rattle.lists.specs.Tab.{pick, tab}
 use Rattle.lists.specs.Sum.{sumBelow}
 use Rattle.lists.specs.Select.{wordsTest}
 use Rattle.field.specs.Field.{p}
-use Rattle.lookup.specs.Tuple.{Tuple, onBus}
-use Rattle.lookup.specs.declared.Bus.{Bus}
-use Rattle.lookup.specs.declared.Bus.the-variants.{ByteAlu, AreBytes, IsHalfword, IsWh, KeccakRc, Keccak, IsB20}
-use Rattle.lookup.specs.declared.Bus.the-variants.{Memw, Ecall, Msb8, Msb16, Zero, Hwsl}
-use Rattle.lookup.specs.declared.Side.{Side}
-use Rattle.lookup.specs.declared.Side.the-variants.{Sender, Receiver}
+use Rattle.tuple.specs.Tuple.{Tuple, onBus}
+use Rattle.tuple.specs.declared.Bus.{Bus}
+use Rattle.tuple.specs.declared.Bus.the-variants.{ByteAlu, AreBytes, IsHalfword, IsWh, KeccakRc, Keccak, IsB20}
+use Rattle.tuple.specs.declared.Bus.the-variants.{Memw, Ecall, Msb8, Msb16, Zero, Hwsl}
+use Rattle.tuple.specs.declared.Side.{Side}
+use Rattle.tuple.specs.declared.Side.the-variants.{Sender, Receiver}
 use Rattle.bitwise.specs.Columns.{NUM-ROWS, NUM-LOOKUP-TYPES}
 use Rattle.bitwise.specs.Row.{bitwiseRow}
 use Rattle.bitwise.specs.Tuples.{bitwiseTuple}

@@ -20,11 +20,11 @@ use Rattle.lists.proofs.Select.{words-sound}
 use Rattle.lists.proofs.Then.{then-all, by-le, T-true}
 use Rattle.field.specs.Field.{p}
 use Rattle.field.proofs.Field.{mul-c}
-use Rattle.lookup.specs.Tuple.{Tuple, sameSide, sameBus}
-use Rattle.lookup.specs.declared.Bus.{Bus}
-use Rattle.lookup.specs.declared.Side.{Side}
-use Rattle.lookup.specs.declared.Side.the-variants.{Sender, Receiver}
-use Rattle.lookup.proofs.Buses.{bus-decides}
+use Rattle.tuple.specs.Tuple.{Tuple, sameSide, sameBus}
+use Rattle.tuple.specs.declared.Bus.{Bus}
+use Rattle.tuple.specs.declared.Side.{Side}
+use Rattle.tuple.specs.declared.Side.the-variants.{Sender, Receiver}
+use Rattle.tuple.proofs.Buses.{bus-decides}
 use Rattle.bits.specs.Bits.{pack}
 use Rattle.templates.specs.Templates.{emit-add-pair, carry0, add-pair-carry-hi, add-terms-expr}
 use Rattle.keccak.specs.Row.{coreAddress}

@@ -13,9 +13,9 @@ use Rattle.lists.specs.Select.{wordsTest}
 use Rattle.lists.proofs.Tests.{not-true, T-of}
 use Rattle.lists.proofs.Select.{words-sound}
 use Rattle.field.specs.Field.{p}
-use Rattle.lookup.specs.Tuple.{Tuple, sender, receiver, busNumber}
-use Rattle.lookup.specs.declared.Bus.the-variants.{IsHalfword, IsWh}
-use Rattle.lookup.specs.declared.Side.the-variants.{Sender, Receiver}
+use Rattle.tuple.specs.Tuple.{Tuple, sender, receiver, busNumber}
+use Rattle.tuple.specs.declared.Bus.the-variants.{IsHalfword, IsWh}
+use Rattle.tuple.specs.declared.Side.the-variants.{Sender, Receiver}
 use Rattle.is_wh.specs.Found.{IsWhFound}
 use Rattle.is_wh.specs.Tuples.{isWhTuple}
 use Rattle.is_wh.proofs.Tuples.{mu-sent, half-sent, pair-received}

@@ -19,11 +19,11 @@ use Rattle.lists.proofs.Sum.{all-at}
 use Rattle.lists.proofs.Laws.{getD-tab, length-tab, length-table, rowAt-table}
 use Rattle.lists.proofs.Then.{by-le}
 use Rattle.field.specs.Field.{p}
-use Rattle.lookup.specs.Tuple.{Tuple, busNumber}
-use Rattle.lookup.specs.declared.Bus.{Bus}
-use Rattle.lookup.specs.declared.Bus.the-variants.{ByteAlu, AreBytes, IsHalfword, IsWh, KeccakRc, Keccak, IsB20, Memw, Ecall, Msb8, Msb16, Zero, Hwsl}
-use Rattle.lookup.specs.declared.Side.{Side}
-use Rattle.lookup.specs.declared.Side.the-variants.{Sender, Receiver}
+use Rattle.tuple.specs.Tuple.{Tuple, busNumber}
+use Rattle.tuple.specs.declared.Bus.{Bus}
+use Rattle.tuple.specs.declared.Bus.the-variants.{ByteAlu, AreBytes, IsHalfword, IsWh, KeccakRc, Keccak, IsB20, Memw, Ecall, Msb8, Msb16, Zero, Hwsl}
+use Rattle.tuple.specs.declared.Side.{Side}
+use Rattle.tuple.specs.declared.Side.the-variants.{Sender, Receiver}
 use Rattle.bits.specs.Bits.{wordAt, limbAt, pack}
 use Rattle.templates.specs.Templates.{emit-add-pair, carry0, add-pair-carry-hi, add-terms-expr}
 use Rattle.is_wh.specs.Found.{isWhFound}

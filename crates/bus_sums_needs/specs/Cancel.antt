@@ -9,7 +9,7 @@ use Prim.Native.Nat.{ℕ, _+_, _-_, _*_, _/_, _%_}
 use lib.Dec.{eqb, ltb}
 use Rattle.lists.specs.Tab.{pick, tab, tableOf}
 use Rattle.field.specs.Field.{p}
-use Rattle.lookup.specs.declared.Bus.{Bus}
+use Rattle.tuple.specs.declared.Bus.{Bus}
 use Rattle.keccak.specs.Columns.{ADDR, STATE-PTR, MU, NUM-COLUMNS}
 use Rattle.verdict.specs.Kind.{row, Whole, Elements, Active}
 use Rattle.verdict.specs.CoreAndRound.{coreLayout}

@@ -8,8 +8,8 @@ use Prim.Native.Nat.{ℕ, _-_, _*_, _^_, _≤_}
 use lib.ListN.{set}
 use Rattle.lists.specs.Tab.{tableOf}
 use Rattle.field.specs.Field.{p}
-use Rattle.lookup.specs.declared.Bus.{Bus}
-use Rattle.lookup.specs.declared.Bus.the-variants.{IsB20}
+use Rattle.tuple.specs.declared.Bus.{Bus}
+use Rattle.tuple.specs.declared.Bus.the-variants.{IsB20}
 use Rattle.fips202.specs.Lanes.{keccakPL}
 use Rattle.keccak.specs.Columns.{NUM-COLUMNS, state-ptr}
 use Rattle.keccak.specs.Row.{coreRow}

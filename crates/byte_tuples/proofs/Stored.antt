@@ -7,12 +7,12 @@ use native.Mathlib.Numerals.{add-one}
 use lib.ListN.{length, set}
 use lib.Seq.{sets}
 use Rattle.lists.proofs.Laws.{sets-append}
-use Rattle.lookup.specs.Tuple.{Tuple, sender}
-use Rattle.lookup.specs.Call.{interactionOf}
-use Rattle.lookup.specs.Words.{headerWords, tupleWords, tuplesWords}
-use Rattle.lookup.specs.declared.Bus.the-variants.{ByteAlu, AreBytes}
+use Rattle.tuple.specs.Tuple.{Tuple, sender}
+use Rattle.tuple.specs.Call.{interactionOf}
+use Rattle.tuple.specs.Words.{headerWords, tupleWords, tuplesWords}
+use Rattle.tuple.specs.declared.Bus.the-variants.{ByteAlu, AreBytes}
 use Rattle.byte_tuples.specs.Lanes.{aluLane}
-use Rattle.lookup.proofs.Words.{tuple-length, stores-four, Listed, listed-none, listed-more}
+use Rattle.tuple.proofs.Words.{tuple-length, stores-four, Listed, listed-none, listed-more}
 
 pub alu-stored : (l out : List ℕ) (at m op a b c : ℕ) → out ≡ sets l at (headerWords (interactionOf (sender ByteAlu m (op ∷ a ∷ b ∷ c ∷ []))))
     → set (set (set (set out (at + 4) op) (at + 4 + 1) a) (at + 4 + 2) b) (at + 4 + 3) c ≡ sets l at (tupleWords (sender ByteAlu m (op ∷ a ∷ b ∷ c ∷ [])))

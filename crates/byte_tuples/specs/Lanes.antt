@@ -2,8 +2,8 @@
 use Prim.Native.Nat.{ℕ, _+_}
 use mathlib.Core.List.{List, [], _∷_}
 use Rattle.lists.specs.Tab.{word}
-use Rattle.lookup.specs.Tuple.{Tuple, sender, ALU-AND, ALU-XOR}
-use Rattle.lookup.specs.declared.Bus.the-variants.{ByteAlu, AreBytes}
+use Rattle.tuple.specs.Tuple.{Tuple, sender, ALU-AND, ALU-XOR}
+use Rattle.tuple.specs.declared.Bus.the-variants.{ByteAlu, AreBytes}
 use Rattle.byte_tuples.specs.declared.Op.{Op}
 use Rattle.byte_tuples.specs.declared.Op.the-variants.{And, Xor}
 

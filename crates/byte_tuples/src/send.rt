@@ -1,15 +1,15 @@
 // A tuple whose values go to the front of a lent slice.
-use lookup::Bus;
-use lookup::BusInteraction;
-use lookup::Side;
+use tuple::Bus;
+use tuple::BusInteraction;
+use tuple::Side;
 ghost use mathlib.Core.Path.{_≡_};
 ghost use mathlib.Core.List.{[], _∷_};
 ghost use Prim.Native.Nat.{_≤_};
 ghost use lib.ListN.{length};
 ghost use Rattle.answer.specs.Refusal.{overwrite};
-ghost use Rattle.lookup.specs.Tuple.{sender};
-ghost use Rattle.lookup.specs.Call.{interactionOf};
-ghost use Rattle.lookup.specs.declared.Bus.the-variants.{ByteAlu, AreBytes};
+ghost use Rattle.tuple.specs.Tuple.{sender};
+ghost use Rattle.tuple.specs.Call.{interactionOf};
+ghost use Rattle.tuple.specs.declared.Bus.the-variants.{ByteAlu, AreBytes};
 
 // op(a, b) = c on the ByteAlu bus.
 pub fn send_alu(

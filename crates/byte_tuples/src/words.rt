@@ -1,18 +1,18 @@
 // A tuple as words: the four before its values, then these.
 use super::Op;
 use super::op_number;
-use lookup::Bus;
-use lookup::BusInteraction;
-use lookup::Side;
-use lookup::header::put_header;
+use tuple::Bus;
+use tuple::BusInteraction;
+use tuple::Side;
+use tuple::header::put_header;
 ghost use mathlib.Core.Path.{_≡_};
 ghost use mathlib.Core.List.{[], _∷_};
 ghost use Prim.Native.Nat.{_+_, _≤_};
 ghost use lib.ListN.{length};
 ghost use lib.Seq.{sets};
-ghost use Rattle.lookup.specs.Tuple.{sender};
-ghost use Rattle.lookup.specs.Words.{tupleWords, tuplesWords};
-ghost use Rattle.lookup.specs.declared.Bus.the-variants.{ByteAlu, AreBytes};
+ghost use Rattle.tuple.specs.Tuple.{sender};
+ghost use Rattle.tuple.specs.Words.{tupleWords, tuplesWords};
+ghost use Rattle.tuple.specs.declared.Bus.the-variants.{ByteAlu, AreBytes};
 ghost use Rattle.byte_tuples.specs.Lanes.{opNumber, aluLane, bytesLane};
 
 // op(a, b) = c, from `at`.

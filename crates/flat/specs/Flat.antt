@@ -6,9 +6,9 @@ use Rattle.answer.specs.declared.Answer.{Answer}
 use Rattle.answer.specs.declared.Answer.the-variants.{Done, Refused}
 use Rattle.answer.specs.declared.Number.{Number}
 use Rattle.answer.specs.declared.Number.the-variants as number
-use Rattle.lookup.specs.Tuple.{busNumber, sideNumber}
-use Rattle.lookup.specs.declared.TupleAnswer.{TupleAnswer}
-use Rattle.lookup.specs.declared.TupleAnswer.the-variants as tuple
+use Rattle.tuple.specs.Tuple.{busNumber, sideNumber}
+use Rattle.tuple.specs.declared.TupleAnswer.{TupleAnswer}
+use Rattle.tuple.specs.declared.TupleAnswer.the-variants as tuple
 use Rattle.is_wh.specs.declared.IsWhKey.{IsWhKey}
 use Rattle.flat.specs.declared.FlatAnswer.{FlatAnswer}
 use Rattle.flat.specs.declared.FlatNumber.{FlatNumber}

@@ -2,9 +2,9 @@
 use answer::Answer;
 use answer::Number;
 use is_wh::IsWhKey;
-use lookup::TupleAnswer;
-use lookup::header::bus_number;
-use lookup::header::side_number;
+use tuple::TupleAnswer;
+use tuple::header::bus_number;
+use tuple::header::side_number;
 ghost use mathlib.Core.Path.{_≡_};
 ghost use Rattle.flat.specs.Flat.{flatAnswer, flatNumber, flatTuple, flatKey};
 

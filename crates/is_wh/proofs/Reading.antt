@@ -4,10 +4,10 @@ use Prim.Native.Nat.{_^_}
 use native.Mathlib.Omega.{arith}
 use Rattle.lists.proofs.Reading.{ReadsFirst, then-same}
 use Rattle.field.specs.Field.{fadd, fmul}
-use Rattle.lookup.specs.Tuple.{sender, receiver}
-use Rattle.lookup.specs.declared.Bus.the-variants.{IsWh, IsHalfword, IsB20}
-use Rattle.lookup.specs.Call.{RestNotRead}
-use Rattle.lookup.proofs.Reading.{tuple-rest}
+use Rattle.tuple.specs.Tuple.{sender, receiver}
+use Rattle.tuple.specs.declared.Bus.the-variants.{IsWh, IsHalfword, IsB20}
+use Rattle.tuple.specs.Call.{RestNotRead}
+use Rattle.tuple.proofs.Reading.{tuple-rest}
 use Rattle.is_wh.specs.Columns.{MU, NUM-COLUMNS, value}
 use Rattle.is_wh.specs.Tuples.{NUM-TUPLES, isWhTuple}
 

@@ -7,7 +7,7 @@ use native.Mathlib.Nat.{mod-eq-of-lt}
 use native.Mathlib.Omega.{arith}
 use Rattle.lists.specs.Tab.{word}
 use Rattle.field.specs.Field.{fadd, fmul}
-use Rattle.lookup.specs.Tuple.{Tuple}
+use Rattle.tuple.specs.Tuple.{Tuple}
 use Rattle.is_wh.specs.Columns.{value}
 use Rattle.is_wh.specs.Key.{of-dword}
 use Rattle.is_wh.specs.Tuples.{isWhTuple, is-whh}

@@ -8,9 +8,9 @@ use lib.ListN.{length}
 use Rattle.lists.specs.Tab.{word}
 use Rattle.lists.proofs.Then.{then-lt, then-past}
 use Rattle.field.specs.Field.{fadd, fmul}
-use Rattle.lookup.specs.Tuple.{Tuple}
-use Rattle.lookup.specs.declared.Bus.the-variants.{IsWh, IsHalfword, IsB20}
-use Rattle.lookup.specs.declared.Side.the-variants.{Sender, Receiver}
+use Rattle.tuple.specs.Tuple.{Tuple}
+use Rattle.tuple.specs.declared.Bus.the-variants.{IsWh, IsHalfword, IsB20}
+use Rattle.tuple.specs.declared.Side.the-variants.{Sender, Receiver}
 use Rattle.is_wh.specs.Tuples.{isWhTuple, is-whh}
 
 module _ (row : List ℕ) where

@@ -3,8 +3,8 @@ use Prim.Native.Nat.{ℕ, zero, suc, _+_, _^_}
 use mathlib.Core.List.{List, [], _∷_}
 use Rattle.lists.specs.Tab.{word, followedBy}
 use Rattle.field.specs.Field.{fadd, fmul}
-use Rattle.lookup.specs.Tuple.{Tuple, sender, receiver}
-use Rattle.lookup.specs.declared.Bus.the-variants.{IsWh, IsHalfword, IsB20}
+use Rattle.tuple.specs.Tuple.{Tuple, sender, receiver}
+use Rattle.tuple.specs.declared.Bus.the-variants.{IsWh, IsHalfword, IsB20}
 use Rattle.is_wh.specs.Columns.{value, MU}
 
 -- How many tuples a row has.

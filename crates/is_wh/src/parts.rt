@@ -1,17 +1,17 @@
 // What the tuples of tables/is_wh.rs are made of: one value, a pair, the word of a pair.
 use field::Fe;
-use lookup::Bus;
-use lookup::BusInteraction;
-use lookup::Side;
+use tuple::Bus;
+use tuple::BusInteraction;
+use tuple::Side;
 ghost use mathlib.Core.Path.{_≡_};
 ghost use mathlib.Core.List.{[], _∷_};
 ghost use Prim.Native.Nat.{_<_, _≤_};
 ghost use lib.ListN.{length};
 ghost use Rattle.field.specs.Field.{p, fadd, fmul};
 ghost use Rattle.answer.specs.Refusal.{overwrite};
-ghost use Rattle.lookup.specs.Tuple.{sender};
-ghost use Rattle.lookup.specs.Call.{interactionOf};
-ghost use Rattle.lookup.specs.declared.Bus.the-variants.{IsWh};
+ghost use Rattle.tuple.specs.Tuple.{sender};
+ghost use Rattle.tuple.specs.Call.{interactionOf};
+ghost use Rattle.tuple.specs.declared.Bus.the-variants.{IsWh};
 
 // A tuple of one value, sent.
 pub fn send_one(bus: Bus, multiplicity: u64, value: u64, out: &mut [u64]) -> BusInteraction

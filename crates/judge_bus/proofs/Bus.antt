@@ -15,7 +15,7 @@ use Rattle.lists.specs.First.{first, inRow}
 use Rattle.lists.proofs.First.{first-more, first-hit, in-none}
 use Rattle.keccak.specs.Tuples.{coreTuple}
 use Rattle.keccak_rnd.specs.Tuples.{roundTuple}
-use Rattle.lookup.specs.declared.Side.the-variants.{Sender, Receiver}
+use Rattle.tuple.specs.declared.Side.the-variants.{Sender, Receiver}
 use Rattle.verdict.specs.Kind.{rows, row, active, sent, received}
 use Rattle.verdict.specs.Verdict.{uneven, badTuple, firstUnbalanced}
 use Rattle.verdict.specs.CoreAndRound.{coreLayout, roundLayout, coreKind, roundKind}

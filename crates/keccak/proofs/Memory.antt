@@ -13,8 +13,8 @@ use Rattle.lists.specs.Tab.{word, tab}
 use Rattle.lists.proofs.Laws.{tab-same}
 use Rattle.bits.specs.Bits.{byteAt, wordAt, limbAt}
 use Rattle.bits.proofs.Bytes.{byte-lt}
-use Rattle.lookup.specs.Tuple.{sender, receiver}
-use Rattle.lookup.specs.declared.Bus.the-variants.{Memw, Ecall}
+use Rattle.tuple.specs.Tuple.{sender, receiver}
+use Rattle.tuple.specs.declared.Bus.the-variants.{Memw, Ecall}
 use Rattle.templates.proofs.Operand.{two-sum}
 use Rattle.keccak.specs.Columns.{ADDR, MU, addr, input-state, output-state, state-ptr}
 use Rattle.keccak.specs.Row.{coreRow, coreAddress, corePointer, is-wh-key, is-wh-keys}

@@ -12,10 +12,10 @@ use Rattle.field.specs.Field.{fadd, fsub, fmul, INV-SHIFT-32}
 use Rattle.templates.specs.Templates.{times, constant, from-dword-bl, from-dword-whh, add-term-expr, add-terms-expr, add-operand-lo, add-operand-hi, carry0, add-pair-carry-hi, emit-add-pair, isBit, isBitIf}
 use Rattle.templates.specs.declared.AddTerms.{AddTerms}
 use Rattle.is_wh.specs.Tuples.{is-whh}
-use Rattle.lookup.specs.Tuple.{sender, receiver}
-use Rattle.lookup.specs.declared.Bus.the-variants.{ByteAlu, AreBytes, Memw, Keccak, Ecall, IsWh, IsHalfword}
-use Rattle.lookup.specs.Call.{RestNotRead}
-use Rattle.lookup.proofs.Reading.{tuple-rest}
+use Rattle.tuple.specs.Tuple.{sender, receiver}
+use Rattle.tuple.specs.declared.Bus.the-variants.{ByteAlu, AreBytes, Memw, Keccak, Ecall, IsWh, IsHalfword}
+use Rattle.tuple.specs.Call.{RestNotRead}
+use Rattle.tuple.proofs.Reading.{tuple-rest}
 use Rattle.keccak.specs.Columns.{NUM-COLUMNS, TIMESTAMP-0, TIMESTAMP-1, ADDR, MU, addr, state-ptr, input-state, output-state, byXYB}
 use Rattle.keccak.specs.Values.{NUM-VALUES, pointerValue, wordOfBytes, wordOfHalves, topValue, coreValue}
 use Rattle.keccak.specs.Tuples.{NUM-TUPLES, ecallTuple, addrMemw, keccakValues, coreSent, coreReceived, pointerTuple, alignTuple, addrBytesTuple, laneMemw, coreTuple}

@@ -13,7 +13,7 @@ use Rattle.field.proofs.Field.{mod-p, fmul-one}
 use Rattle.bits.proofs.Rotate.{by-parity}
 use Rattle.templates.specs.Templates.{constant, from-dword-bl, from-dword-whh, carry0, add-pair-carry-hi, emit-add-pair, isBit}
 use Rattle.templates.proofs.Carry.{carryOf, Carried, carried, bit-if-one}
-use Rattle.lookup.specs.Tuple.{Tuple}
+use Rattle.tuple.specs.Tuple.{Tuple}
 use Rattle.bitwise.specs.Found.{aluOp}
 use Rattle.matching.specs.Matching.{Found, Matched}
 use Rattle.matching.proofs.Matching.{alu-of, bytes-of, half-of, is-wh-of}

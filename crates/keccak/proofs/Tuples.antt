@@ -6,8 +6,8 @@ use native.Mathlib.Omega.{arith}
 use lib.ListN.{length}
 use Rattle.lists.specs.Tab.{tab, tabFrom, word}
 use Rattle.lists.proofs.Then.{partStart, partSize, partAt}
-use Rattle.lookup.specs.Tuple.{sender, receiver}
-use Rattle.lookup.specs.declared.Bus.the-variants.{IsWh, IsHalfword, Keccak}
+use Rattle.tuple.specs.Tuple.{sender, receiver}
+use Rattle.tuple.specs.declared.Bus.the-variants.{IsWh, IsHalfword, Keccak}
 use Rattle.is_wh.specs.Tuples.{is-whh}
 use Rattle.is_wh.proofs.Tuples.{pair-sent, low-sent}
 use Rattle.keccak.specs.Columns.{MU, state-ptr}

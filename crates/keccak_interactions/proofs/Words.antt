@@ -5,8 +5,8 @@ use Prim.Native.Nat.{ℕ, _/_, _%_}
 use native.Mathlib.Omega.{arith}
 use lib.ListN.{length}
 use Rattle.lists.specs.Sum.{sumBelow}
-use Rattle.lookup.specs.Words.{tupleWords, tuplesWords}
-use Rattle.lookup.proofs.Words.{tuples-length, words-same, words-then}
+use Rattle.tuple.specs.Words.{tupleWords, tuplesWords}
+use Rattle.tuple.proofs.Words.{tuples-length, words-same, words-then}
 use Rattle.keccak.specs.Tuples.{NUM-TUPLES, pointerTuple, coreTuple}
 use Rattle.keccak.proofs.Tuples.{ecall-length, addr-length, sent-length, received-length, align-length, bytes-length, lane-length}
 use Rattle.keccak_interactions.specs.Words.{NUM-WORDS}

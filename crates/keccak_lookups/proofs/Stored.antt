@@ -8,8 +8,8 @@ use lib.Seq.{sets}
 use Rattle.lists.specs.Tab.{tabFrom, tab, followedBy, word}
 use Rattle.lists.proofs.Laws.{tab-same}
 use Rattle.lists.proofs.Then.{at-two}
-use Rattle.lookup.specs.Tuple.{Tuple, sender}
-use Rattle.lookup.specs.declared.Bus.the-variants.{ByteAlu, IsWh, IsHalfword, Keccak}
+use Rattle.tuple.specs.Tuple.{Tuple, sender}
+use Rattle.tuple.specs.declared.Bus.the-variants.{ByteAlu, IsWh, IsHalfword, Keccak}
 use Rattle.keccak.specs.Columns.{MU}
 use Rattle.keccak.specs.Tuples.{ecallTuple, addrMemw, coreSent, coreReceived, pointerTuple, alignTuple, addrBytesTuple, laneMemw, coreTuple}
 use Rattle.keccak.proofs.Places.{tuples-from}

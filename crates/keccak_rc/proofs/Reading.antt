@@ -4,10 +4,10 @@ use native.Mathlib.Omega.{arith}
 use Rattle.lists.specs.Tab.{tab, word}
 use Rattle.lists.proofs.Laws.{tab-same}
 use Rattle.lists.proofs.Reading.{ReadsFirst}
-use Rattle.lookup.specs.Tuple.{receiver}
-use Rattle.lookup.specs.declared.Bus.the-variants.{KeccakRc}
-use Rattle.lookup.specs.Call.{RestNotRead}
-use Rattle.lookup.proofs.Reading.{tuple-rest}
+use Rattle.tuple.specs.Tuple.{receiver}
+use Rattle.tuple.specs.declared.Bus.the-variants.{KeccakRc}
+use Rattle.tuple.specs.Call.{RestNotRead}
+use Rattle.tuple.proofs.Reading.{tuple-rest}
 use Rattle.keccak_rc.specs.Columns.{MU, NUM-COLUMNS}
 use Rattle.keccak_rc.specs.Tuples.{NUM-TUPLES, rcTuple}
 

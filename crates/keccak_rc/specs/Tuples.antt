@@ -2,8 +2,8 @@
 use Prim.Native.Nat.{ℕ}
 use mathlib.Core.List.{List}
 use Rattle.lists.specs.Tab.{tab, word}
-use Rattle.lookup.specs.Tuple.{Tuple, receiver}
-use Rattle.lookup.specs.declared.Bus.the-variants.{KeccakRc}
+use Rattle.tuple.specs.Tuple.{Tuple, receiver}
+use Rattle.tuple.specs.declared.Bus.the-variants.{KeccakRc}
 use Rattle.keccak_rc.specs.Columns.{MU, NUM-PRECOMPUTED-COLS}
 
 -- How many tuples a row has.

@@ -19,11 +19,11 @@ use Rattle.answer.specs.declared.Refusal.the-variants.{PastEnd, NotWhole, TooSh
 use Rattle.answer.specs.Limits.{MAX-OPS}
 use Rattle.fips202.specs.Lanes.{roundsL}
 use Rattle.templates.specs.Templates.{isBit}
-use Rattle.lookup.specs.Tuple.{sender, receiver}
-use Rattle.lookup.specs.declared.Bus.the-variants.{ByteAlu, KeccakRc, Keccak}
-use Rattle.lookup.specs.Call.{RestNotRead}
-use Rattle.lookup.proofs.Values.{long-enough}
-use Rattle.lookup.proofs.Reading.{tuple-rest}
+use Rattle.tuple.specs.Tuple.{sender, receiver}
+use Rattle.tuple.specs.declared.Bus.the-variants.{ByteAlu, KeccakRc, Keccak}
+use Rattle.tuple.specs.Call.{RestNotRead}
+use Rattle.tuple.proofs.Values.{long-enough}
+use Rattle.tuple.proofs.Reading.{tuple-rest}
 use Rattle.keccak.specs.Height.{MIN-ROWS}
 use Rattle.keccak.specs.Row.{OP-WORDS, LAST-ADDRESS, opAt}
 use Rattle.keccak.specs.Refusals.{opCount, addressAt, highAt, operationsRefusal}

@@ -6,8 +6,8 @@ use native.Mathlib.Nat.{zero-add}
 use native.Mathlib.Omega.{arith}
 use lib.ListN.{length}
 use Rattle.lists.specs.Tab.{word}
-use Rattle.lookup.specs.Tuple.{Tuple}
-use Rattle.lookup.proofs.Call.{fits}
+use Rattle.tuple.specs.Tuple.{Tuple}
+use Rattle.tuple.proofs.Call.{fits}
 use Rattle.byte_tuples.specs.Lanes.{opNumber}
 use Rattle.keccak_rnd.specs.Tuples.{alu, areBytes, roundTuple}
 use Rattle.keccak_rnd_operands.specs.declared.Operands.{Operands}

@@ -9,9 +9,9 @@ use lib.ListN.{length}
 use lib.Seq.{sets}
 use Rattle.lists.specs.Sum.{sumBelow}
 use Rattle.lists.proofs.Sum.{sum-same, sum-const}
-use Rattle.lookup.specs.Tuple.{Tuple}
-use Rattle.lookup.specs.Words.{tupleWords, tuplesWords}
-use Rattle.lookup.proofs.Words.{tuple-length, tuples-length, words-same, words-then, Listed, listed-none, listed-part, listed-all}
+use Rattle.tuple.specs.Tuple.{Tuple}
+use Rattle.tuple.specs.Words.{tupleWords, tuplesWords}
+use Rattle.tuple.proofs.Words.{tuple-length, tuples-length, words-same, words-then, Listed, listed-none, listed-part, listed-all}
 use Rattle.keccak.proofs.Reading.{keccak-length}
 use Rattle.keccak_rnd.specs.Tuples.{NUM-TUPLES, roundReceived, roundSent, roundTuple}
 use Rattle.keccak_rnd_operands.specs.Lanes.{aluTuple}

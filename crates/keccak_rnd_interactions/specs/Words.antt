@@ -3,8 +3,8 @@ use Prim.Native.Nat.{ℕ}
 use mathlib.Core.List.{List}
 use lib.ListN.{length}
 use Rattle.answer.specs.Refusal.{overwrite, afterwards}
-use Rattle.lookup.specs.Words.{tuplesWords}
-use Rattle.lookup.specs.Values.{valuesRefusal}
+use Rattle.tuple.specs.Words.{tuplesWords}
+use Rattle.tuple.specs.Values.{valuesRefusal}
 use Rattle.keccak_rnd.specs.Columns.{NUM-COLUMNS}
 use Rattle.keccak_rnd.specs.Tuples.{NUM-TUPLES, roundTuple}
 

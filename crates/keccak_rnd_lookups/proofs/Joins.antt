@@ -13,8 +13,8 @@ use Rattle.lists.specs.Tab.{pick, tabFrom, tab, word}
 use Rattle.lists.proofs.Laws.{getD-tab, tab-same}
 use Rattle.bits.specs.Bits.{byteAt}
 use Rattle.fips202.specs.Tables.{roundConstant}
-use Rattle.lookup.specs.Tuple.{Tuple, sender, receiver}
-use Rattle.lookup.specs.declared.Bus.the-variants.{KeccakRc, Keccak}
+use Rattle.tuple.specs.Tuple.{Tuple, sender, receiver}
+use Rattle.tuple.specs.declared.Bus.the-variants.{KeccakRc, Keccak}
 use Rattle.keccak_rnd.specs.Columns.{MU}
 use Rattle.keccak_rnd.specs.Tuples.{roundReceived, roundSent, constantTuple, roundTuple}
 use Rattle.keccak_rnd.proofs.Places.{tuple-at}

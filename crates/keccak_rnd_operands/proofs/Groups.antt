@@ -9,7 +9,7 @@ use lib.ListN.{length}
 use Rattle.lists.specs.Tab.{tab, followedBy, word}
 use Rattle.lists.proofs.Laws.{getD-tab, length-tab}
 use Rattle.lists.proofs.Then.{then-lt, then-ge, then-all, at-two, at-three}
-use Rattle.lookup.specs.Tuple.{Tuple}
+use Rattle.tuple.specs.Tuple.{Tuple}
 use Rattle.keccak_rnd.specs.Columns.{MU}
 use Rattle.keccak_rnd.specs.Tuples.{alu, areBytes, cxzTuple0, cxzTuple, cxzLeftTuple, dxzTuple, thetaTuple, rotTuple, chiAndsTuple, chiTuple, iotaTuple, roundTuple}
 use Rattle.keccak_rnd.proofs.Places.{tuple-at, tuples-from}

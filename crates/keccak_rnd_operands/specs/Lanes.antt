@@ -4,7 +4,7 @@ use Prim.Native.Nat.{ℕ, _+_, _*_, _≤_, _<_}
 use mathlib.Core.Path.{_≡_}
 use mathlib.Core.List.{List}
 use Rattle.lists.specs.Tab.{followedBy, word}
-use Rattle.lookup.specs.Tuple.{Tuple}
+use Rattle.tuple.specs.Tuple.{Tuple}
 use Rattle.byte_tuples.specs.Lanes.{opNumber}
 use Rattle.keccak_rnd.specs.Columns.{NUM-COLUMNS}
 use Rattle.keccak_rnd.specs.Tuples.{CXZ-TUPLES, CXZ-LEFT-TUPLES, DXZ-TUPLES, ROT-TUPLES, CHI-ANDS-TUPLES, alu, areBytes, roundTuple}

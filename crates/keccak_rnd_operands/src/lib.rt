@@ -26,17 +26,17 @@ ghost use Rattle.keccak_rnd_terms.specs.Terms.{TermsOf};
 ghost use Rattle.keccak_rnd_operands.specs.Lanes.{THETA-LANE, NUM-LANES, Within, operandByte, OperandsOf, LeftOf, RotOf};
 
 // The first lane of each group.
-pub const STAGE_LANE: usize = 5;
+const STAGE_LANE: usize = 5;
 
 pub const DXZ_LANE: usize = 20;
 
-pub const THETA_LANE: usize = 25;
+const THETA_LANE: usize = 25;
 
 pub const CHI_ANDS_LANE: usize = 50;
 
-pub const CHI_LANE: usize = 75;
+const CHI_LANE: usize = 75;
 
-pub const IOTA_LANE: usize = 100;
+const IOTA_LANE: usize = 100;
 
 pub const NUM_LANES: usize = 101;
 

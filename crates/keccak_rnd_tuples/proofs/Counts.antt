@@ -5,11 +5,11 @@ use mathlib.Core.List.{List}
 use Prim.Native.Nat.{ℕ, _+_, _*_}
 use native.Mathlib.Omega.{arith}
 use Rattle.lists.specs.Tab.{word}
-use Rattle.lookup.specs.Tuple.{busSum}
-use Rattle.lookup.specs.declared.Bus.{Bus}
-use Rattle.lookup.specs.declared.Bus.the-variants.{ByteAlu, AreBytes, KeccakRc, Keccak}
-use Rattle.lookup.specs.declared.Side.{Side}
-use Rattle.lookup.specs.declared.Side.the-variants.{Sender, Receiver}
+use Rattle.tuple.specs.Tuple.{busSum}
+use Rattle.tuple.specs.declared.Bus.{Bus}
+use Rattle.tuple.specs.declared.Bus.the-variants.{ByteAlu, AreBytes, KeccakRc, Keccak}
+use Rattle.tuple.specs.declared.Side.{Side}
+use Rattle.tuple.specs.declared.Side.the-variants.{Sender, Receiver}
 use Rattle.keccak_rnd.specs.Columns.{MU}
 use Rattle.keccak_rnd.specs.Tuples.{NUM-TUPLES, roundTuple}
 use Rattle.keccak_rnd.proofs.Sums.{row-sum}

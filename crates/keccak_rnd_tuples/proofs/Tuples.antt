@@ -8,11 +8,11 @@ use Rattle.lists.specs.Tab.{word}
 use Rattle.lists.proofs.Laws.{length-tab}
 use Rattle.lists.proofs.Then.{by-le}
 use Rattle.field.specs.Field.{fadd}
-use Rattle.lookup.specs.Tuple.{sender, receiver}
-use Rattle.lookup.specs.declared.Bus.the-variants.{Keccak, KeccakRc}
-use Rattle.lookup.specs.declared.Side.the-variants.{Sender, Receiver}
-use Rattle.lookup.specs.Call.{interactionOf}
-use Rattle.lookup.proofs.Call.{length-of}
+use Rattle.tuple.specs.Tuple.{sender, receiver}
+use Rattle.tuple.specs.declared.Bus.the-variants.{Keccak, KeccakRc}
+use Rattle.tuple.specs.declared.Side.the-variants.{Sender, Receiver}
+use Rattle.tuple.specs.Call.{interactionOf}
+use Rattle.tuple.proofs.Call.{length-of}
 use Rattle.keccak.specs.Tuples.{keccakValues}
 use Rattle.keccak.proofs.Reading.{keccak-length}
 use Rattle.keccak_rnd.specs.Columns.{start, rc}

@@ -1,5 +1,7 @@
 // The values of a round row, group by group into a slice.
 use fips202::rho_offset;
+use keccak_rnd::RHO_VALUES;
+use keccak_rnd::THETA_VALUES;
 use keccak_rnd_value::carry_value;
 use keccak_rnd_value::rho_value;
 use keccak_rnd_value::theta_value;
@@ -17,7 +19,7 @@ pub fn put_carry_values(row: &[u64], out: &mut [u64])
     ensures { λ _. ⌜ now (out .exit) ≡ sets (now (out .entry)) 0 (tab 20 (λ i. carryValue (now (row .entry)) (i / 4) (i % 4))) ⌝ }
 {
     let mut i: usize = 0;
-    while i < 20 {
+    while i < THETA_VALUES {
         let value = carry_value(row, i);
         out[i] = value.value;
         i += 1;
@@ -43,7 +45,7 @@ pub fn put_theta_values(row: &[u64], out: &mut [u64])
 {
     let mut x: usize = 0;
     while x < 5 {
-        put_theta_column(row, x, out, 20 + 4 * x);
+        put_theta_column(row, x, out, THETA_VALUES + 4 * x);
         x += 1;
     }
 }
@@ -80,7 +82,7 @@ pub fn put_rho_values(row: &[u64], out: &mut [u64])
 {
     let mut x: usize = 0;
     while x < 5 {
-        put_rho_lanes(row, x, out, 40 + 20 * x);
+        put_rho_lanes(row, x, out, RHO_VALUES + 20 * x);
         x += 1;
     }
 }

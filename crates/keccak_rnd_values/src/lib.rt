@@ -5,17 +5,18 @@ use groups::put_carry_values;
 use groups::put_rho_values;
 use groups::put_theta_values;
 use keccak_rnd::MU;
+use keccak_rnd::MU_VALUE;
 use keccak_rnd::NUM_COLUMNS;
 use keccak_rnd::NUM_VALUES;
 use keccak_rnd_value::element;
-use lookup::check::check_values;
+use tuple::check::check_values;
 ghost use mathlib.Core.Path.{_≡_};
 ghost use Prim.Native.Nat.{_≤_};
 ghost use lib.ListN.{length};
 ghost use lib.Seq.{sets};
 ghost use Rattle.lists.specs.Tab.{tab};
 ghost use Rattle.field.specs.Elements.{ElementRow};
-ghost use Rattle.lookup.specs.Values.{valuesAnswer, valuesAfter};
+ghost use Rattle.tuple.specs.Values.{valuesAnswer, valuesAfter};
 ghost use Rattle.keccak_rnd.specs.Columns.{NUM-COLUMNS};
 ghost use Rattle.keccak_rnd.specs.Values.{NUM-VALUES, roundValue};
 
@@ -30,7 +31,7 @@ pub fn put_round_values(row: &[u64], out: &mut [u64])
     put_theta_values(row, out);
     put_rho_values(row, out);
     let mu = element(row, MU);
-    out[140] = is_bit(mu.value);
+    out[MU_VALUE] = is_bit(mu.value);
 }
 
 // The values of a row, whoever filled it.

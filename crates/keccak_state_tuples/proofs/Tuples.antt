@@ -4,13 +4,13 @@ use mathlib.Core.List.{List}
 use Prim.Native.Nat.{ℕ}
 use lib.ListN.{length}
 use Rattle.lists.specs.Tab.{word}
-use Rattle.lookup.specs.Tuple.{sender, receiver}
-use Rattle.lookup.specs.Call.{interactionOf}
-use Rattle.lookup.specs.declared.BusInteraction.{BusInteraction}
-use Rattle.lookup.specs.declared.Bus.{Bus}
-use Rattle.lookup.specs.declared.Bus.the-variants.{Keccak, Memw}
-use Rattle.lookup.specs.declared.Side.{Side}
-use Rattle.lookup.specs.declared.Side.the-variants.{Sender, Receiver}
+use Rattle.tuple.specs.Tuple.{sender, receiver}
+use Rattle.tuple.specs.Call.{interactionOf}
+use Rattle.tuple.specs.declared.BusInteraction.{BusInteraction}
+use Rattle.tuple.specs.declared.Bus.{Bus}
+use Rattle.tuple.specs.declared.Bus.the-variants.{Keccak, Memw}
+use Rattle.tuple.specs.declared.Side.{Side}
+use Rattle.tuple.specs.declared.Side.the-variants.{Sender, Receiver}
 use Rattle.keccak.specs.Columns.{MU}
 use Rattle.keccak.specs.Tuples.{coreSent, coreReceived, addrMemw, laneMemw}
 use Rattle.keccak.proofs.Tuples.{sent-length, received-length, lane-length}

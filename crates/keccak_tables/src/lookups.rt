@@ -10,7 +10,7 @@ use flat::flat_tuple;
 use is_wh::IsWhKey;
 ghost use mathlib.Core.Path.{_≡_};
 ghost use Rattle.answer.specs.Refusal.{answerOf, numberOf};
-ghost use Rattle.lookup.specs.Call.{tupleAnswerOf, tupleAfter};
+ghost use Rattle.tuple.specs.Call.{tupleAnswerOf, tupleAfter};
 ghost use Rattle.bitwise.specs.Columns as bitwise;
 ghost use Rattle.bitwise.specs.Row.{row-index, indexRefusal};
 ghost use Rattle.bitwise.specs.Row as bitwise-row;

@@ -13,10 +13,10 @@ use Rattle.lists.specs.Sum.{allBelow}
 use Rattle.lists.proofs.Then.{by-le}
 use Rattle.bits.specs.Bits.{byteAt}
 use Rattle.fips202.specs.Tables.{roundConstant}
-use Rattle.lookup.specs.Tuple.{Tuple}
-use Rattle.lookup.specs.declared.Bus.{Bus}
-use Rattle.lookup.specs.declared.Bus.the-variants.{ByteAlu, AreBytes, IsHalfword, IsWh, KeccakRc, Keccak, Memw}
-use Rattle.lookup.specs.declared.Bus.the-variants.{Ecall, Msb8, Msb16, Zero, IsB20, Hwsl}
+use Rattle.tuple.specs.Tuple.{Tuple}
+use Rattle.tuple.specs.declared.Bus.{Bus}
+use Rattle.tuple.specs.declared.Bus.the-variants.{ByteAlu, AreBytes, IsHalfword, IsWh, KeccakRc, Keccak, Memw}
+use Rattle.tuple.specs.declared.Bus.the-variants.{Ecall, Msb8, Msb16, Zero, IsB20, Hwsl}
 use Rattle.bitwise.specs.Found.{aluOp, aluFound, areBytesFound, halfFound}
 use Rattle.keccak_rc.specs.Found.{rcFound}
 use Rattle.is_wh.specs.Found.{isWhFound}

@@ -9,8 +9,8 @@ use Rattle.lists.specs.Tab.{tab, followedBy, word}
 use Rattle.lists.proofs.Laws.{Filled, filled-block, sets-add, sets-front, stored-at, length-tab}
 use Rattle.lists.proofs.Then.{then-lt, then-ge}
 use Rattle.lists.proofs.Laws.{getD-tab, tab-same}
-use Rattle.lookup.specs.Tuple.{Tuple, sender}
-use Rattle.lookup.specs.declared.Bus.the-variants.{ByteAlu}
+use Rattle.tuple.specs.Tuple.{Tuple, sender}
+use Rattle.tuple.specs.declared.Bus.the-variants.{ByteAlu}
 use Rattle.byte_tuples.specs.Lanes.{opNumber}
 use Rattle.byte_tuples.specs.declared.Op.{Op}
 use Rattle.residue.specs.Residue.{residue, residues, Marked}

@@ -14,10 +14,10 @@ use lib.ListN.{length, getD, drop}
 use Rattle.lists.specs.Tab.{pick, word}
 use Rattle.bits.specs.Bits.{byteAt}
 use Rattle.fips202.specs.Tables.{roundConstant}
-use Rattle.lookup.specs.Tuple.{Tuple}
-use Rattle.lookup.specs.declared.Bus.{Bus}
-use Rattle.lookup.specs.declared.Bus.the-variants.{ByteAlu, AreBytes, IsHalfword, IsWh, KeccakRc, Keccak, Memw}
-use Rattle.lookup.specs.declared.Bus.the-variants.{Ecall, Msb8, Msb16, Zero, IsB20, Hwsl}
+use Rattle.tuple.specs.Tuple.{Tuple}
+use Rattle.tuple.specs.declared.Bus.{Bus}
+use Rattle.tuple.specs.declared.Bus.the-variants.{ByteAlu, AreBytes, IsHalfword, IsWh, KeccakRc, Keccak, Memw}
+use Rattle.tuple.specs.declared.Bus.the-variants.{Ecall, Msb8, Msb16, Zero, IsB20, Hwsl}
 use Rattle.bitwise.specs.Found.{aluOp}
 use Rattle.matching.specs.Matching.{matched}
 

@@ -8,8 +8,8 @@ ghost use Prim.Native.Nat.{_+_, _≤_};
 ghost use lib.ListN.{length};
 ghost use lib.Seq.{sets};
 ghost use Rattle.lists.specs.Tab.{tab};
-ghost use Rattle.lookup.specs.Tuple.{sender, ALU-AND, ALU-XOR};
-ghost use Rattle.lookup.specs.declared.Bus.the-variants.{ByteAlu, AreBytes, IsHalfword, IsWh};
+ghost use Rattle.tuple.specs.Tuple.{sender, ALU-AND, ALU-XOR};
+ghost use Rattle.tuple.specs.declared.Bus.the-variants.{ByteAlu, AreBytes, IsHalfword, IsWh};
 ghost use Rattle.byte_tuples.specs.Lanes.{opNumber, aluLane, bytesLane};
 ghost use Rattle.residue.specs.Residue.{residue, residues};
 

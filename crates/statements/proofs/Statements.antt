@@ -27,9 +27,9 @@ use Rattle.answer.specs.Limits.{MAX-OPS}
 use Rattle.answer.specs.Refusal.{accepted, refusalNumber}
 use Rattle.answer.specs.declared.Refusal.the-variants.{HighAddress, PastEnd}
 use Rattle.fips202.specs.Fips.{Agree, offset, RHO, rnd, keccakF}
-use Rattle.lookup.specs.Tuple.{busSum}
-use Rattle.lookup.specs.declared.Bus.{Bus}
-use Rattle.lookup.specs.declared.Side.{Side}
+use Rattle.tuple.specs.Tuple.{busSum}
+use Rattle.tuple.specs.declared.Bus.{Bus}
+use Rattle.tuple.specs.declared.Side.{Side}
 use Rattle.templates.specs.Templates.{isBit}
 use Rattle.bits.specs.Bits.{byteAt}
 use Rattle.fips202.specs.Lanes.{Lanes, bits, roundsL}

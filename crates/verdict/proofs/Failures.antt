@@ -24,13 +24,13 @@ use Rattle.lists.proofs.Failure.{at-none-iff, at-some-iff, in-none-iff, in-some
 use Rattle.field.specs.Field.{p}
 use Rattle.field.specs.Elements.{notElement, firstNotElement}
 use Rattle.field.proofs.NotElement.{all-elements, none-found}
-use Rattle.lookup.specs.Tuple.{Tuple}
-use Rattle.lookup.specs.declared.Bus.the-variants.{Keccak}
-use Rattle.lookup.specs.declared.Side.{Side}
-use Rattle.lookup.specs.declared.Side.the-variants.{Sender, Receiver}
+use Rattle.tuple.specs.Tuple.{Tuple}
+use Rattle.tuple.specs.declared.Bus.the-variants.{Keccak}
+use Rattle.tuple.specs.declared.Side.{Side}
+use Rattle.tuple.specs.declared.Side.the-variants.{Sender, Receiver}
 use Rattle.keccak.specs.Tuples.{coreTuple}
 use Rattle.keccak_rnd.specs.Tuples.{roundTuple}
-use Rattle.lookup.proofs.Buses.{bus-decides}
+use Rattle.tuple.proofs.Buses.{bus-decides}
 use Rattle.matching.specs.Matching.{matched}
 use Rattle.matching.proofs.Matching.{matched-decides}
 use Rattle.answer.specs.declared.Refusal.the-variants.{PastEnd, NotWhole, TooShort, HighAddress, NotElement, BadRecord}

@@ -11,7 +11,7 @@ use Rattle.lists.proofs.Count.{count-find, count-hit}
 use Rattle.lists.proofs.Tests.{T-of, and-true, true-and}
 use Rattle.lists.proofs.Then.{by-le, T-true}
 use Rattle.lists.proofs.Select.{words-same, words-sound}
-use Rattle.lookup.specs.declared.Side.the-variants.{Sender, Receiver}
+use Rattle.tuple.specs.declared.Side.the-variants.{Sender, Receiver}
 use Rattle.field.specs.Field.{fadd}
 use Rattle.field.proofs.Field.{fadd-small}
 use Rattle.keccak.specs.Tuples.{keccakValues, coreTuple, coreReceived}

@@ -9,7 +9,7 @@ use lib.ListN.{length}
 use Rattle.lists.specs.Tab.{word}
 use Rattle.lists.specs.Failure.{FirstAt, FirstIn}
 use Rattle.field.specs.Field.{p}
-use Rattle.lookup.specs.declared.Bus.the-variants.{Keccak}
+use Rattle.tuple.specs.declared.Bus.the-variants.{Keccak}
 use Rattle.answer.specs.declared.Refusal.the-variants.{PastEnd, NotWhole, TooShort, HighAddress, NotElement, BadRecord}
 use Rattle.verdict.specs.Kind.{Layout, Kind, rows, row, actives, Active, SameTimestamp, DistinctTimestamps}
 use Rattle.verdict.specs.Kind.{Whole, Elements, ZeroAt, MatchedAt, Values, Lookups, Passes, BalancedAt, Balanced}

@@ -7,10 +7,10 @@ use lib.ListN.{length}
 use mathlib.Core.Option.{none}
 use Rattle.answer.specs.Refusal.{answerOf}
 use Rattle.answer.proofs.Laws.{is-refused, is-done}
-use Rattle.lookup.specs.Call.{sizedRefusal, tupleRefusal}
-use Rattle.lookup.specs.declared.TupleAnswer.the-variants.{Is}
-use Rattle.lookup.specs.Call.{Accepted}
-use Rattle.lookup.proofs.Call.{accepted, tuple-refused, tuple-given}
+use Rattle.tuple.specs.Call.{sizedRefusal, tupleRefusal}
+use Rattle.tuple.specs.declared.TupleAnswer.the-variants.{Is}
+use Rattle.tuple.specs.Call.{Accepted}
+use Rattle.tuple.proofs.Call.{accepted, tuple-refused, tuple-given}
 use Rattle.is_wh.specs.Tuples.{isWhTuple}
 use borrow.Author.Needs.{needs}
 use Rattle.is_wh.proofs.bus_interaction.Statement.{statement}

@@ -1,5 +1,5 @@
 -- `is_whh` meets its contract: one of the template's two tuples.
-use Rattle.lookup.proofs.Call.{fits, as-tuple}
+use Rattle.tuple.proofs.Call.{fits, as-tuple}
 use Rattle.is_wh.proofs.Tuples.{pair-sent, low-sent}
 use borrow.Author.Needs.{needs}
 use Rattle.is_wh.proofs.is_whh.Statement.{statement}

@@ -5,7 +5,7 @@ use Prim.Native.Nat.{ℕ}
 use native.Mathlib.Omega.{arith}
 use Rattle.lists.specs.Tab.{word}
 use Rattle.answer.specs.Refusal.{overwrite}
-use Rattle.lookup.proofs.Call.{fits, as-tuple}
+use Rattle.tuple.proofs.Call.{fits, as-tuple}
 use Rattle.is_wh.proofs.Tuples.{mu-sent, half-sent, pair-received}
 use borrow.Author.Needs.{needs}
 use Rattle.is_wh.proofs.row_tuple.Statement.{statement}

@@ -5,10 +5,10 @@ use native.Mathlib.Omega.{arith}
 use lib.ListN.{length}
 use borrow.Author.Needs.{needs}
 use Rattle.answer.proofs.Laws.{is-refused, is-done, refused, done, sets-overwrite}
-use Rattle.lookup.specs.Words.{tuplesWords}
-use Rattle.lookup.specs.Values.{valuesRefusal}
-use Rattle.lookup.specs.Values.{Accepted}
-use Rattle.lookup.proofs.Values.{passed}
+use Rattle.tuple.specs.Words.{tuplesWords}
+use Rattle.tuple.specs.Values.{valuesRefusal}
+use Rattle.tuple.specs.Values.{Accepted}
+use Rattle.tuple.proofs.Values.{passed}
 use Rattle.keccak.specs.Tuples.{coreTuple}
 use Rattle.keccak_interactions.proofs.Words.{words-length}
 use Rattle.keccak_interactions.proofs.bus_interactions.Statement.{statement}

@@ -5,8 +5,8 @@ use native.Mathlib.Omega.{arith}
 use lib.ListN.{length}
 use lib.Seq.{length-sets}
 use borrow.Author.Needs.{needs}
-use Rattle.lookup.specs.declared.BusInteraction.{BusInteraction}
-use Rattle.lookup.proofs.Words.{tuple-length, part-room, part-back, header-after}
+use Rattle.tuple.specs.declared.BusInteraction.{BusInteraction}
+use Rattle.tuple.proofs.Words.{tuple-length, part-room, part-back, header-after}
 use Rattle.keccak.specs.Tuples.{coreTuple}
 use Rattle.keccak_interactions.proofs.put_tuple.Statement.{statement}
 use Rattle.keccak_interactions.proofs.put_tuple.Tie as tie

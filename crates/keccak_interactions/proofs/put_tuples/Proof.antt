@@ -1,7 +1,7 @@
 -- `keccak_interactions::put_tuples` meets its contract: after i turns the first i tuples are stored.
 use Prim.Native.Nat.{_-_}
 use native.Mathlib.Omega.{arith}
-use Rattle.lookup.proofs.Words.{Listed, listed-none, listed-room, listed-more, listed-all}
+use Rattle.tuple.proofs.Words.{Listed, listed-none, listed-room, listed-more, listed-all}
 use Rattle.keccak.specs.Tuples.{coreTuple}
 use Rattle.keccak_interactions.proofs.Words.{words-length}
 use Rattle.keccak_interactions.proofs.put_tuples.Statement.{statement}

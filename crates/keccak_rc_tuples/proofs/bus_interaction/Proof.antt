@@ -10,12 +10,12 @@ use Rattle.lists.specs.Tab.{tab, word}
 use Rattle.lists.proofs.Laws.{length-tab}
 use Rattle.answer.specs.Refusal.{answerOf}
 use Rattle.answer.proofs.Laws.{is-refused, is-done, sets-overwrite}
-use Rattle.lookup.specs.Call.{sizedRefusal, tupleRefusal}
-use Rattle.lookup.specs.declared.Bus.the-variants.{KeccakRc}
-use Rattle.lookup.specs.declared.Side.the-variants.{Receiver}
-use Rattle.lookup.specs.declared.TupleAnswer.the-variants.{Is}
-use Rattle.lookup.specs.Call.{Accepted}
-use Rattle.lookup.proofs.Call.{accepted, tuple-refused, tuple-given}
+use Rattle.tuple.specs.Call.{sizedRefusal, tupleRefusal}
+use Rattle.tuple.specs.declared.Bus.the-variants.{KeccakRc}
+use Rattle.tuple.specs.declared.Side.the-variants.{Receiver}
+use Rattle.tuple.specs.declared.TupleAnswer.the-variants.{Is}
+use Rattle.tuple.specs.Call.{Accepted}
+use Rattle.tuple.proofs.Call.{accepted, tuple-refused, tuple-given}
 use Rattle.keccak_rc.specs.Tuples.{rcTuple}
 use Rattle.keccak_rc_tuples.proofs.bus_interaction.Statement.{statement}
 use Rattle.keccak_rc_tuples.proofs.bus_interaction.Tie as tie

@@ -2,7 +2,7 @@
 use native.Mathlib.Omega.{arith}
 use borrow.Author.Needs.{needs}
 use Rattle.keccak_rnd_byte_tuples.proofs.Places.{alu-sent}
-use Rattle.lookup.proofs.Call.{as-tuple}
+use Rattle.tuple.proofs.Call.{as-tuple}
 use Rattle.keccak_rnd_byte_tuples.proofs.alu_tuple.Statement.{statement}
 use Rattle.keccak_rnd_byte_tuples.proofs.alu_tuple.Tie as tie
 

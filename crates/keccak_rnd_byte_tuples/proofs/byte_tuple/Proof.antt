@@ -2,7 +2,7 @@
 use native.Mathlib.Omega.{arith}
 use borrow.Author.Needs.{needs}
 use Rattle.keccak_rnd_byte_tuples.proofs.Places.{left-values, at-rot, at-front, at-back, rot-values, at-middle, at-left, alu-values}
-use Rattle.lookup.proofs.Call.{as-tuple}
+use Rattle.tuple.proofs.Call.{as-tuple}
 use Rattle.keccak_rnd_byte_tuples.proofs.byte_tuple.Statement.{statement}
 use Rattle.keccak_rnd_byte_tuples.proofs.byte_tuple.Tie as tie
 

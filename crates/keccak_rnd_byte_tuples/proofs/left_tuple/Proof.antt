@@ -1,7 +1,7 @@
 -- `keccak_rnd_byte_tuples::left_tuple` meets its contract: two words are read and sent.
 use native.Mathlib.Omega.{arith}
 use borrow.Author.Needs.{needs}
-use Rattle.lookup.proofs.Call.{as-tuple}
+use Rattle.tuple.proofs.Call.{as-tuple}
 use Rattle.keccak_rnd_byte_tuples.proofs.left_tuple.Statement.{statement}
 use Rattle.keccak_rnd_byte_tuples.proofs.left_tuple.Tie as tie
 

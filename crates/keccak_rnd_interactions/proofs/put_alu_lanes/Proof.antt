@@ -5,7 +5,7 @@ use native.Mathlib.Omega.{arith}
 use Rattle.byte_tuples.proofs.Stored.{listed-start}
 use Rattle.keccak_rnd_operands.proofs.Groups.{run-lane, eight}
 use Rattle.keccak_rnd_operands.specs.Lanes.{aluTuple}
-use Rattle.lookup.proofs.Words.{Listed, listed-all, listed-lane}
+use Rattle.tuple.proofs.Words.{Listed, listed-all, listed-lane}
 use Rattle.keccak_rnd_interactions.proofs.put_alu_lanes.Statement.{statement}
 use Rattle.keccak_rnd_interactions.proofs.put_alu_lanes.Tie as tie
 

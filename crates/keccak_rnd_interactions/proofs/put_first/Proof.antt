@@ -1,7 +1,7 @@
 -- `keccak_rnd_interactions::put_first` meets its contract: after i turns the first i tuples are stored.
 use Prim.Native.Nat.{_-_}
 use native.Mathlib.Omega.{arith}
-use Rattle.lookup.proofs.Words.{Listed, listed-none, listed-room, listed-more, listed-all}
+use Rattle.tuple.proofs.Words.{Listed, listed-none, listed-room, listed-more, listed-all}
 use Rattle.keccak_rnd.specs.Tuples.{roundTuple}
 use Rattle.keccak_rnd_interactions.proofs.Words.{first-length}
 use Rattle.keccak_rnd_interactions.proofs.put_first.Statement.{statement}

@@ -4,7 +4,7 @@ use Prim.Native.Nat.{_+_, _-_, _*_}
 use native.Mathlib.Omega.{arith}
 use Rattle.byte_tuples.proofs.Stored.{listed-start, listed-one}
 use Rattle.keccak_rnd.specs.Tuples.{roundTuple}
-use Rattle.lookup.proofs.Words.{listed-all, Listed}
+use Rattle.tuple.proofs.Words.{listed-all, Listed}
 use Rattle.keccak_rnd_interactions.proofs.put_left.Statement.{statement}
 use Rattle.keccak_rnd_interactions.proofs.put_left.Tie as tie
 

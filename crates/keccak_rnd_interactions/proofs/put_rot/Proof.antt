@@ -4,7 +4,7 @@ use Prim.Native.Nat.{_+_, _-_, _*_}
 use native.Mathlib.Omega.{arith}
 use Rattle.byte_tuples.proofs.Stored.{listed-start}
 use Rattle.keccak_rnd.specs.Tuples.{roundTuple}
-use Rattle.lookup.proofs.Words.{Listed, listed-all, listed-lane}
+use Rattle.tuple.proofs.Words.{Listed, listed-all, listed-lane}
 use Rattle.keccak_rnd_interactions.proofs.put_rot.Statement.{statement}
 use Rattle.keccak_rnd_interactions.proofs.put_rot.Tie as tie
 

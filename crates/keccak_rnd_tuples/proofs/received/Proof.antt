@@ -1,6 +1,6 @@
 -- `keccak_rnd_tuples::received` meets its contract: START at ROUND.
 use mathlib.Core.Path.{sym}
-use Rattle.lookup.proofs.Call.{as-tuple}
+use Rattle.tuple.proofs.Call.{as-tuple}
 use Rattle.keccak_rnd_tuples.proofs.Tuples.{at-received, received-interaction}
 use borrow.Author.Needs.{needs}
 use Rattle.keccak_rnd_tuples.proofs.received.Statement.{statement}

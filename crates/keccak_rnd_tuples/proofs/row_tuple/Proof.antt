@@ -2,7 +2,7 @@
 use mathlib.Core.Path.{ap}
 use native.Mathlib.Omega.{arith}
 use Rattle.keccak_rnd.specs.Tuples.{roundTuple}
-use Rattle.lookup.proofs.Call.{as-tuple}
+use Rattle.tuple.proofs.Call.{as-tuple}
 use Rattle.keccak_rnd_tuples.proofs.Tuples.{at-rc, keccak-size, rc-size}
 use borrow.Author.Needs.{needs}
 use Rattle.keccak_rnd_tuples.proofs.row_tuple.Statement.{statement}

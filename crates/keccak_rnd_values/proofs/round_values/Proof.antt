@@ -4,9 +4,9 @@ use mathlib.Core.Path.{_≡_, sym, _∙_}
 use lib.ListN.{length}
 use borrow.Author.Needs.{needs}
 use Rattle.answer.proofs.Laws.{is-refused, is-done, refused, done}
-use Rattle.lookup.specs.Values.{valuesRefusal}
-use Rattle.lookup.specs.Values.{Accepted}
-use Rattle.lookup.proofs.Values.{passed, stored}
+use Rattle.tuple.specs.Values.{valuesRefusal}
+use Rattle.tuple.specs.Values.{Accepted}
+use Rattle.tuple.proofs.Values.{passed, stored}
 use Rattle.keccak_rnd_values.proofs.round_values.Statement.{statement}
 use Rattle.keccak_rnd_values.proofs.round_values.Tie as tie
 

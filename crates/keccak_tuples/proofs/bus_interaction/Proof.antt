@@ -6,11 +6,11 @@ use Prim.Native.Nat.{ℕ}
 use lib.ListN.{length}
 use Rattle.answer.specs.Refusal.{answerOf}
 use Rattle.answer.proofs.Laws.{is-refused, is-done}
-use Rattle.lookup.specs.Tuple.{Tuple}
-use Rattle.lookup.specs.Call.{sizedRefusal, tupleRefusal}
-use Rattle.lookup.specs.declared.TupleAnswer.the-variants.{Is}
-use Rattle.lookup.specs.Call.{Accepted}
-use Rattle.lookup.proofs.Call.{accepted, tuple-refused, tuple-given}
+use Rattle.tuple.specs.Tuple.{Tuple}
+use Rattle.tuple.specs.Call.{sizedRefusal, tupleRefusal}
+use Rattle.tuple.specs.declared.TupleAnswer.the-variants.{Is}
+use Rattle.tuple.specs.Call.{Accepted}
+use Rattle.tuple.proofs.Call.{accepted, tuple-refused, tuple-given}
 use Rattle.keccak.specs.Tuples.{coreTuple}
 use borrow.Author.Needs.{needs}
 use Rattle.keccak_tuples.proofs.bus_interaction.Statement.{statement}

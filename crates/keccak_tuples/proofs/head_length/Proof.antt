@@ -1,7 +1,7 @@
 -- `keccak_tuples::head_length` meets its contract: the length of each.
 use native.Mathlib.Omega.{arith}
 use Rattle.lists.proofs.Then.{by-le}
-use Rattle.lookup.proofs.Call.{length-of}
+use Rattle.tuple.proofs.Call.{length-of}
 use Rattle.keccak.proofs.Tuples.{addr-length, sent-length, received-length, is-ecall, is-addr, is-sent, is-received, ecall-length}
 use Rattle.keccak_tuples.proofs.head_length.Statement.{statement}
 use Rattle.keccak_tuples.proofs.head_length.Tie as tie

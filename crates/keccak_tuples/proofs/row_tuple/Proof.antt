@@ -3,7 +3,7 @@ use mathlib.Core.Path.{_≡_}
 use Prim.Native.Nat.{_-_, _/_, _%_}
 use native.Mathlib.Omega.{arith}
 use borrow.Author.Needs.{needs}
-use Rattle.lookup.proofs.Call.{fits, as-tuple}
+use Rattle.tuple.proofs.Call.{fits, as-tuple}
 use Rattle.keccak.specs.Tuples.{coreTuple, pointerTuple}
 use Rattle.keccak.proofs.Tuples.{is-pointer}
 use Rattle.keccak_tuples.proofs.row_tuple.Statement.{statement}

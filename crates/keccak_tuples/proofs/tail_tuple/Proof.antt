@@ -3,7 +3,7 @@ use mathlib.Core.Path.{_≡_}
 use Prim.Native.Nat.{_-_}
 use native.Mathlib.Omega.{arith}
 use borrow.Author.Needs.{needs}
-use Rattle.lookup.proofs.Call.{as-tuple, room}
+use Rattle.tuple.proofs.Call.{as-tuple, room}
 use Rattle.keccak.specs.Tuples.{coreTuple, alignTuple, addrBytesTuple, laneMemw}
 use Rattle.keccak.proofs.Tuples.{align-length, bytes-length, lane-length, is-align, is-bytes, is-lane}
 use Rattle.keccak_tuples.proofs.tail_tuple.Statement.{statement}

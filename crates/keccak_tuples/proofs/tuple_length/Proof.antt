@@ -1,7 +1,7 @@
 -- `keccak_tuples::tuple_length` meets its contract: the length of each.
 use native.Mathlib.Omega.{arith}
 use borrow.Author.Needs.{needs}
-use Rattle.lookup.proofs.Call.{length-of}
+use Rattle.tuple.proofs.Call.{length-of}
 use Rattle.keccak.proofs.Tuples.{pointer-length, align-length, bytes-length, lane-length, is-pointer, is-align, is-bytes, is-lane}
 use Rattle.keccak_tuples.proofs.tuple_length.Statement.{statement}
 use Rattle.keccak_tuples.proofs.tuple_length.Tie as tie

@@ -5,9 +5,9 @@ use mathlib.Core.Option.{none}
 use Prim.Native.Nat.{ℕ}
 use lib.ListN.{length}
 use Rattle.answer.proofs.Laws.{refused, done, is-refused, is-done}
-use Rattle.lookup.specs.Values.{valuesRefusal}
-use Rattle.lookup.specs.Values.{Accepted}
-use Rattle.lookup.proofs.Values.{passed, stored}
+use Rattle.tuple.specs.Values.{valuesRefusal}
+use Rattle.tuple.specs.Values.{Accepted}
+use Rattle.tuple.proofs.Values.{passed, stored}
 use borrow.Author.Needs.{needs}
 use Rattle.keccak_values.proofs.core_values.Statement.{statement}
 use Rattle.keccak_values.proofs.core_values.Tie as tie

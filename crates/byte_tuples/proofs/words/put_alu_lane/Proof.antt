@@ -5,7 +5,7 @@ use native.Mathlib.Omega.{arith}
 use borrow.Author.Needs.{needs}
 use Rattle.byte_tuples.proofs.Stored.{listed-start, by-number, listed-one}
 use Rattle.byte_tuples.specs.Lanes.{aluLane}
-use Rattle.lookup.proofs.Words.{listed-all, Listed}
+use Rattle.tuple.proofs.Words.{listed-all, Listed}
 use Rattle.byte_tuples.proofs.words.put_alu_lane.Statement.{statement}
 use Rattle.byte_tuples.proofs.words.put_alu_lane.Tie as tie
 

@@ -2,7 +2,7 @@
 use mathlib.Core.Path.{refl}
 use Prim.Native.Nat.{_+_, _-_, _*_}
 use native.Mathlib.Omega.{arith}
-use Rattle.lookup.proofs.Words.{Listed, listed-all}
+use Rattle.tuple.proofs.Words.{Listed, listed-all}
 use Rattle.byte_tuples.specs.Lanes.{bytesLane}
 use Rattle.byte_tuples.proofs.Stored.{listed-start, listed-one}
 use Rattle.byte_tuples.proofs.words.put_bytes_lane.Statement.{statement}

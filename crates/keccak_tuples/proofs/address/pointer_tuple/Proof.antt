@@ -1,7 +1,7 @@
 -- `keccak_tuples::address::pointer_tuple` meets its contract: IS_WHH from the pointer's first column.
 use borrow.Author.Needs.{needs}
 use native.Mathlib.Omega.{arith}
-use Rattle.lookup.proofs.Call.{fits, as-tuple}
+use Rattle.tuple.proofs.Call.{fits, as-tuple}
 use Rattle.keccak.proofs.Tuples.{pointer-is}
 use Rattle.keccak_tuples.proofs.address.pointer_tuple.Statement.{statement}
 use Rattle.keccak_tuples.proofs.address.pointer_tuple.Tie as tie

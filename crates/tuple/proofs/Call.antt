@@ -10,11 +10,11 @@ use lib.Seq.{take-append-seam}
 use Rattle.answer.specs.Refusal.{overwrite, afterwards}
 use Rattle.answer.specs.declared.Refusal.{Refusal}
 use Rattle.answer.proofs.Laws.{passed-if, kept, written}
-use Rattle.lookup.specs.Tuple.{Tuple}
-use Rattle.lookup.specs.declared.BusInteraction.{BusInteraction}
-use Rattle.lookup.specs.declared.TupleAnswer.the-variants.{Is, Refused}
-use Rattle.lookup.proofs.Values.{passed}
-use Rattle.lookup.specs.Call.{Accepted, interactionOf, sizedRefusal, tupleAnswer}
+use Rattle.tuple.specs.Tuple.{Tuple}
+use Rattle.tuple.specs.declared.BusInteraction.{BusInteraction}
+use Rattle.tuple.specs.declared.TupleAnswer.the-variants.{Is, Refused}
+use Rattle.tuple.proofs.Values.{passed}
+use Rattle.tuple.specs.Call.{Accepted, interactionOf, sizedRefusal, tupleAnswer}
 
 pub accepted : (width count : ℕ) (row : List ℕ) (i size room : ℕ) → sizedRefusal width count row i size room ≡ none
     → Accepted width count row i size room

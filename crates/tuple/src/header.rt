@@ -6,8 +6,8 @@ ghost use mathlib.Core.Path.{_≡_};
 ghost use Prim.Native.Nat.{_+_, _≤_};
 ghost use lib.ListN.{length};
 ghost use lib.Seq.{sets};
-ghost use Rattle.lookup.specs.Tuple.{busNumber, sideNumber};
-ghost use Rattle.lookup.specs.Words.{headerWords};
+ghost use Rattle.tuple.specs.Tuple.{busNumber, sideNumber};
+ghost use Rattle.tuple.specs.Words.{headerWords};
 
 pub fn bus_number(bus: Bus) -> u64
     ensures { λ r. ⌜ r ≡ busNumber bus ⌝ }

@@ -1,12 +1,12 @@
--- `lookup::check::check_tuple` meets its contract: the index, then the row's checks.
+-- `tuple::check::check_tuple` meets its contract: the index, then the row's checks.
 use mathlib.Core.Path.{refl, sym, ap, _∙_}
 use borrow.Author.Needs.{needs}
 use borrow.Author.Tests.{le-leb, lt-leb}
 use Rattle.answer.specs.Refusal.{answerOf}
 use Rattle.answer.proofs.Laws.{refuse-yes, refuse-no, answers}
-use Rattle.lookup.specs.Call.{sizedRefusal}
-use Rattle.lookup.proofs.check.check_tuple.Statement.{statement}
-use Rattle.lookup.proofs.check.check_tuple.Tie as tie
+use Rattle.tuple.specs.Call.{sizedRefusal}
+use Rattle.tuple.proofs.check.check_tuple.Statement.{statement}
+use Rattle.tuple.proofs.check.check_tuple.Tie as tie
 
 returns : tie.Need-returns
 unfolding sizedRefusal

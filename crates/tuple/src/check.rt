@@ -5,8 +5,8 @@ use field::elements::first_not_element;
 use lists::Place;
 ghost use mathlib.Core.Path.{_≡_};
 ghost use Rattle.answer.specs.Refusal.{answerOf};
-ghost use Rattle.lookup.specs.Values.{valuesRefusal};
-ghost use Rattle.lookup.specs.Call.{sizedRefusal};
+ghost use Rattle.tuple.specs.Values.{valuesRefusal};
+ghost use Rattle.tuple.specs.Call.{sizedRefusal};
 
 // The `count` values of a row of `width` columns go into a slice of `room` words.
 pub fn check_values(width: usize, count: usize, row: &[u64], room: usize) -> Answer

@@ -1,7 +1,7 @@
--- `lookup::header::side_number` meets its contract: case by case.
+-- `tuple::header::side_number` meets its contract: case by case.
 use borrow.Author.Needs.{needs}
-use Rattle.lookup.proofs.header.side_number.Statement.{statement}
-use Rattle.lookup.proofs.header.side_number.Tie as tie
+use Rattle.tuple.proofs.header.side_number.Statement.{statement}
+use Rattle.tuple.proofs.header.side_number.Tie as tie
 
 enum-told : tie.Need-enum-told
 enum-told c = search needs

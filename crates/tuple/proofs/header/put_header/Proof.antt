@@ -1,11 +1,11 @@
--- `lookup::header::put_header` meets its contract: four stores in a row.
+-- `tuple::header::put_header` meets its contract: four stores in a row.
 use native.Mathlib.Omega.{arith}
 use lib.ListN.{length-set}
 use borrow.Author.Needs.{needs}
-use Rattle.lookup.specs.Tuple.{busNumber, sideNumber}
-use Rattle.lookup.proofs.Words.{stores-four}
-use Rattle.lookup.proofs.header.put_header.Statement.{statement}
-use Rattle.lookup.proofs.header.put_header.Tie as tie
+use Rattle.tuple.specs.Tuple.{busNumber, sideNumber}
+use Rattle.tuple.proofs.Words.{stores-four}
+use Rattle.tuple.proofs.header.put_header.Statement.{statement}
+use Rattle.tuple.proofs.header.put_header.Tie as tie
 
 bus-number-requires : tie.Need-bus-number-requires
 bus-number-requires c κs = search needs

@@ -13,10 +13,10 @@ use Rattle.answer.specs.Refusal.{accepted}
 use Rattle.answer.specs.declared.Refusal.{Refusal}
 use Rattle.answer.specs.declared.Refusal.the-variants.{PastEnd, TooShort, NotElement}
 use Rattle.answer.proofs.Laws.{refuse-yes, refuse-no}
-use Rattle.lookup.specs.Values.{valuesRefusal}
-use Rattle.lookup.specs.Call.{Accepted, sizedRefusal}
-use Rattle.lookup.proofs.Values as values
-use Rattle.lookup.proofs.Call as call
+use Rattle.tuple.specs.Values.{valuesRefusal}
+use Rattle.tuple.specs.Call.{Accepted, sizedRefusal}
+use Rattle.tuple.proofs.Values as values
+use Rattle.tuple.proofs.Call as call
 
 module _ (width count : ℕ) (row : List ℕ) (i size room : ℕ) where
   pub index-past : count ≤ i → sizedRefusal width count row i size room ≡ some (PastEnd count)

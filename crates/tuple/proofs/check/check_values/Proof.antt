@@ -1,12 +1,12 @@
--- `lookup::check::check_values` meets its contract: one check after the other.
+-- `tuple::check::check_values` meets its contract: one check after the other.
 use mathlib.Core.Path.{refl, sym, _∙_}
 use borrow.Author.Needs.{needs}
 use borrow.Author.Tests.{le-ltb, lt-ltb}
 use Rattle.lists.proofs.First.{place-at, place-nowhere}
 use Rattle.answer.proofs.Laws.{refuse-yes, refuse-no, at-yes, at-no, answers, accepts}
-use Rattle.lookup.specs.Values.{valuesRefusal}
-use Rattle.lookup.proofs.check.check_values.Statement.{statement}
-use Rattle.lookup.proofs.check.check_values.Tie as tie
+use Rattle.tuple.specs.Values.{valuesRefusal}
+use Rattle.tuple.proofs.check.check_values.Statement.{statement}
+use Rattle.tuple.proofs.check.check_values.Tie as tie
 
 returns : tie.Need-returns
 unfolding valuesRefusal

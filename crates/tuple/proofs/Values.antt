@@ -20,7 +20,7 @@ use Rattle.answer.specs.Refusal.{refuseIf, refuseAt, accepted, answerOf, overwr
 use Rattle.answer.specs.declared.Refusal.{Refusal}
 use Rattle.answer.specs.declared.Refusal.the-variants.{TooShort, NotElement}
 use Rattle.answer.proofs.Laws.{refuse-yes, refuse-no, at-yes, at-no, passed-if, passed-at, sets-overwrite}
-use Rattle.lookup.specs.Values.{Accepted, RestNotRead, valuesRefusal, valuesAnswer, valuesAfter}
+use Rattle.tuple.specs.Values.{Accepted, RestNotRead, valuesRefusal, valuesAnswer, valuesAfter}
 
 -- what a call knows once its checks have passed
 pub passed : (width count : ℕ) (row : List ℕ) (room : ℕ) → valuesRefusal width count row room ≡ none →

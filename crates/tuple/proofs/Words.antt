@@ -13,13 +13,12 @@ use Rattle.lists.specs.Tab.{followedBy}
 use Rattle.lists.specs.Sum.{sumBelow}
 use Rattle.lists.proofs.Sum.{sum-same, sum-const, sum-then}
 use Rattle.lists.proofs.Laws.{sets-append, sets-mid}
-use Rattle.lists.proofs.Then.{then-lt, then-ge}
 use Rattle.answer.specs.Refusal.{overwrite}
 use Rattle.answer.proofs.Laws.{sets-overwrite}
-use Rattle.lookup.specs.Tuple.{Tuple}
-use Rattle.lookup.specs.Call.{interactionOf}
-use Rattle.lookup.specs.declared.BusInteraction.{BusInteraction}
-use Rattle.lookup.specs.Words.{headerWords, tupleWords, tuplesWords}
+use Rattle.tuple.specs.Tuple.{Tuple}
+use Rattle.tuple.specs.Call.{interactionOf}
+use Rattle.tuple.specs.declared.BusInteraction.{BusInteraction}
+use Rattle.tuple.specs.Words.{headerWords, tupleWords, tuplesWords}
 
 -- ---- how many words
 pub tuple-length : (t : Tuple) → length (tupleWords t) ≡ 4 + length (t .values)
@@ -96,11 +95,6 @@ stores-four l at a b c d =
     ∙ ap (λ (k : ℕ). set (set (set (set l at a) (suc at) b) (suc (suc at)) c) k d) three
 
 -- ---- the words of tuples t 0 .. t (n - 1): those of the first n, then those of m more, which are g's
-words-eq : (n : ℕ) (f g : ℕ → Tuple) → ((k : ℕ) → k < n → f k ≡ g k) → tuplesWords f n ≡ tuplesWords g n
-unfolding tuplesWords
-words-eq zero f g h = refl
-words-eq (suc n) f g h = ap₂ (λ (a b : List ℕ). a ++ b) (words-eq n f g (λ k l. h k (omega arith))) (ap tupleWords (h n (omega arith)))
-
 pub words-add : (n m : ℕ) (t g : ℕ → Tuple) → ((k : ℕ) → k < m → t (n + k) ≡ g k) → tuplesWords t (n + m) ≡ tuplesWords t n ++ tuplesWords g m
 unfolding tuplesWords
 words-add n zero t g h = ap (tuplesWords t) (add-zero n) ∙ sym (append-nil (tuplesWords t n))
@@ -112,17 +106,6 @@ words-add n (suc m) t g h =
 -- n tuples of c values each
 pub words-count : (n c : ℕ) (t : ℕ → Tuple) → ((i : ℕ) → length (t i .values) ≡ c) → length (tuplesWords t n) ≡ n * (4 + c)
 words-count n c t e = tuples-length t n ∙ words-same n c t e
-
--- n tuples of f were stored from `at`, and then m of g behind them
-pub stored-then : {out out′ : List ℕ} {at′ : ℕ} (l : List ℕ) (at n m c : ℕ) (f g : ℕ → Tuple) → ((i : ℕ) → length (f i .values) ≡ c) → out ≡ sets l at (tuplesWords f n)
-    → out′ ≡ sets out at′ (tuplesWords g m) → at′ ≡ at + n * (4 + c) → out′ ≡ sets l at (tuplesWords (followedBy n f g) (n + m))
-stored-then l at n m c f g u e q h =
-    q
-    ∙ (λ i. sets (e i) ((h ∙ ap (λ (k : ℕ). at + k) (sym (words-count n c f u))) i) (tuplesWords g m))
-    ∙ sets-append l at (tuplesWords f n) (tuplesWords g m)
-    ∙ ap (sets l at)
-    (ap (λ (a : List ℕ). a ++ tuplesWords g m) (sym (words-eq n (followedBy n f g) f (λ k b. then-lt n k f g b)))
-    ∙ sym (words-add n m (followedBy n f g) g (λ k b. then-ge n k f g)))
 
 -- ---- the invariant of a loop that stores tuples t 0 .. t (n - 1) in l from `from`, one after the other: i of them are stored, and the next
 -- goes to `at`

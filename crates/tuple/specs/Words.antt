@@ -1,9 +1,9 @@
 -- The tuples of a row as words, one tuple after the other: what a call that gives all of them writes.
 use Prim.Native.Nat.{ℕ, zero, suc}
 use mathlib.Core.List.{List, [], _∷_, _++_}
-use Rattle.lookup.specs.Tuple.{Tuple, busNumber, sideNumber}
-use Rattle.lookup.specs.Call.{interactionOf}
-use Rattle.lookup.specs.declared.BusInteraction.{BusInteraction}
+use Rattle.tuple.specs.Tuple.{Tuple, busNumber, sideNumber}
+use Rattle.tuple.specs.Call.{interactionOf}
+use Rattle.tuple.specs.declared.BusInteraction.{BusInteraction}
 
 -- bus and side by number, how many values, the multiplicity
 abbrev pub headerWords : BusInteraction → List ℕ

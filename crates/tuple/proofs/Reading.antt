@@ -11,10 +11,10 @@ use Rattle.lists.proofs.Reading.{Alike, ReadsFirst, front-same}
 use Rattle.answer.specs.Refusal.{pastEnd, overwrite, afterwards}
 use Rattle.answer.specs.declared.Refusal.the-variants.{PastEnd}
 use Rattle.answer.proofs.Laws.{refuse-yes, kept}
-use Rattle.lookup.specs.Tuple.{Tuple}
-use Rattle.lookup.specs.Values.{valuesRefusal}
-use Rattle.lookup.proofs.Values.{checks-read}
-use Rattle.lookup.specs.Call.{RestNotRead, sizedRefusal, tupleRefusal, tupleAnswer, tupleAnswerOf, tupleAfter}
+use Rattle.tuple.specs.Tuple.{Tuple}
+use Rattle.tuple.specs.Values.{valuesRefusal}
+use Rattle.tuple.proofs.Values.{checks-read}
+use Rattle.tuple.specs.Call.{RestNotRead, sizedRefusal, tupleRefusal, tupleAnswer, tupleAnswerOf, tupleAfter}
 
 module _ (width count : ℕ) (tuple : List ℕ → ℕ → Tuple) (reads : ReadsFirst width count tuple) where
   module _ (row other : List ℕ) (h : width ≤ length row) (j : width ≤ length other) (same : Alike width row other) (i : ℕ) (out : List ℕ) where

@@ -9,11 +9,11 @@ use Rattle.lists.specs.Tab.{word}
 use Rattle.answer.specs.Refusal.{overwrite, afterwards, pastEnd}
 use Rattle.answer.specs.declared.Refusal.{Refusal}
 use Rattle.field.specs.Field.{p}
-use Rattle.lookup.specs.Values.{valuesRefusal}
-use Rattle.lookup.specs.Tuple.{Tuple}
-use Rattle.lookup.specs.declared.BusInteraction.{BusInteraction}
-use Rattle.lookup.specs.declared.TupleAnswer.{TupleAnswer}
-use Rattle.lookup.specs.declared.TupleAnswer.the-variants.{Is, Refused}
+use Rattle.tuple.specs.Values.{valuesRefusal}
+use Rattle.tuple.specs.Tuple.{Tuple}
+use Rattle.tuple.specs.declared.BusInteraction.{BusInteraction}
+use Rattle.tuple.specs.declared.TupleAnswer.{TupleAnswer}
+use Rattle.tuple.specs.declared.TupleAnswer.the-variants.{Is, Refused}
 
 -- a tuple but for its values
 abbrev pub interactionOf : Tuple → BusInteraction
