@@ -47,7 +47,7 @@ fn nothing_drawn_is_fine_and_nothing_timed_is_wrong_usage() {
         shell("exec \"$@\"", "differential", &["tally", "1", "0"]).status.code(),
         Some(0)
     );
-    for area in ["tally", "shuffled"] {
+    for area in ["tally", "shuffled", "descending"] {
         assert_eq!(shell("exec \"$@\"", "bench", &[area, "0"]).status.code(), Some(2));
     }
 }

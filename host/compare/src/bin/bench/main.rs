@@ -1,10 +1,12 @@
 //! Times the proved calls against the published Rust's on the same inputs: `bench rows`, `bench lookups`, `bench values`,
-//! `bench tuples`, `bench verdict`; and what has no counterpart there: `bench cores`, `bench tally`, `bench shuffled`.
+//! `bench tuples`, `bench verdict`; and what has no counterpart there: `bench cores`, `bench tally`, `bench shuffled`,
+//! `bench descending`.
 //! `bench all` runs each in turn and ends with a table of the ratios.
 //! It prints for each call the best of several runs, ours and theirs in turn, and lines `ratio NAME X.XX`: our time over
 //! theirs. The comment at the top of each area's file says what is timed.
 
 mod cores;
+mod descending;
 mod lookups;
 mod rows;
 mod shuffled;
@@ -20,6 +22,7 @@ const USAGE: &str = "\
 usage: bench all | bench rows | bench lookups | bench values | bench tuples | bench verdict | bench cores
        bench tally [BYTES]      (of the operation file; 1000000000 where none are given)
        bench shuffled [CALLS]   (100 where none are given)
+       bench descending [CALLS] (1000 where none are given)
 BYTES and CALLS are 1 or more.";
 
 fn main() -> ExitCode {
@@ -43,6 +46,7 @@ fn main() -> ExitCode {
         ("cores", None) => cores::run(),
         ("tally", bytes) => tally::run(bytes.unwrap_or(tally::BYTES)),
         ("shuffled", calls) => shuffled::run(calls.unwrap_or(shuffled::CALLS)),
+        ("descending", calls) => descending::run(calls.unwrap_or(descending::CALLS)),
         ("all", None) => {
             for run in [
                 rows::run,
