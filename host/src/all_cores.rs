@@ -6,8 +6,9 @@ use std::thread::{self, Builder};
 use crate::operation::OP_WORDS;
 use crate::refusal::Refusal;
 
-/// The fewest words that are worth a thread: a tenth of a millisecond, some times what it takes to begin one.
-const LEAST_WORDS: usize = 1 << 18;
+/// The fewest words that are worth a thread: eight megabytes. Of smaller parts a core writes so many a second from its caches that
+/// beginning a thread costs what it saves.
+const LEAST_WORDS: usize = 1 << 20;
 
 /// A call that writes the rows of a list.
 type WriteRows = fn(&[u64], &mut [u64]) -> Result<(), Refusal>;
