@@ -84,6 +84,12 @@ impl BitwiseOperationType {
 /// The counters, one for each row and kind, at row × 10 + kind.
 pub const NUM_COUNTERS: usize = NUM_ROWS * NUM_LOOKUP_TYPES;
 
+/// The words of the table.
+pub const TABLE_WORDS: usize = NUM_ROWS * NUM_COLUMNS;
+
+/// The words of a lookup in a flat list: kind, X, Y, Z.
+pub const LOOKUP_WORDS: usize = 4;
+
 /// Writes the eleven fixed columns of row `index` to the front of `row`.
 ///
 /// # Errors
@@ -121,6 +127,75 @@ pub fn bump(counters: &mut [u64], kind: BitwiseOperationType, x: u8, y: u8, z: u
 /// `counters` has fewer than 10,485,760 words; [`NotElement`](Refusal::NotElement): that counter is p or more.
 pub fn bump_numbered(counters: &mut [u64], kind: usize, x: u8, y: u8, z: u8) -> Result<(), Refusal> {
     ffi::bitwise_bump(counters, kind, x, y, z).into()
+}
+
+/// Adds `n`, mod p, to the counter of a kind of lookup in the row of X, Y and Z.
+///
+/// # Errors
+///
+/// Those of [`bump`].
+pub fn bump_n(counters: &mut [u64], kind: BitwiseOperationType, x: u8, y: u8, z: u8, n: u64) -> Result<(), Refusal> {
+    bump_n_numbered(counters, kind.number(), x, y, z, n)
+}
+
+/// The same of a kind by its number.
+///
+/// # Errors
+///
+/// Those of [`bump_numbered`].
+pub fn bump_n_numbered(counters: &mut [u64], kind: usize, x: u8, y: u8, z: u8, n: u64) -> Result<(), Refusal> {
+    ffi::bump_n(counters, kind, x, y, z, n).into()
+}
+
+/// Adds a list of lookups, [`LOOKUP_WORDS`] each ([`BitwiseOperation::list`]), to their counters, one each, mod p.
+///
+/// # Errors
+///
+/// [`PastEnd`](Refusal::PastEnd): the first lookup whose kind is 10 or more, or whose Z is 16 or more;
+/// [`NotWhole`](Refusal::NotWhole): `ops` is not whole lookups; [`TooShort`](Refusal::TooShort): `counters` has fewer than 10,485,760
+/// words; [`NotElement`](Refusal::NotElement): a counter, charged or not, is p or more, then X or Y of a lookup is 256 or more.
+pub fn add_ops(counters: &mut [u64], ops: &[u64]) -> Result<(), Refusal> {
+    ffi::add_ops(counters, ops).into()
+}
+
+/// Adds other counters to these, each to its own, mod p. The order in which several are added is of no account.
+///
+/// # Errors
+///
+/// [`TooShort`](Refusal::TooShort): `counters`, then `other`, has fewer than 10,485,760 words; [`NotElement`](Refusal::NotElement): a
+/// word of `counters`, then of `other`, is p or more.
+pub fn merge(counters: &mut [u64], other: &[u64]) -> Result<(), Refusal> {
+    ffi::merge(counters, other).into()
+}
+
+/// Writes the whole table, every multiplicity being 0.
+///
+/// # Errors
+///
+/// [`TooShort`](Refusal::TooShort): `table` has fewer than 22,020,096 words.
+pub fn generate_bitwise_trace(table: &mut [u64]) -> Result<(), Refusal> {
+    ffi::generate_bitwise_trace(table).into()
+}
+
+/// Sets the multiplicities of a table to the counters, those that are 0 too; the fixed columns are neither read nor written.
+///
+/// # Errors
+///
+/// [`TooShort`](Refusal::TooShort): `counters` has fewer than 10,485,760 words, then `table` fewer than 22,020,096;
+/// [`NotElement`](Refusal::NotElement): a counter is p or more.
+pub fn fill_multiplicities(counters: &[u64], table: &mut [u64]) -> Result<(), Refusal> {
+    ffi::fill_multiplicities(counters, table).into()
+}
+
+/// Adds a list of lookups, [`LOOKUP_WORDS`] each ([`BitwiseOperation::list`]), to the multiplicities of a table, one each, mod p.
+///
+/// # Errors
+///
+/// [`PastEnd`](Refusal::PastEnd): the first lookup whose kind is 10 or more, or whose Z is 16 or more;
+/// [`NotWhole`](Refusal::NotWhole): `ops` is not whole lookups; [`TooShort`](Refusal::TooShort): `table` has fewer than 22,020,096
+/// words; [`NotElement`](Refusal::NotElement): a multiplicity, charged or not, is p or more, then X or Y of a lookup is 256 or more.
+pub fn update_multiplicities(table: &mut [u64], ops: &[u64]) -> Result<(), Refusal> {
+    ffi::bitwise_update_multiplicities(table, ops).into()
 }
 
 /// Tuple `index` of a row of 21 columns; its values go to the front of `out`.
