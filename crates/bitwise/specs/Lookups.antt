@@ -1,6 +1,6 @@
 -- Lookups lent as a flat list, four words each: kind, X, Y and Z; `add_ops`, which counts them into the counters, and
 -- `update_multiplicities`, which counts them into the table.
-use Prim.Native.Nat.{ℕ, zero, suc, _+_, _*_, _/_, _%_}
+use Prim.Native.Nat.{ℕ, zero, suc, _+_, _*_, _/_, _%_, _<_}
 use mathlib.Core.Bool.{Bool, not}
 use mathlib.Core.List.{List}
 use mathlib.Core.Option.{Option, orElse}
@@ -36,6 +36,13 @@ yOf ops i = word ops (LOOKUP-WORDS * i + 2)
 
 abbrev pub zOf : List ℕ → ℕ → ℕ
 zOf ops i = word ops (LOOKUP-WORDS * i + 3)
+
+-- What a lookup is: a kind, two bytes and a Z.
+pub record Lookup (ops : List ℕ) (i : ℕ) : Type 0 where
+  pub kind-below : kindOf ops i < NUM-LOOKUP-TYPES
+  pub x-below : xOf ops i < 256
+  pub y-below : yOf ops i < 256
+  pub z-below : zOf ops i < Z-END
 
 -- The least number refused where the kind of lookup i, or else its Z, is past its end.
 unfoldable pub pastAt : List ℕ → ℕ → Option ℕ
