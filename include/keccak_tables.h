@@ -363,7 +363,7 @@ keccak_tables_number keccak_tables_dedup_is_wh_rows(const uint64_t *keys, size_t
 
 /* The height of the table of n such rows: the next power of two, at least 4. 1 n > 2,236,962,125. */
 KECCAK_TABLES_MUST_USE
-keccak_tables_number keccak_tables_is_wh_height(uint64_t n);
+keccak_tables_number keccak_tables_is_wh_height(size_t n);
 
 /*
  * Writes the table of a list of rows: a key's half, the low and the high half of its word, how often; padding rows are 0.

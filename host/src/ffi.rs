@@ -153,7 +153,7 @@ bind! {
     is_wh_key = keccak_tables_is_wh_key(value: u64) -> FlatKey;
     dedup_is_wh_rows = keccak_tables_dedup_is_wh_rows(
         keys: &[u64], codes: &mut [u64], spare: &mut [u64], rows: &mut [u64]) -> FlatNumber;
-    is_wh_height = keccak_tables_is_wh_height(n: u64) -> FlatNumber;
+    is_wh_height = keccak_tables_is_wh_height(n: usize) -> FlatNumber;
     generate_is_wh_trace = keccak_tables_generate_is_wh_trace(rows: &[u64], table: &mut [u64]) -> FlatAnswer;
     collect_bitwise_from_is_wh =
         keccak_tables_collect_bitwise_from_is_wh(rows: &[u64], counters: &mut [u64]) -> FlatAnswer;

@@ -83,7 +83,7 @@ pub fn dedup_is_wh_rows(
 /// # Errors
 ///
 /// [`PastEnd`](Refusal::PastEnd): `n` is more than [`MAX_KEYS`].
-pub fn is_wh_height(n: u64) -> Result<usize, Refusal> {
+pub fn is_wh_height(n: usize) -> Result<usize, Refusal> {
     Result::from(ffi::is_wh_height(n)).map(|rows| rows as usize)
 }
 
@@ -158,7 +158,7 @@ impl IsWhRows {
     /// None: every list of rows that this type holds is accepted.
     pub fn table(&self) -> Result<Vec<u64>, Refusal> {
         let rows = self.0.len() / ROW_WORDS;
-        let mut table = vec![0; is_wh_height(rows as u64)? * NUM_COLUMNS];
+        let mut table = vec![0; is_wh_height(rows)? * NUM_COLUMNS];
         generate_is_wh_trace(&self.0, &mut table)?;
         Ok(table)
     }

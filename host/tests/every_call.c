@@ -232,7 +232,7 @@ static void key_rows(void) {
     number = CALL(keccak_tables_is_wh_height)(5);
     DONE(number);
     CHECK(number.value == 8);
-    number = keccak_tables_is_wh_height((uint64_t)KECCAK_TABLES_MAX_KEYS + 1);
+    number = keccak_tables_is_wh_height((size_t)KECCAK_TABLES_MAX_KEYS + 1);
     REFUSED(number, 1, 2236962126);
 
     keccak_tables_answer answer = CALL(keccak_tables_generate_is_wh_trace)(rows, 9, table, 16);

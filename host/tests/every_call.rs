@@ -183,7 +183,7 @@ fn key_row_calls() {
     assert_eq!(refused, Err(Refusal::TooShort { needed: 12 }));
 
     assert_eq!(is_wh::is_wh_height(5), Ok(8));
-    let refused = is_wh::is_wh_height(is_wh::MAX_KEYS as u64 + 1);
+    let refused = is_wh::is_wh_height(is_wh::MAX_KEYS + 1);
     assert_eq!(refused, Err(Refusal::PastEnd { limit: 2_236_962_126 }));
 
     let mut table = [GUARD; 17];

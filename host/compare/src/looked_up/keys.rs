@@ -204,17 +204,17 @@ fn drawn_rows(words: &mut Words, length: usize) -> Vec<u64> {
 
 /// Heights: of small tables the Rust's, beyond them its expression.
 fn heights(comparison: &mut Comparison) {
-    let mut numbers: Vec<u64> = (0..=70).collect();
+    let mut numbers: Vec<usize> = (0..=70).collect();
     for power in 2..=31 {
-        numbers.extend((1u64 << power) - 2..=(1 << power) + 2);
+        numbers.extend((1usize << power) - 2..=(1 << power) + 2);
     }
-    numbers.extend(MAX_KEYS as u64 - 2..=MAX_KEYS as u64);
-    numbers.retain(|&n| n <= MAX_KEYS as u64);
+    numbers.extend(MAX_KEYS - 2..=MAX_KEYS);
+    numbers.retain(|&n| n <= MAX_KEYS);
     for n in numbers {
         let expected = if n <= 70 {
-            oracle::is_wh_table(&vec![0; n as usize * ROW_WORDS]).len() / NUM_COLUMNS
+            oracle::is_wh_table(&vec![0; n * ROW_WORDS]).len() / NUM_COLUMNS
         } else {
-            n.next_power_of_two().max(4) as usize
+            n.next_power_of_two().max(4)
         };
         let input = || format!("the height of the table of {n} rows");
         if let Some(height) = comparison.done(input, is_wh::is_wh_height(n)) {

@@ -462,8 +462,8 @@ fn own_memory(comparison: &mut Comparison, words: &mut Words) {
 
 /// As many keys or rows as a list may have, one more and two more: none of them is read, because a check of the lengths refuses each.
 fn too_many(comparison: &mut Comparison, words: &mut Words) {
-    for n in [MAX_KEYS as u64, TOO_MANY_KEYS, TOO_MANY_KEYS + 1, u64::MAX] {
-        let expected = (n > MAX_KEYS as u64).then_some((1, TOO_MANY_KEYS));
+    for n in [MAX_KEYS, MAX_KEYS + 1, MAX_KEYS + 2, usize::MAX] {
+        let expected = (n > MAX_KEYS).then_some((1, TOO_MANY_KEYS));
         let input = || format!("the height of the table of {n} rows");
         comparison.answered("is_wh_height", input, is_wh::is_wh_height(n), expected);
     }
