@@ -81,8 +81,7 @@ module _ (counters ops : List ℕ) where
         let b = passed-if _ _ _ (a .1) in
         let c = passed-if _ _ _ (b .1) in
         let d = passed-at _ _ _ (c .1) in
-        let f = passed-at _ _ _ (d .1) in
-        (
+        let f = passed-at _ _ _ (d .1) in (
           record { long = ltb-false (length counters) 10485760 (c .0); below = all-elements counters 10485760 (d .0) },
           record { whole = eqb-true _ _ (not-false _ (b .0)); each = lookups-are ops (lookupCount ops) (a .0) (f .0) },
         )),
@@ -137,8 +136,7 @@ module _ (table ops : List ℕ) where
         let b = passed-if _ _ _ (a .1) in
         let c = passed-if _ _ _ (b .1) in
         let d = passed-at _ _ _ (c .1) in
-        let f = passed-at _ _ _ (d .1) in
-        (
+        let f = passed-at _ _ _ (d .1) in (
           record { long = ltb-false (length table) 22020096 (c .0); below = mus-clear table 10485760 (d .0) },
           record { whole = eqb-true _ _ (not-false _ (b .0)); each = lookups-are ops (lookupCount ops) (a .0) (f .0) },
         )),

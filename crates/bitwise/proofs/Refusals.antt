@@ -125,8 +125,7 @@ module _ (counters other : List ℕ) where
         let a = passed-if _ _ _ e in
         let b = passed-if _ _ _ (a .1) in
         let c = passed-at _ _ _ (b .1) in
-        let d = passed-at _ _ _ (c .1) in
-        (
+        let d = passed-at _ _ _ (c .1) in (
           record { long = ltb-false (length counters) 10485760 (a .0); below = all-elements counters 10485760 (c .0) },
           record { long = ltb-false (length other) 10485760 (b .0); below = all-elements other 10485760 (d .0) },
         )),
@@ -172,8 +171,7 @@ module _ (counters table : List ℕ) where
     (λ e.
         let a = passed-if _ _ _ e in
         let b = passed-if _ _ _ (a .1) in
-        let c = passed-at _ _ _ (b .1) in
-        (
+        let c = passed-at _ _ _ (b .1) in (
           record { long = ltb-false (length counters) 10485760 (a .0); below = all-elements counters 10485760 (c .0) },
           ltb-false (length table) 22020096 (b .0),
         )),

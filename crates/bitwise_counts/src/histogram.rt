@@ -13,12 +13,22 @@ use lists::Place;
 use lists::put_part;
 ghost use mathlib.Core.Path.{_≡_};
 ghost use mathlib.Core.Option.{none};
-ghost use Prim.Native.Nat.{_≤_};
+ghost use Prim.Native.Nat.{_≤_, _<_};
 ghost use lib.ListN.{length};
+ghost use Rattle.field.specs.Field.{p, fadd};
 ghost use Rattle.field.specs.Elements.{firstNotElement};
 ghost use Rattle.answer.specs.Refusal.{answerOf};
 ghost use Rattle.bitwise.specs.Counters.{merged, mergeRefusal, mergeAfter};
 ghost use Rattle.bitwise.specs.Table.{filled, fillRefusal, fillAfter};
+
+// The sum mod P.
+fn sum(a: u64, b: u64) -> u64
+    requires { ⌜ (a < p) × (b < p) ⌝ }
+    ensures { λ r. ⌜ r ≡ fadd a b ⌝ }
+{
+    let s = Fe { value: a }.add(Fe { value: b });
+    s.value
+}
 
 // Each counter with the other's added, mod P.
 fn add_counters(counters: &mut [u64], other: &[u64])
@@ -27,8 +37,7 @@ fn add_counters(counters: &mut [u64], other: &[u64])
 {
     let mut k: usize = 0;
     while k < NUM_COUNTERS {
-        let sum = Fe { value: counters[k] }.add(Fe { value: other[k] });
-        counters[k] = sum.value;
+        counters[k] = sum(counters[k], other[k]);
         k += 1;
     }
 }
@@ -83,8 +92,8 @@ pub fn fill_multiplicities(counters: &[u64], table: &mut [u64]) -> Answer
     if table.len() < TABLE_WORDS {
         return Answer::Refused(Refusal::TooShort(TABLE_WORDS as u64));
     }
-    if let Place::At(k) = first_not_element(counters, NUM_COUNTERS) {
-        return Answer::Refused(Refusal::NotElement(k as u64));
+    if let Place::At(place) = first_not_element(counters, NUM_COUNTERS) {
+        return Answer::Refused(Refusal::NotElement(place as u64));
     }
     put_counters(counters, table);
     Answer::Done

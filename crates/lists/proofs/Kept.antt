@@ -2,13 +2,15 @@
 use mathlib.Core.Path.{_≡_, refl, sym, ap, _∙_}
 use mathlib.Core.List.{List, _++_}
 use Prim.Native.Nat.{ℕ, zero, suc, _+_, _-_, _≤_, _<_}
+use native.Mathlib.Nat.{add-zero}
 use native.Mathlib.Numerals.{add-one}
 use native.Mathlib.Omega.{arith}
+use borrow.Rule.Slice.PartMut.{midOf, putMid, mid-len}
 use lib.ListN.{length, drop, set}
 use lib.Seq.{sets, set-getD, getD-append-add, getD-drop}
 use Rattle.lists.specs.Tab.{tab, word}
 use Rattle.lists.proofs.Then.{by-le}
-use Rattle.lists.proofs.Laws.{length-tab, sets-none, sets-more, sets-append, sets-front, Filled}
+use Rattle.lists.proofs.Laws.{length-tab, sets-none, sets-more, sets-append, sets-front, sets-mid, Filled}
 
 -- two numbers are equal or not
 pub by-eq : {P : Type 0} (a b : ℕ) → (a ≡ b → P) → ((a ≡ b → ⊥) → P) → P
@@ -42,3 +44,14 @@ front-past l vs n k e h =
 pub filled-past : {l : List ℕ} {n : ℕ} {f : ℕ → ℕ} {row : List ℕ} {k : ℕ} → Filled l 0 n f row k → k ≤ length l → (j : ℕ) → k ≤ j → word row j ≡ word l j
 filled-past {l} {f = f} {k = k} h b j c =
     ap (λ (r : List ℕ). word r j) (h .is ∙ sets-front l (tab k f) k (length-tab k f) b) ∙ front-past l (tab k f) k j (length-tab k f) c
+
+-- the part of w words from `at`, lent to a call that stores vs at its front, and then given back
+module _ (l : List ℕ) (at w : ℕ) (h : at + w ≤ length l) where
+  pub part-length : length (midOf at (at + w - at) l) ≡ w
+  part-length = mid-len at (at + w) l h ∙ omega arith
+
+  pub part-stored : (vs part : List ℕ) → length vs ≤ w → part ≡ sets (midOf at (at + w - at) l) 0 vs → putMid at (at + w - at) l part ≡ sets l at vs
+  part-stored vs part b e =
+      ap (putMid at (at + w - at) l) e
+      ∙ sets-mid at (at + w - at) 0 l vs (omega arith) (omega (arith, part-length))
+      ∙ ap (λ (k : ℕ). sets l k vs) (add-zero at)
