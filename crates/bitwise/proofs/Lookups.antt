@@ -5,15 +5,15 @@ use mathlib.Core.Bool.{Bool, true, false}
 use mathlib.Core.List.{List, _++_}
 use mathlib.Core.Option.{Option, none, some, orElse}
 use Prim.Native.Nat.{ℕ, zero, suc, _+_, _-_, _*_, _/_, _%_, _≤_, _<_}
-use native.Mathlib.Nat.{div-add-mod'}
+use native.Mathlib.Nat.{add-zero, add-assoc, mod-add-mod, mod-eq-of-lt}
 use native.Mathlib.Numerals.{add-one}
 use native.Mathlib.Omega.{arith}
-use borrow.Author.Tests.{leb-true, leb-false, le-leb, lt-leb}
-use lib.Dec.{leb}
+use borrow.Author.Tests.{leb-false, le-leb, lt-leb, eq-eqb, ne-eqb}
+use lib.Dec.{leb, eqb}
 use lib.ListN.{length, getD}
 use lib.Seq.{ext-getD}
-use Rattle.lists.specs.Tab.{tab, word}
-use Rattle.lists.specs.First.{when, first}
+use Rattle.lists.specs.Tab.{pick, word}
+use Rattle.lists.specs.First.{when, first, countBelow}
 use Rattle.lists.proofs.Then.{by-le}
 use Rattle.lists.proofs.Kept.{by-eq}
 use Rattle.lists.proofs.First.{first-clear, first-none}
@@ -114,6 +114,24 @@ module _ (at : ℕ → ℕ) where
   each-length zero words = refl
   each-length (suc i) words = charge-length (chargeEach at i words) (at i) 1 ∙ each-length i words
 
+  -- a word below p is afterwards what it was and as often one more as it was named, mod p
+  pub each-counts : (n : ℕ) (words : List ℕ) (k : ℕ) → k < length words → word words k < p
+      → word (chargeEach at n words) k ≡ (word words k + countBelow (λ i. eqb k (at i)) n) % p
+  unfolding chargeEach countBelow
+  each-counts zero words k b h = sym (mod-eq-of-lt h) ∙ ap (λ (m : ℕ). m % p) (sym (add-zero (word words k)))
+  each-counts (suc i) words k b h =
+      let before = each-counts i words k b h in
+      let c = countBelow (λ j. eqb k (at j)) i in
+      by-eq k (at i)
+      (λ e. let room : at i < length (chargeEach at i words) = omega (arith, e, b, each-length i words) in
+      ap (word (charge (chargeEach at i words) (at i) 1)) e ∙ charge-same (chargeEach at i words) (at i) 1 room
+      ∙ ap (λ (m : ℕ). (m + 1) % p) (ap (word (chargeEach at i words)) (sym e) ∙ before)
+      ∙ mod-add-mod (word words k + c) p 1
+      ∙ ap (λ (m : ℕ). m % p) (add-assoc (word words k) c 1)
+      ∙ ap (λ (t : Bool). (word words k + pick t (c + 1) c) % p) (sym (eq-eqb k (at i) e)))
+      (λ e. charge-other (chargeEach at i words) (at i) 1 k e ∙ before
+      ∙ ap (λ (t : Bool). (word words k + pick t (c + 1) c) % p) (sym (ne-eqb k (at i) e)))
+
 -- ---- where the counters stand in the table
 pub mu-is : (i : ℕ) → muAt i ≡ i / 10 * 21 + (11 + i % 10)
 unfolding muAt
@@ -128,7 +146,7 @@ mu-apart i j e = let a = mu-is i in let b = mu-is j in let q : i / 10 * 21 + (11
     omega (arith, q, d)
 
 -- a word of the table is a fixed one, or stands for a counter
-by-column : {P : Type 0} (k : ℕ) → k < TABLE-WORDS → ((r c : ℕ) → r < NUM-ROWS → c < 11 → k ≡ r * 21 + c → P) → ((j : ℕ) → j < NUM-COUNTERS → k ≡ muAt j → P) → P
+pub by-column : {P : Type 0} (k : ℕ) → k < TABLE-WORDS → ((r c : ℕ) → r < NUM-ROWS → c < 11 → k ≡ r * 21 + c → P) → ((j : ℕ) → j < NUM-COUNTERS → k ≡ muAt j → P) → P
 by-column k h f g =
     by-le 11 (k % 21)
     (λ l. let j : ℕ = k / 21 * 10 + (k % 21 - 11) in

@@ -35,6 +35,18 @@ pub bitwiseTable-row : (i : ℕ) → i < NUM-ROWS → rowAt NUM-COLUMNS bitwiseT
 unfolding bitwiseTable traceRow
 bitwiseTable-row i h = rowAt-table NUM-ROWS NUM-COLUMNS traceRow i h (length-traceRow i)
 
+-- every multiplicity is 0, in what the call leaves of a table that is long enough
+pub trace-mu : (table : List ℕ) (r k : ℕ) → r < NUM-ROWS → k < 10 → word (overwrite bitwiseTable table) (r * 21 + (11 + k)) ≡ 0
+unfolding bitwiseTable tableOf traceRow
+trace-mu table r k hr hk =
+    let b : 11 + k < 21 = omega arith in
+    over-new TABLE-WORDS (cellsOf NUM-COLUMNS traceRow) table (r * 21 + (11 + k)) (omega arith)
+    ∙ ap (λ (q : ℕ). word (traceRow q) ((r * 21 + (11 + k)) % 21)) (digits-div r b)
+    ∙ ap (word (traceRow r)) (digits-mod r b)
+    ∙ ap (λ (n : ℕ). word (bitwiseRow r ++ tab 10 (λ j. 0)) (n + k)) (sym (length-bitwiseRow r))
+    ∙ getD-append-add (bitwiseRow r) (tab 10 (λ j. 0)) k 0
+    ∙ getD-tab 10 (λ j. 0) k 0 hk
+
 -- ---- with its multiplicities
 
 module _ (counters table : List ℕ) where
