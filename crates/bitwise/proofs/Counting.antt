@@ -2,27 +2,24 @@
 -- histograms that are then merged, they are counted into one.
 use mathlib.Core.Path.{_≡_, refl, sym, ap, ap₂, _∙_}
 use mathlib.Core.List.{List}
-use mathlib.Core.Option.{none}
-use Prim.Native.Nat.{ℕ, zero, suc, _+_, _*_, _/_, _%_, _≤_, _<_}
+use Prim.Native.Nat.{ℕ, zero, suc, _/_, _%_, _≤_, _<_}
 use native.Mathlib.Omega.{arith}
 use lib.ListN.{length}
 use lib.Seq.{ext-getD}
-use Rattle.lists.specs.Tab.{tab, word, cellsOf, tableOf}
+use Rattle.lists.specs.Tab.{word, cellsOf, tableOf}
 use Rattle.lists.proofs.Then.{by-le}
-use Rattle.lists.proofs.Laws.{length-tab, getD-tab}
-use Rattle.field.specs.Field.{p}
 use Rattle.field.specs.Elements.{ElementRow}
-use Rattle.answer.specs.Refusal.{accepted, overwrite, afterwards}
-use Rattle.answer.proofs.Overwrite.{over-new, over-past, over-length, left}
+use Rattle.answer.specs.Refusal.{accepted, overwrite}
+use Rattle.answer.proofs.Overwrite.{over-length, left}
 use Rattle.bitwise.specs.Columns.{NUM-COUNTERS, NUM-COLUMNS, TABLE-WORDS}
 use Rattle.bitwise.specs.Counters.{charge, merged, mergeRefusal, mergeAfter}
-use Rattle.bitwise.specs.Table.{traceRow, bitwiseTable, traceRefusal, traceAfter, filled, fillRefusal, fillAfter}
+use Rattle.bitwise.specs.Table.{traceRow, bitwiseTable, traceAfter, filled, fillRefusal, fillAfter}
 use Rattle.bitwise.specs.Lookups.{lookupCount, chargeEach, lookupCounter, addedOps, addOpsRefusal, addOpsAfter, muAt, updatedMus, updateRefusal, updateAfter}
 use Rattle.bitwise.proofs.Counters.{charge-row}
 use Rattle.bitwise.proofs.Refusals.{trace-accepted, merge-accepted, fill-accepted}
-use Rattle.bitwise.proofs.Histogram.{charge-first, charge-last, merged-length, merged-elements}
+use Rattle.bitwise.proofs.Histogram.{charge-first, charge-last, merged-elements}
 use Rattle.bitwise.proofs.Table.{filled-fixed, filled-past, filled-length, trace-mu}
-use Rattle.bitwise.proofs.Lookups.{lookup-lt, each-length, by-column, filled-at, filled-each, mu-is, mu-lt}
+use Rattle.bitwise.proofs.Lookups.{lookup-lt, each-length, by-column, filled-at, filled-each, mu-is}
 use Rattle.bitwise.proofs.LookupRefusals.{Lookups, MuTable, add-accepted, update-accepted}
 
 -- every lookup of a list that is accepted has a counter

@@ -1,10 +1,10 @@
 -- "The histogram is a commutative monoid: increments and merge are order-independent": merging, and what is charged before
 -- it and after it.
-use mathlib.Core.Path.{_≡_, refl, sym, ap, ap₂, _∙_}
+use mathlib.Core.Path.{_≡_, sym, ap, _∙_}
 use mathlib.Core.List.{List}
-use Prim.Native.Nat.{ℕ, _+_, _*_, _%_, _≤_, _<_}
+use Prim.Native.Nat.{ℕ, _+_, _%_, _≤_, _<_}
 use native.Mathlib.Omega.{arith}
-use lib.ListN.{length, getD}
+use lib.ListN.{length}
 use lib.Seq.{ext-getD}
 use Rattle.lists.specs.Tab.{word}
 use Rattle.lists.proofs.Then.{by-le}
@@ -14,7 +14,7 @@ use Rattle.field.specs.Field.{p, fadd}
 use Rattle.field.specs.Elements.{ElementRow}
 use Rattle.field.proofs.Field.{mod-p}
 use Rattle.field.proofs.Sums.{fadd-comm, fadd-assoc, fadd-swap}
-use Rattle.answer.specs.Refusal.{accepted, overwrite}
+use Rattle.answer.specs.Refusal.{accepted}
 use Rattle.answer.proofs.Overwrite.{over-new, over-past, over-length, left}
 use Rattle.bitwise.specs.Columns.{NUM-COUNTERS}
 use Rattle.bitwise.specs.Counters.{counterAt, charge, bumpRefusal, bumpNAfter, merged, mergeRefusal, mergeAfter}

@@ -1,6 +1,6 @@
 -- `add_ops` and `update_multiplicities` are accepted exactly where none of their conditions holds; and the refusals with
 -- their details, in their order.
-use mathlib.Core.Path.{_≡_, refl, sym, ap, _∙_}
+use mathlib.Core.Path.{_≡_, refl, ap}
 use mathlib.Core.Logic.{_↔_}
 use mathlib.Core.Bool.{Bool, true, false, not}
 use mathlib.Core.List.{List}
@@ -8,16 +8,15 @@ use mathlib.Core.Option.{Option, none, some}
 use Prim.Native.Nat.{ℕ, _+_, _*_, _%_, _≤_, _<_}
 use native.Mathlib.Omega.{arith}
 use borrow.Author.Tests.{leb-false, ltb-false, le-leb, lt-leb, lt-ltb, le-ltb, eq-eqb, ne-eqb, eqb-true, not-false}
-use lib.Dec.{eqb, ltb}
+use lib.Dec.{eqb}
 use lib.ListN.{length}
 use Rattle.lists.specs.Tab.{word}
 use Rattle.lists.specs.First.{first, firstAt}
-use Rattle.lists.specs.Failure.{FirstAt}
 use Rattle.lists.proofs.First.{first-hit, first-none, at-clear, at-nothing, at-hit}
 use Rattle.field.specs.Field.{p}
 use Rattle.field.specs.Elements.{ElementRow}
 use Rattle.field.proofs.NotElement.{all-elements, none-found, first-found}
-use Rattle.answer.specs.Refusal.{refuseIf, refuseAt, accepted, answerOf, tooShort}
+use Rattle.answer.specs.Refusal.{refuseIf, refuseAt, accepted, tooShort}
 use Rattle.answer.specs.declared.Refusal.{Refusal}
 use Rattle.answer.specs.declared.Refusal.the-variants.{PastEnd, NotWhole, TooShort, NotElement}
 use Rattle.answer.proofs.Laws.{refuse-yes, refuse-no, at-yes, at-no, passed-if, passed-at}
@@ -25,7 +24,7 @@ use Rattle.bitwise.specs.Lookups.{Lookup, lookupCount, kindOf, xOf, yOf,
 use Rattle.bitwise.specs.Counters.{charge}
 use Rattle.bitwise.proofs.Counters.{charge-length, charge-below}
 use Rattle.bitwise.proofs.Refusals.{FirstLarge}
-use Rattle.bitwise.proofs.Lookups.{lookups-are, none-past, none-not-byte, past-kind, past-z, past-none, byte-x, byte-y, byte-none, mu-lt}
+use Rattle.bitwise.proofs.Lookups.{lookups-are, none-not-byte, past-kind, past-z, past-none, byte-x, byte-y, byte-none, mu-lt}
 
 -- ---- the checks of a list, whatever the later ones say
 

@@ -1,16 +1,16 @@
 -- Lookups that are counted: what the checks of a list say, and that counting into the counters and filling the table after it
 -- is counting into the table.
-use mathlib.Core.Path.{_≡_, refl, sym, ap, subst, _∙_}
+use mathlib.Core.Path.{_≡_, refl, sym, ap, _∙_}
 use mathlib.Core.Bool.{Bool, true, false}
-use mathlib.Core.List.{List, _++_}
-use mathlib.Core.Option.{Option, none, some, orElse}
+use mathlib.Core.List.{List}
+use mathlib.Core.Option.{none, some, orElse}
 use Prim.Native.Nat.{ℕ, zero, suc, _+_, _-_, _*_, _/_, _%_, _≤_, _<_}
 use native.Mathlib.Nat.{add-zero, add-assoc, mod-add-mod, mod-eq-of-lt}
 use native.Mathlib.Numerals.{add-one}
 use native.Mathlib.Omega.{arith}
 use borrow.Author.Tests.{leb-false, le-leb, lt-leb, eq-eqb, ne-eqb}
 use lib.Dec.{leb, eqb}
-use lib.ListN.{length, getD}
+use lib.ListN.{length}
 use lib.Seq.{ext-getD}
 use Rattle.lists.specs.Tab.{pick, word}
 use Rattle.lists.specs.First.{when, first, countBelow}
@@ -18,13 +18,12 @@ use Rattle.lists.proofs.Then.{by-le}
 use Rattle.lists.proofs.Kept.{by-eq}
 use Rattle.lists.proofs.First.{first-clear, first-none}
 use Rattle.field.specs.Field.{p}
-use Rattle.bitwise.specs.Columns.{NUM-ROWS, NUM-COLUMNS, NUM-COUNTERS, TABLE-WORDS}
-use Rattle.bitwise.specs.Counters.{counterAt, charge}
+use Rattle.bitwise.specs.Columns.{NUM-ROWS, NUM-COUNTERS, TABLE-WORDS}
+use Rattle.bitwise.specs.Counters.{charge}
 use Rattle.bitwise.specs.Table.{filled}
-use Rattle.bitwise.specs.Tuples.{kindAt, mu-column}
-use Rattle.bitwise.specs.Lookups.{Lookup, lookupCount, kindOf, xOf, yOf, zOf, pastAt, notByteAt, chargeEach, lookupCounter, addedOps, muAt, updatedMus}
+use Rattle.bitwise.specs.Lookups.{Lookup, kindOf, xOf, yOf, zOf, pastAt, notByteAt, chargeEach, lookupCounter, muAt}
 use Rattle.bitwise.proofs.Numbers.{mu-column-at}
-use Rattle.bitwise.proofs.Counters.{counter-lt, charge-length, charge-same, charge-other, charge-below}
+use Rattle.bitwise.proofs.Counters.{counter-lt, charge-length, charge-same, charge-other}
 use Rattle.bitwise.proofs.Table.{filled-count, filled-fixed, filled-past, filled-length}
 
 -- ---- one of two tests, the first before the second
@@ -93,9 +92,6 @@ lookups-are ops n e f i l =
     let a = past-clear ops i (first-clear (pastAt ops) n i e l) in
     let b = byte-clear ops i (first-clear (notByteAt ops) n i f l) in
     record { kind-below = a .0; x-below = b .0; y-below = b .1; z-below = a .1 }
-
-pub none-past : (ops : List ℕ) (n : ℕ) → ((i : ℕ) → i < n → Lookup ops i) → first (pastAt ops) n ≡ none
-none-past ops n h = first-none (pastAt ops) n (λ i l. past-none ops i (h i l .kind-below) (h i l .z-below))
 
 pub none-not-byte : (ops : List ℕ) (n : ℕ) → ((i : ℕ) → i < n → Lookup ops i) → first (notByteAt ops) n ≡ none
 none-not-byte ops n h = first-none (notByteAt ops) n (λ i l. byte-none ops i (h i l .x-below) (h i l .y-below))

@@ -1,10 +1,10 @@
 -- The whole table: its rows as they are generated, and with their multiplicities.
 use mathlib.Core.Path.{_≡_, refl, sym, ap, _∙_}
 use mathlib.Core.List.{List, _++_}
-use Prim.Native.Nat.{ℕ, _+_, _-_, _*_, _/_, _%_, _≤_, _<_}
+use Prim.Native.Nat.{ℕ, _+_, _*_, _%_, _≤_, _<_}
 use native.Mathlib.Omega.{arith}
-use lib.Arith.{digits-lt, digits-div, digits-mod}
-use lib.ListN.{length, getD, length-append, List·getD-append}
+use lib.Arith.{digits-div, digits-mod}
+use lib.ListN.{length, length-append, List·getD-append}
 use lib.Seq.{getD-append-add}
 use Rattle.lists.specs.Tab.{tab, word, rowAt, cellsOf, tableOf}
 use Rattle.lists.proofs.Laws.{length-tab, getD-tab, length-table, rowAt-table}

@@ -1,7 +1,6 @@
 -- `bitwise_lookups::counted::counter_of` meets its contract: the words of a lookup are small.
 use mathlib.Core.Path.{refl}
 use native.Mathlib.Omega.{arith}
-use Rattle.bitwise.specs.Lookups.{Lookup}
 use Rattle.bitwise_lookups.proofs.counted.counter_of.Statement.{statement}
 use Rattle.bitwise_lookups.proofs.counted.counter_of.Tie as tie
 
