@@ -12,14 +12,18 @@
  *               numbers, those of one number in the order of the arguments, and the first that refuses is told:
  *
  *   N  what is wrong                                                            detail
- *   1  an index, kind, Z, round or number of operations past its end            the least number refused
- *   2  a table or a list that is not whole rows or operations                   0 core, 1 round, 2 list
+ *   1  an index, kind, Z, round or number of operations, keys or rows past its  the least number refused
+ *      end
+ *   2  a table or a list that is not whole rows, operations, lookups or keys    0 core, 1 round, 2 list
  *   3  a slice too short                                                        the length needed
  *   4  an address above 2^64 - 193: a lane would start past 2^64 - 1            the first such address
- *   5  a column, a word of a judged table or a counter that is not below p      its place in the slice, from 0
+ *   5  a column, a word of a judged table or a counter that is not below p; a   its place in the slice, from 0
+ *      word of a list of lookups, keys or rows that is more than it can be
  *   6  a wrong mark or a cut record in an operation file                        the byte where the record starts
  *
  * A list of operations is flat, 52 words each: timestamp, address, 25 input lanes, 25 output lanes; lane (x, y) is at x + 5y.
+ * A list of lookups is flat too, 4 words each: kind, x, y, z. A list of keys has 2 words each: a pointer's upper 32 bits, and its bits
+ * 16 to 31; a list of rows of the IS_WH table 3 words each: a key's two, and how often.
  * A row may be lent longer than its columns; the rest is neither read nor written.
  *
  * A state has two orders. Columns, and lanes of operations, run by lane x + 5y: byte b of lane (x, y) is 8 (x + 5 y) + b columns
@@ -113,12 +117,17 @@ extern "C" {
 #define KECCAK_TABLES_LAST_ADDRESS 0xFFFFFFFFFFFFFF3F
 #define KECCAK_TABLES_RECORD_BYTES 418
 
-/* Bitwise rows: their number, the columns that the index fixes, all columns; the kinds of lookup; the counters. */
+/*
+ * Bitwise rows: their number, the columns that the index fixes, all columns, the words of the table; the kinds of lookup; the
+ * counters; the words of a lookup in a list.
+ */
 #define KECCAK_TABLES_BITWISE_ROWS 1048576
 #define KECCAK_TABLES_BITWISE_FIXED_COLUMNS 11
 #define KECCAK_TABLES_BITWISE_COLUMNS 21
+#define KECCAK_TABLES_BITWISE_WORDS 22020096
 #define KECCAK_TABLES_BITWISE_KINDS 10
 #define KECCAK_TABLES_BITWISE_COUNTERS 10485760
+#define KECCAK_TABLES_LOOKUP_WORDS 4
 
 /* Constant rows: their number, the columns that the row's number fixes, all columns, the words of the table. */
 #define KECCAK_TABLES_RC_ROWS 32
@@ -126,9 +135,12 @@ extern "C" {
 #define KECCAK_TABLES_RC_COLUMNS 10
 #define KECCAK_TABLES_RC_WORDS 320
 
-/* Rows of keys: their columns and tuples. */
+/* Rows of keys: their columns and tuples; the words of a row in a list; the most keys or rows of a list; the most that a row counts. */
 #define KECCAK_TABLES_IS_WH_COLUMNS 4
 #define KECCAK_TABLES_IS_WH_TUPLES 5
+#define KECCAK_TABLES_IS_WH_ROW_WORDS 3
+#define KECCAK_TABLES_MAX_KEYS 2236962125
+#define KECCAK_TABLES_IS_WH_MU_MAX 1048575
 
 /* Core rows: columns, values, tuples, the words of a row's tuples; the words of an operation's keys. */
 #define KECCAK_TABLES_CORE_COLUMNS 486
@@ -206,6 +218,16 @@ typedef struct keccak_tables_key {
     uint64_t half;
 } keccak_tables_key;
 
+/* The answer of a call that gives a lookup: the four words of it in a list, 0 where it is refused. */
+typedef struct keccak_tables_lookup {
+    uint64_t refusal;
+    uint64_t detail;
+    uint64_t kind;
+    uint64_t x;
+    uint64_t y;
+    uint64_t z;
+} keccak_tables_lookup;
+
 /*
  * A verdict. Where both tables hold: `active`, the number of active core rows. Of a failure: `table`, `row` and `index`, all from 0,
  * the index being that of the value or tuple, and 0 of a timestamp that an earlier active core row has. Where it is refused:
@@ -273,6 +295,70 @@ KECCAK_TABLES_MUST_USE
 keccak_tables_answer keccak_tables_bitwise_bump(uint64_t *counters, size_t counters_length, size_t kind, uint8_t x, uint8_t y,
                                                 uint8_t z);
 
+/* Adds n, mod p, to such a counter; an n of p or more counts as what is left of it mod p. 1, 3 and 5 as above. */
+KECCAK_TABLES_MUST_USE
+keccak_tables_answer keccak_tables_bump_n(uint64_t *counters, size_t counters_length, size_t kind, uint8_t x, uint8_t y, uint8_t z,
+                                          uint64_t n);
+
+/* A lookup of a kind at x, y and z. 1 kind >= 10, then z >= 16. */
+KECCAK_TABLES_MUST_USE
+keccak_tables_lookup keccak_tables_lookup_new(size_t kind, uint8_t x, uint8_t y, uint8_t z);
+
+/* AND, OR or XOR of two bytes, z being 0. 1 kind >= 10. */
+KECCAK_TABLES_MUST_USE
+keccak_tables_lookup keccak_tables_lookup_byte_op(size_t kind, uint8_t x, uint8_t y);
+
+/* MSB8 or ARE_BYTES of a byte, y and z being 0. 1 kind >= 10. */
+KECCAK_TABLES_MUST_USE
+keccak_tables_lookup keccak_tables_lookup_single_byte(size_t kind, uint8_t x);
+
+/* MSB16 or IS_HALF of x + 256 y, z being 0. 1 kind >= 10. */
+KECCAK_TABLES_MUST_USE
+keccak_tables_lookup keccak_tables_lookup_halfword(size_t kind, uint8_t x, uint8_t y);
+
+/* ZERO of value = x + 256 y + 65,536 z. 1 value >= 1,048,576. */
+KECCAK_TABLES_MUST_USE
+keccak_tables_lookup keccak_tables_lookup_zero(uint32_t value);
+
+/* HWSL of x + 256 y by z bits. 1 kind >= 10, then z >= 16. */
+KECCAK_TABLES_MUST_USE
+keccak_tables_lookup keccak_tables_lookup_shift_op(size_t kind, uint8_t x, uint8_t y, uint8_t z);
+
+/* IS_B20 of x + 256 y + 65,536 z. 1 z >= 16. */
+KECCAK_TABLES_MUST_USE
+keccak_tables_lookup keccak_tables_lookup_b20(uint8_t x, uint8_t y, uint8_t z);
+
+/*
+ * Adds a list of lookups to their counters, one each, mod p. 1 the first lookup with kind >= 10 or z >= 16; 2 the list;
+ * 3 counters < 10,485,760; 5 any counter, then x or y >= 256.
+ */
+KECCAK_TABLES_MUST_USE
+keccak_tables_answer keccak_tables_add_ops(uint64_t *counters, size_t counters_length, const uint64_t *ops, size_t ops_length);
+
+/* Adds other counters, each to its own, mod p. 3 counters, then other, < 10,485,760; 5 any of counters, then of other. */
+KECCAK_TABLES_MUST_USE
+keccak_tables_answer keccak_tables_merge(uint64_t *counters, size_t counters_length, const uint64_t *other, size_t other_length);
+
+/* Writes the table, 1,048,576 rows of 21 columns, every multiplicity 0. 3 table < 22,020,096. */
+KECCAK_TABLES_MUST_USE
+keccak_tables_answer keccak_tables_generate_bitwise_trace(uint64_t *table, size_t table_length);
+
+/*
+ * Sets the multiplicities of the table, columns 11 to 20 of each row, to the counters; the other columns are neither read nor written.
+ * 3 counters < 10,485,760, then table < 22,020,096; 5 any counter.
+ */
+KECCAK_TABLES_MUST_USE
+keccak_tables_answer keccak_tables_fill_multiplicities(const uint64_t *counters, size_t counters_length, uint64_t *table,
+                                                       size_t table_length);
+
+/*
+ * Adds a list of lookups to the multiplicities of the table, one each, mod p. 1 the first lookup with kind >= 10 or z >= 16; 2 the list;
+ * 3 table < 22,020,096; 5 any multiplicity, then x or y >= 256.
+ */
+KECCAK_TABLES_MUST_USE
+keccak_tables_answer keccak_tables_bitwise_update_multiplicities(uint64_t *table, size_t table_length, const uint64_t *ops,
+                                                                 size_t ops_length);
+
 /* Tuple `index` of a row of 21 columns. 1 index >= 10; 3 row < 21, then out < the tuple's length; 5 a column. */
 KECCAK_TABLES_MUST_USE
 keccak_tables_tuple keccak_tables_bitwise_bus_interaction(const uint64_t *row, size_t row_length, size_t index, uint64_t *out,
@@ -302,6 +388,36 @@ keccak_tables_tuple keccak_tables_keccak_rc_bus_interaction(const uint64_t *row,
 /* The key of a number. Never refused. */
 KECCAK_TABLES_MUST_USE
 keccak_tables_key keccak_tables_is_wh_key(uint64_t value);
+
+/*
+ * Writes the rows of the IS_WH table for a list of keys, and gives their number: the keys in order, by word and then by half, each once
+ * with how often it occurs, over several rows where that is more than 1,048,575, full rows first. `codes` and `spare`, a word for each
+ * key, are worked in. 1 more than 2,236,962,125 keys; 2 the list; 3 codes < n, then spare < n, then rows < 3 n; 5 a word >= 2^32 or a
+ * half >= 2^16.
+ */
+KECCAK_TABLES_MUST_USE
+keccak_tables_number keccak_tables_dedup_is_wh_rows(const uint64_t *keys, size_t keys_length, uint64_t *codes, size_t codes_length,
+                                                    uint64_t *spare, size_t spare_length, uint64_t *rows, size_t rows_length);
+
+/* The height of the table of n such rows: the next power of two, at least 4. 1 n > 2,236,962,125. */
+KECCAK_TABLES_MUST_USE
+keccak_tables_number keccak_tables_is_wh_height(size_t n);
+
+/*
+ * Writes the table of a list of rows: a key's half, the low and the high half of its word, how often; padding rows are 0.
+ * 1 more than 2,236,962,125 rows; 2 the list; 3 table < height * 4; 5 a word >= 2^32, a half >= 2^16 or a count >= 2^20.
+ */
+KECCAK_TABLES_MUST_USE
+keccak_tables_answer keccak_tables_generate_is_wh_trace(const uint64_t *rows, size_t rows_length, uint64_t *table,
+                                                        size_t table_length);
+
+/*
+ * Adds to the counters of the bitwise table, mod p, what the table of a list of rows looks up, padding rows included; nothing where
+ * there are no rows. 1 and 2 as above; 3 counters < 10,485,760; 5 a word of the list as above, then any counter.
+ */
+KECCAK_TABLES_MUST_USE
+keccak_tables_answer keccak_tables_collect_bitwise_from_is_wh(const uint64_t *rows, size_t rows_length, uint64_t *counters,
+                                                              size_t counters_length);
 
 /* Tuple `index` of a row of 4 columns. 1 index >= 5; 3 row < 4, then out < the tuple's length; 5 a column. */
 KECCAK_TABLES_MUST_USE

@@ -2,6 +2,7 @@
 
 use std::fmt;
 
+use crate::is_wh::MAX_KEYS;
 use crate::operation::MAX_OPS;
 
 /// Which of the lent slices is not whole.
@@ -11,7 +12,7 @@ pub enum Lent {
     Core,
     /// A round table.
     Round,
-    /// A list of operations.
+    /// A list of operations, lookups, keys or rows of keys.
     List,
 }
 
@@ -29,7 +30,7 @@ pub enum Refusal {
         /// The least number refused.
         limit: u64,
     },
-    /// 2: a table or list that is not whole rows or operations.
+    /// 2: a table or list that is not whole rows, operations, lookups or keys.
     NotWhole {
         /// Which one.
         which: Lent,
@@ -44,7 +45,7 @@ pub enum Refusal {
         /// The first such address.
         address: u64,
     },
-    /// 5: a word that is not below p.
+    /// 5: a word that is not below p; or one of a list of lookups, keys or rows of keys that is more than it can be.
     NotElement {
         /// Its place in the lent slice.
         place: u64,
@@ -107,20 +108,27 @@ impl Refusal {
 impl fmt::Display for Refusal {
     fn fmt(&self, f: &mut fmt::Formatter<'_>) -> fmt::Result {
         match *self {
-            // No other argument has this end; of a smaller one the number does not say which argument it was.
+            // No other argument has these ends; of a smaller one the number does not say which argument it was.
             Self::PastEnd { limit } if limit == MAX_OPS as u64 + 1 => {
                 write!(f, "there are more than {MAX_OPS} operations")
+            }
+            Self::PastEnd { limit } if limit == MAX_KEYS as u64 + 1 => {
+                write!(f, "there are more than {MAX_KEYS} keys or rows of keys")
             }
             Self::PastEnd { limit } => write!(f, "an index, a kind, a Z or a round is past its end: {limit} or more"),
             Self::NotWhole { which: Lent::Core } => write!(f, "the core table is not whole rows"),
             Self::NotWhole { which: Lent::Round } => write!(f, "the round table is not whole rows"),
-            Self::NotWhole { which: Lent::List } => write!(f, "the list is not whole operations"),
+            Self::NotWhole { which: Lent::List } => {
+                write!(f, "the list is not whole operations, lookups, keys or rows")
+            }
             Self::TooShort { needed } => write!(f, "a lent slice is shorter than the {needed} that are needed"),
             Self::HighAddress { address } => write!(
                 f,
                 "the last of the 25 lanes from address {address} would start past 2^64 - 1"
             ),
-            Self::NotElement { place } => write!(f, "word {place} of a lent slice is not below p"),
+            Self::NotElement { place } => {
+                write!(f, "word {place} of a lent slice is not below p, or more than it can be")
+            }
             Self::BadRecord { start } => write!(f, "the record that starts at byte {start} is cut or has a wrong mark"),
         }
     }
@@ -145,9 +153,18 @@ mod tests {
                 [1, 89_478_486],
                 "there are more than 89478485 operations",
             ),
+            (
+                Refusal::PastEnd { limit: 2_236_962_126 },
+                [1, 2_236_962_126],
+                "there are more than 2236962125 keys or rows of keys",
+            ),
             (whole(Lent::Core), [2, 0], "the core table is not whole rows"),
             (whole(Lent::Round), [2, 1], "the round table is not whole rows"),
-            (whole(Lent::List), [2, 2], "the list is not whole operations"),
+            (
+                whole(Lent::List),
+                [2, 2],
+                "the list is not whole operations, lookups, keys or rows",
+            ),
             (
                 Refusal::TooShort { needed: 486 },
                 [3, 486],
@@ -157,7 +174,7 @@ mod tests {
             (
                 Refusal::NotElement { place: 7 },
                 [5, 7],
-                "word 7 of a lent slice is not below p",
+                "word 7 of a lent slice is not below p, or more than it can be",
             ),
             (Refusal::BadRecord { start: 418 }, [6, 418], bad_record),
         ];

@@ -97,6 +97,123 @@ static void bitwise_tuples(void) {
     CHECK(tuple.bus == 0 && tuple.side == 0 && tuple.length == 0 && tuple.multiplicity == 0);
 }
 
+static void bitwise_table(void) {
+    size_t length = KECCAK_TABLES_BITWISE_WORDS, count = KECCAK_TABLES_BITWISE_COUNTERS;
+    uint64_t *table = malloc((length + 1) * sizeof *table), *counters = calloc(count, sizeof *counters);
+    CHECK(table != NULL && counters != NULL);
+    table[length] = GUARD;
+    uint64_t *row = table + 266804 * 21;
+    keccak_tables_answer answer = CALL(keccak_tables_generate_bitwise_trace)(table, length);
+    DONE(answer);
+    CHECK(row[0] == 52 && row[10] == 1 && row[11] == 0 && row[20] == 0 && table[length] == GUARD);
+    answer = keccak_tables_generate_bitwise_trace(table, length - 1);
+    REFUSED(answer, 3, length);
+
+    counters[2668047] = 9;
+    answer = CALL(keccak_tables_fill_multiplicities)(counters, count, table, length);
+    DONE(answer);
+    CHECK(row[17] == 0 && row[18] == 9 && row[19] == 0 && table[length] == GUARD);
+    answer = keccak_tables_fill_multiplicities(counters, count - 1, table, length - 1);
+    REFUSED(answer, 3, count);
+
+    uint64_t lookups[8] = {7, 52, 18, 4, 9, 52, 18, 4};
+    answer = CALL(keccak_tables_bitwise_update_multiplicities)(table, length, lookups, 8);
+    DONE(answer);
+    CHECK(row[18] == 10 && row[20] == 1);
+    answer = keccak_tables_bitwise_update_multiplicities(table, length, lookups, 7);
+    REFUSED(answer, 2, 2);
+    row[18] = KECCAK_TABLES_P;
+    answer = keccak_tables_bitwise_update_multiplicities(table, length, lookups, 8);
+    REFUSED(answer, 5, 266804 * 21 + 18);
+    CHECK(row[20] == 1);
+    free(table);
+    free(counters);
+}
+
+/* A lookup has these words. */
+#define LOOKUP(lookup, k, a, b, c)                                                                                                \
+    CHECK((lookup).kind == (k) && (lookup).x == (a) && (lookup).y == (b) && (lookup).z == (c))
+
+static void lookups(void) {
+    keccak_tables_lookup lookup = CALL(keccak_tables_lookup_new)(KECCAK_TABLES_KIND_XOR, 52, 18, 4);
+    DONE(lookup);
+    LOOKUP(lookup, 9, 52, 18, 4);
+    lookup = keccak_tables_lookup_new(10, 52, 18, 16);
+    REFUSED(lookup, 1, 10);
+    LOOKUP(lookup, 0, 0, 0, 0);
+    lookup = keccak_tables_lookup_new(9, 52, 18, 16);
+    REFUSED(lookup, 1, 16);
+
+    lookup = CALL(keccak_tables_lookup_byte_op)(KECCAK_TABLES_KIND_AND, 52, 18);
+    DONE(lookup);
+    LOOKUP(lookup, 7, 52, 18, 0);
+    lookup = keccak_tables_lookup_byte_op(10, 52, 18);
+    REFUSED(lookup, 1, 10);
+
+    lookup = CALL(keccak_tables_lookup_single_byte)(KECCAK_TABLES_KIND_ARE_BYTES, 52);
+    DONE(lookup);
+    LOOKUP(lookup, 3, 52, 0, 0);
+    lookup = keccak_tables_lookup_single_byte(SIZE_MAX, 52);
+    REFUSED(lookup, 1, 10);
+
+    lookup = CALL(keccak_tables_lookup_halfword)(KECCAK_TABLES_KIND_MSB16, 52, 18);
+    DONE(lookup);
+    LOOKUP(lookup, 1, 52, 18, 0);
+    lookup = keccak_tables_lookup_halfword(10, 52, 18);
+    REFUSED(lookup, 1, 10);
+
+    lookup = CALL(keccak_tables_lookup_zero)(266804);
+    DONE(lookup);
+    LOOKUP(lookup, 2, 52, 18, 4);
+    lookup = keccak_tables_lookup_zero(1048576);
+    REFUSED(lookup, 1, 1048576);
+
+    lookup = CALL(keccak_tables_lookup_shift_op)(KECCAK_TABLES_KIND_HWSL, 52, 18, 15);
+    DONE(lookup);
+    LOOKUP(lookup, 6, 52, 18, 15);
+    lookup = keccak_tables_lookup_shift_op(10, 52, 18, 16);
+    REFUSED(lookup, 1, 10);
+
+    lookup = CALL(keccak_tables_lookup_b20)(52, 18, 4);
+    DONE(lookup);
+    LOOKUP(lookup, 5, 52, 18, 4);
+    lookup = keccak_tables_lookup_b20(52, 18, 16);
+    REFUSED(lookup, 1, 16);
+}
+
+static void more_counters(void) {
+    size_t length = KECCAK_TABLES_BITWISE_COUNTERS;
+    uint64_t *counters = calloc(length, sizeof *counters), *other = calloc(length, sizeof *other);
+    CHECK(counters != NULL && other != NULL);
+    keccak_tables_answer answer = CALL(keccak_tables_bump_n)(counters, length, 7, 52, 18, 4, KECCAK_TABLES_P - 1);
+    DONE(answer);
+    answer = keccak_tables_bump_n(counters, length, 7, 52, 18, 4, KECCAK_TABLES_P + 3);
+    DONE(answer);
+    CHECK(counters[2668047] == 2);
+    answer = keccak_tables_bump_n(counters, length, 7, 52, 18, 16, 1);
+    REFUSED(answer, 1, 16);
+
+    uint64_t lookups[8] = {7, 52, 18, 4, 3, 1, 2, 0};
+    answer = CALL(keccak_tables_add_ops)(counters, length, lookups, 8);
+    DONE(answer);
+    CHECK(counters[2668047] == 3 && counters[5133] == 1);
+    lookups[6] = 256;
+    answer = keccak_tables_add_ops(counters, length, lookups, 8);
+    REFUSED(answer, 5, 6);
+    lookups[0] = 10;
+    answer = keccak_tables_add_ops(counters, length, lookups, 8);
+    REFUSED(answer, 1, 10);
+
+    other[5133] = KECCAK_TABLES_P - 1;
+    answer = CALL(keccak_tables_merge)(counters, length, other, length);
+    DONE(answer);
+    CHECK(counters[2668047] == 3 && counters[5133] == 0);
+    answer = keccak_tables_merge(counters, length, other, length - 1);
+    REFUSED(answer, 3, length);
+    free(counters);
+    free(other);
+}
+
 static void constant_calls(void) {
     /* The last round's constant is 8000000080008008, hexadecimal. */
     static const uint64_t expected[9] = {23, 8, 128, 0, 128, 0, 0, 0, 128};
@@ -147,6 +264,45 @@ static void key_calls(void) {
     REFUSED(tuple, 1, 5);
     tuple = keccak_tables_is_wh_bus_interaction(row, 4, 4, out, 1);
     REFUSED(tuple, 3, 2);
+}
+
+static void key_rows(void) {
+    uint64_t keys[8] = {7, 9, 7, 8, 0, 65535, 7, 9}, codes[5], spare[5], rows[13], table[17];
+    static const uint64_t expected_rows[9] = {0, 65535, 1, 7, 8, 1, 7, 9, 2};
+    static const uint64_t expected[16] = {65535, 0, 0, 1, 8, 7, 0, 1, 9, 7, 0, 2};
+    codes[4] = spare[4] = rows[9] = rows[12] = table[16] = GUARD;
+    keccak_tables_number number = CALL(keccak_tables_dedup_is_wh_rows)(keys, 8, codes, 4, spare, 4, rows, 12);
+    DONE(number);
+    CHECK(number.value == 3 && memcmp(rows, expected_rows, sizeof expected_rows) == 0);
+    CHECK(codes[4] == GUARD && spare[4] == GUARD && rows[9] == GUARD && rows[12] == GUARD);
+    number = keccak_tables_dedup_is_wh_rows(keys, 8, codes, 4, spare, 3, rows, 11);
+    REFUSED(number, 3, 4);
+    number = keccak_tables_dedup_is_wh_rows(keys, 8, codes, 4, spare, 4, rows, 11);
+    REFUSED(number, 3, 12);
+
+    number = CALL(keccak_tables_is_wh_height)(5);
+    DONE(number);
+    CHECK(number.value == 8);
+    number = keccak_tables_is_wh_height((size_t)KECCAK_TABLES_MAX_KEYS + 1);
+    REFUSED(number, 1, 2236962126);
+
+    keccak_tables_answer answer = CALL(keccak_tables_generate_is_wh_trace)(rows, 9, table, 16);
+    DONE(answer);
+    CHECK(memcmp(table, expected, sizeof expected) == 0 && table[16] == GUARD);
+    answer = keccak_tables_generate_is_wh_trace(rows, 9, table, 15);
+    REFUSED(answer, 3, 16);
+
+    size_t length = KECCAK_TABLES_BITWISE_COUNTERS;
+    uint64_t *counters = calloc(length, sizeof *counters);
+    CHECK(counters != NULL);
+    answer = CALL(keccak_tables_collect_bitwise_from_is_wh)(rows, 9, counters, length);
+    DONE(answer);
+    /* IsHalfword of 0 and of 9; IsB20 of 0, which the padding row sends, and of 1. */
+    CHECK(counters[4] == 5 && counters[94] == 2 && counters[5] == 1 && counters[15] == 2);
+    rows[2] = KECCAK_TABLES_IS_WH_MU_MAX + 1;
+    answer = keccak_tables_collect_bitwise_from_is_wh(rows, 9, counters, length);
+    REFUSED(answer, 5, 2);
+    free(counters);
 }
 
 static void core_rows(void) {
@@ -412,8 +568,12 @@ int main(void) {
     bitwise_rows();
     bitwise_counters();
     bitwise_tuples();
+    bitwise_table();
+    lookups();
+    more_counters();
     constant_calls();
     key_calls();
+    key_rows();
     core_rows();
     core_keys();
     core_evaluations();

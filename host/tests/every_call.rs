@@ -3,8 +3,8 @@
 #[allow(dead_code)]
 mod interface;
 
-use keccak_tables::bitwise::BitwiseOperationType;
-use keccak_tables::is_wh::IsWhKey;
+use keccak_tables::bitwise::{BitwiseOperation, BitwiseOperationType};
+use keccak_tables::is_wh::{IsWhKey, IsWhRows};
 use keccak_tables::operation_file::Tally;
 use keccak_tables::verdict::{Table, Verdict};
 use keccak_tables::{
@@ -71,6 +71,84 @@ fn bitwise_calls() {
     assert_eq!(refused, Err(Refusal::NotElement { place: 20 }));
 }
 
+/// A table whole, its multiplicities from counters and from a list of lookups.
+#[test]
+fn bitwise_table_calls() {
+    let mut table = vec![GUARD; bitwise::TABLE_WORDS + 1];
+    assert_eq!(bitwise::generate_bitwise_trace(&mut table), Ok(()));
+    let row = |table: &[u64]| table[266_804 * bitwise::NUM_COLUMNS..][..bitwise::NUM_COLUMNS].to_vec();
+    let fixed = [52, 18, 4, 16, 54, 38, 0, 0, 0, 9024, 1];
+    assert_eq!(row(&table), [&fixed[..], &[0; 10]].concat());
+    assert_eq!(table[bitwise::TABLE_WORDS], GUARD);
+    let short = Err(Refusal::TooShort { needed: 22_020_096 });
+    assert_eq!(bitwise::generate_bitwise_trace(&mut table[..22_020_095]), short);
+
+    let mut counters = vec![0; bitwise::NUM_COUNTERS];
+    for (kind, count) in counters[2_668_040..2_668_050].iter_mut().enumerate() {
+        *count = 100 + kind as u64;
+    }
+    assert_eq!(bitwise::fill_multiplicities(&counters, &mut table), Ok(()));
+    let filled: Vec<u64> = (100..110).collect();
+    assert_eq!(row(&table), [&fixed[..], &filled].concat());
+    assert_eq!(bitwise::fill_multiplicities(&counters, &mut table[..22_020_095]), short);
+
+    let ops = [9, 52, 18, 4, 9, 52, 18, 4, 0, 0, 0, 0];
+    table[11] = P - 1;
+    assert_eq!(bitwise::update_multiplicities(&mut table, &ops), Ok(()));
+    assert_eq!((row(&table)[20], table[11], table[12]), (111, 0, 0));
+    let refused = bitwise::update_multiplicities(&mut table, &ops[..11]);
+    assert_eq!(refused, Err(Refusal::NotWhole { which: Lent::List }));
+}
+
+#[test]
+fn lookup_calls() {
+    let words = |lookup: BitwiseOperation| lookup.words();
+    let kind = BitwiseOperationType::ByteAluXor;
+    assert_eq!(BitwiseOperation::new(kind, 52, 18, 4).map(words), Ok([9, 52, 18, 4]));
+    assert_eq!(BitwiseOperation::byte_op(kind, 52, 18).words(), [9, 52, 18, 0]);
+    let single = BitwiseOperation::single_byte(BitwiseOperationType::Msb8, 52);
+    assert_eq!(single.words(), [0, 52, 0, 0]);
+    let half = BitwiseOperation::halfword(BitwiseOperationType::IsHalf, 52, 18);
+    assert_eq!(BitwiseOperation::list(&[single, half]), [0, 52, 0, 0, 4, 52, 18, 0]);
+    assert_eq!(BitwiseOperation::zero(266_804).map(words), Ok([2, 52, 18, 4]));
+    let shift = BitwiseOperation::shift_op(BitwiseOperationType::Hwsl, 52, 18, 15);
+    assert_eq!(shift.map(words), Ok([6, 52, 18, 15]));
+    assert_eq!(BitwiseOperation::b20(52, 18, 4).map(words), Ok([5, 52, 18, 4]));
+
+    let past_end = |limit| Err(Refusal::PastEnd { limit });
+    assert_eq!(BitwiseOperation::new(kind, 52, 18, 16), past_end(16));
+    assert_eq!(BitwiseOperation::shift_op(kind, 52, 18, 255), past_end(16));
+    assert_eq!(BitwiseOperation::b20(52, 18, 16), past_end(16));
+    assert_eq!(BitwiseOperation::zero(1_048_576), past_end(1_048_576));
+}
+
+#[test]
+fn counter_calls() {
+    let mut counters = vec![0; bitwise::NUM_COUNTERS];
+    let (kind, place) = (BitwiseOperationType::ByteAluAnd, 2_668_047);
+    assert_eq!(bitwise::bump_n(&mut counters, kind, 52, 18, 4, P + 5), Ok(()));
+    assert_eq!(bitwise::bump_n_numbered(&mut counters, 7, 52, 18, 4, P - 6), Ok(()));
+    assert_eq!(counters[place], P - 1);
+    let refused = bitwise::bump_n_numbered(&mut counters, 7, 52, 18, 16, 0);
+    assert_eq!(refused, Err(Refusal::PastEnd { limit: 16 }));
+
+    let ops = [7, 52, 18, 4, 3, 1, 2, 0, 3, 1, 2, 0];
+    assert_eq!(bitwise::add_ops(&mut counters, &ops), Ok(()));
+    assert_eq!((counters[place], counters[5133]), (0, 2));
+    let refused = bitwise::add_ops(&mut counters, &[3, 1, 256, 0]);
+    assert_eq!(refused, Err(Refusal::NotElement { place: 2 }));
+
+    let mut other = vec![0; bitwise::NUM_COUNTERS];
+    other[5133] = P - 1;
+    assert_eq!(bitwise::merge(&mut counters, &other), Ok(()));
+    assert_eq!((counters[5133], counters.iter().sum::<u64>()), (1, 1));
+    other[9] = P;
+    assert_eq!(
+        bitwise::merge(&mut counters, &other),
+        Err(Refusal::NotElement { place: 9 })
+    );
+}
+
 #[test]
 fn constant_calls() {
     let last = [23, 8, 128, 0, 128, 0, 0, 0, 128];
@@ -111,6 +189,71 @@ fn key_calls() {
     assert_eq!(out, [65_538, 3, GUARD]);
     let refused = is_wh::bus_interaction(&[3, 2, 1, 9], 4, &mut out[..1]);
     assert_eq!(refused, Err(Refusal::TooShort { needed: 2 }));
+}
+
+#[test]
+fn key_row_calls() {
+    let keys = [7, 9, 7, 8, 0, 65_535, 7, 9];
+    let [mut codes, mut spare] = [[GUARD; 5]; 2];
+    let mut rows = [GUARD; 13];
+    let answer = is_wh::dedup_is_wh_rows(&keys, &mut codes, &mut spare, &mut rows);
+    assert_eq!(answer, Ok(3));
+    let expected = [0, 65_535, 1, 7, 8, 1, 7, 9, 2];
+    assert_eq!((&rows[..9], &rows[9..]), (&expected[..], &[GUARD; 4][..]));
+    assert_eq!((codes[4], spare[4]), (GUARD, GUARD));
+    let refused = is_wh::dedup_is_wh_rows(&keys, &mut codes, &mut spare, &mut rows[..11]);
+    assert_eq!(refused, Err(Refusal::TooShort { needed: 12 }));
+
+    assert_eq!(is_wh::is_wh_height(5), Ok(8));
+    let refused = is_wh::is_wh_height(is_wh::MAX_KEYS + 1);
+    assert_eq!(refused, Err(Refusal::PastEnd { limit: 2_236_962_126 }));
+
+    let mut table = [GUARD; 17];
+    assert_eq!(is_wh::generate_is_wh_trace(&rows[..9], &mut table), Ok(()));
+    let words = [65_535, 0, 0, 1, 8, 7, 0, 1, 9, 7, 0, 2, 0, 0, 0, 0, GUARD];
+    assert_eq!(table, words);
+    let refused = is_wh::generate_is_wh_trace(&[1, 2, 1 << 20], &mut table);
+    assert_eq!(refused, Err(Refusal::NotElement { place: 2 }));
+
+    let mut counters = vec![0; bitwise::NUM_COUNTERS];
+    assert_eq!(is_wh::collect_bitwise_from_is_wh(&rows[..9], &mut counters), Ok(()));
+    // IsHalfword of 7, 8, 9 and 65,535; IsB20 of 0, 1 and 2.
+    let charged: Vec<(usize, u64)> = (0..)
+        .zip(counters.iter().copied())
+        .filter(|&(_, count)| count > 0)
+        .collect();
+    assert_eq!(
+        charged,
+        [
+            (4, 5),
+            (5, 1),
+            (15, 2),
+            (25, 1),
+            (74, 3),
+            (84, 1),
+            (94, 2),
+            (655_354, 1)
+        ]
+    );
+    let refused = is_wh::collect_bitwise_from_is_wh(&rows[..8], &mut counters);
+    assert_eq!(refused, Err(Refusal::NotWhole { which: Lent::List }));
+}
+
+/// The same in memory of their own, and from operations.
+#[test]
+fn key_rows_of_their_own() {
+    let rows = IsWhRows::of_keys(&[7, 9, 7, 8, 0, 65_535, 7, 9]).expect("rows");
+    assert_eq!(rows.words(), [0, 65_535, 1, 7, 8, 1, 7, 9, 2]);
+    assert_eq!(rows.table().map(|table| table[4..8].to_vec()), Ok(vec![8, 7, 0, 1]));
+    let of_operations = IsWhRows::of_operations(&operation().words()).expect("rows");
+    assert_eq!(of_operations.words(), [3, 2, 25]);
+    let mut counters = vec![0; bitwise::NUM_COUNTERS];
+    assert_eq!(of_operations.charge(&mut counters), Ok(()));
+    assert_eq!((counters[5], counters[255], counters[34]), (3, 1, 25));
+    assert_eq!(IsWhRows::of_keys(&[]).map(|rows| rows.words().len()), Ok(0));
+    assert_eq!(IsWhRows::of_keys(&[1]), Err(Refusal::NotWhole { which: Lent::List }));
+    let refused = IsWhRows::of_operations(&operation().words()[1..]);
+    assert_eq!(refused, Err(Refusal::NotWhole { which: Lent::List }));
 }
 
 /// The core row of the operation, and a word past it.
@@ -401,6 +544,6 @@ fn none_is_left_out() {
         }
     }
     // Those of the archive; two more that allocate a table, a verdict's `holds`, a reader's fault and the lines of its sums, a counter
-    // by its kind, and a kind's number.
-    assert_eq!(functions, interface::exports().len() + 7);
+    // by its kind, once or n times, a kind's number, a lookup's words and a list of them, and the five of rows of keys.
+    assert_eq!(functions, interface::exports().len() + 15);
 }

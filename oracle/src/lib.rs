@@ -23,10 +23,10 @@ mod row;
 mod tuple;
 
 pub use answers::bitwise::{
-    BITWISE_COLUMNS, COUNTERS, Counters, Lookup, bitwise_count, bitwise_counts, bitwise_row, bitwise_row_index,
-    bitwise_table_row, bitwise_tuples,
+    BITWISE_COLUMNS, BitwiseTable, COUNTERS, Counters, Lookup, bitwise_count, bitwise_counts, bitwise_row,
+    bitwise_row_index, bitwise_table_row, bitwise_tuples,
 };
-pub use answers::is_wh::{IS_WH_COLUMNS, is_wh_key, is_wh_tuples, is_whh_tuples};
+pub use answers::is_wh::{IS_WH_COLUMNS, is_wh_key, is_wh_rows, is_wh_table, is_wh_tuples, is_whh_tuples};
 pub use answers::keccak::{CORE_COLUMNS, core_sums, core_table, core_tuples, core_values, is_wh_keys};
 pub use answers::keccak_rc::{KECCAK_RC_COLUMNS, keccak_rc_row, keccak_rc_table, keccak_rc_tuples};
 pub use answers::keccak_rnd::{ROUND_COLUMNS, padding_are_bytes, round_sums, round_table, round_tuples, round_values};

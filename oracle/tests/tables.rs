@@ -9,7 +9,9 @@ use oracle::Bus::*;
 use oracle::Side::{Receiver, Sender};
 use oracle::lanes::{CONSTANTS, State, keccak_f, next, offset};
 use oracle::sample::{self, Generator};
-use oracle::{Bus, CORE_COLUMNS, Lookup, P, ROUND_COLUMNS, Side, Tuple};
+use oracle::{
+    BITWISE_COLUMNS, BitwiseTable, Bus, CORE_COLUMNS, COUNTERS, Counters, Lookup, P, ROUND_COLUMNS, Side, Tuple,
+};
 
 /// `n` operations with addresses that are multiples of 8, their inputs drawn, outputs by the lanes of FIPS 202.
 fn operations(seed: u64, n: usize) -> Vec<u64> {
@@ -367,6 +369,62 @@ fn counting() {
         oracle::bitwise_counts(&lookups),
         [(0, 1), ((1 + 512) * 10 + 3, 2), (10_485_759, 1)]
     );
+}
+
+#[test]
+fn counters_are_added_and_filled_in() {
+    let lookup = |kind, x, y, z| Lookup { kind, x, y, z };
+    let (low, high) = (lookup(3, 1, 2, 0), lookup(9, 255, 255, 15));
+    let mut counters = Counters::new();
+    counters.bump_n(low, 7);
+    counters.add_ops(&[low.operation(), high.operation()]);
+    let mut other = Counters::new();
+    other.bump_n(high, P - 1);
+    counters.merge(&other);
+    let words = counters.words();
+    assert_eq!(
+        (words.len(), words[low.counter()], words[high.counter()]),
+        (COUNTERS, 8, 0)
+    );
+    assert_eq!(words.iter().sum::<u64>(), 8);
+
+    let mut table = BitwiseTable::generate();
+    table.update_multiplicities(&[low.operation()]);
+    counters.fill_multiplicities(&mut table);
+    table.update_multiplicities(&[low.operation(), high.operation()]);
+    let words = table.words();
+    assert_eq!(
+        words[513 * BITWISE_COLUMNS..][..BITWISE_COLUMNS][11..16],
+        [0, 0, 0, 9, 0]
+    );
+    assert_eq!((words.len(), words.last()), (22_020_096, Some(&1)));
+    assert_eq!(Lookup::from(high.operation()), high);
+}
+
+#[test]
+fn rows_of_keys_and_what_they_look_up() {
+    let keys = [[7, 9], [7, 8], [0, 65_535], [7, 9]].concat();
+    let rows = oracle::is_wh_rows(&keys);
+    assert_eq!(rows, [0, 65_535, 1, 7, 8, 1, 7, 9, 2]);
+    let table = oracle::is_wh_table(&rows);
+    assert_eq!(table, [65_535, 0, 0, 1, 8, 7, 0, 1, 9, 7, 0, 2, 0, 0, 0, 0]);
+    let many = [7, 9].repeat((1 << 21) - 1);
+    assert_eq!(oracle::is_wh_rows(&many), [7, 9, 1_048_575, 7, 9, 1_048_575, 7, 9, 1]);
+
+    // What is charged is what the table's rows send, padding included.
+    let mut counters = Counters::new();
+    counters.collect_is_wh(&rows);
+    let mut sent = vec![0; COUNTERS];
+    for tuple in table.chunks_exact(4).flat_map(oracle::is_wh_tuples) {
+        let kind = match tuple.bus {
+            IsHalfword => 4,
+            IsB20 => 5,
+            _ => continue,
+        };
+        sent[tuple.values[0] as usize * 10 + kind] += tuple.multiplicity;
+    }
+    assert_eq!(counters.words(), sent);
+    assert_eq!(sent[5], 1);
 }
 
 #[test]

@@ -3,6 +3,7 @@
 // value.
 
 pub mod core_calls;
+pub mod counters;
 pub mod evaluators;
 pub mod judge_calls;
 pub mod lookups;

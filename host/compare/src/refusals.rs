@@ -17,15 +17,21 @@ use crate::list_calls::{LIST_CALLS, TOO_MANY};
 use crate::refused::on_slice;
 use crate::tally::{file_of, first_fault, operations_of, read};
 use crate::untouched::Untouched;
-use crate::{rows, tuples, values, verdicts};
+use crate::{looked_up, rows, tuples, values, verdicts};
 
 /// The numbers with which each call is tried, 0 being that it does its work. What only a file of 37 GB can cause is in
-/// `limit.rs`: 1 in `tally_feed`, `tally_finish` and `read_operations`.
+/// `limit.rs`: 1 in `tally_feed`, `tally_finish` and `read_operations`. The bindings' lookups have no kind past the last; the tests of
+/// the header try it.
 ///
 /// | what | 1 | 2 | 3 | 4 | 5 | 6 |
 /// |---|---|---|---|---|---|---|
 /// | a bitwise or constant row | index | | slice | | | |
-/// | `bitwise_bump` | kind, Z | | counters | | counter | |
+/// | `bitwise_bump`, `bump_n` | kind, Z | | counters | | counter | |
+/// | a lookup | kind, Z, value | | | | | |
+/// | a bitwise table, filled or not | | | counters, table | | counter | |
+/// | `merge` | | | both | | a counter of either | |
+/// | a list of lookups on counters or a table | kind, Z | list | slice | | counter, X, Y | |
+/// | keys to rows; rows to a table or on counters | n | list | each slice | | word, half, count, counter | |
 /// | a constant table, its multiplicities | n | | table | | | |
 /// | a call on a list | n, index | list | slice | address | | |
 /// | a round row | round | | START, row | | | |
@@ -35,16 +41,33 @@ use crate::{rows, tuples, values, verdicts};
 /// | `verdict` | | core, round | | | core, round | |
 /// | a file's reader | n | | | address | | mark, cut |
 /// | `read_operations` | n | | list | address | | mark, cut |
-pub const MATRIX: [(&str, &[u64]); 32] = [
+pub const MATRIX: [(&str, &[u64]); 49] = [
     ("generate_bitwise_row", &[0, 1, 3]),
     ("bitwise_row_index", &[0, 1]),
     ("bitwise_bump", &[0, 1, 3, 5]),
+    ("lookup_new", &[0, 1]),
+    ("lookup_byte_op", &[0]),
+    ("lookup_single_byte", &[0]),
+    ("lookup_halfword", &[0]),
+    ("lookup_zero", &[0, 1]),
+    ("lookup_shift_op", &[0, 1]),
+    ("lookup_b20", &[0, 1]),
+    ("generate_bitwise_trace", &[0, 3]),
+    ("fill_multiplicities", &[0, 3, 5]),
+    ("bump_n", &[0, 1, 3, 5]),
+    ("merge", &[0, 3, 5]),
+    ("add_ops", &[0, 1, 2, 3, 5]),
+    ("bitwise_update_multiplicities", &[0, 1, 2, 3, 5]),
     ("bitwise_bus_interaction", &[0, 1, 3, 5]),
     ("keccak_rc_generate_row", &[0, 1, 3]),
     ("generate_keccak_rc_trace", &[0, 3]),
     ("keccak_rc_update_multiplicities", &[0, 1, 3]),
     ("keccak_rc_bus_interaction", &[0, 1, 3, 5]),
     ("is_wh_key", &[0]),
+    ("dedup_is_wh_rows", &[0, 1, 2, 3, 5]),
+    ("is_wh_height", &[0, 1]),
+    ("generate_is_wh_trace", &[0, 1, 2, 3, 5]),
+    ("collect_bitwise_from_is_wh", &[0, 1, 2, 3, 5]),
     ("is_wh_bus_interaction", &[0, 1, 3, 5]),
     ("keccak_row", &[0, 1, 2, 3, 4]),
     ("generate_keccak_trace", &[0, 1, 2, 3, 4]),
@@ -74,6 +97,7 @@ pub const MATRIX: [(&str, &[u64]); 32] = [
 pub fn compare(comparison: &mut Comparison, seed: u64, n: usize) {
     let mut words = Words::new(seed);
     rows::refusals::compare(comparison, &mut words);
+    looked_up::refusals::compare(comparison, &mut words);
     comparison.group("refusals: values and tuples of core and round rows");
     for table in [CORE, ROUND] {
         values::refusals(comparison, &mut words, &table);
@@ -108,7 +132,7 @@ fn matrix(comparison: &mut Comparison) {
 }
 
 /// The first of the conditions that are met, which stand in the order of the checks.
-fn first(conditions: &[(bool, u64, u64)]) -> Option<(u64, u64)> {
+pub fn first(conditions: &[(bool, u64, u64)]) -> Option<(u64, u64)> {
     let met = conditions.iter().find(|(met, ..)| *met);
     met.map(|&(_, number, detail)| (number, detail))
 }

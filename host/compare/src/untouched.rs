@@ -31,21 +31,21 @@ const MAP_ANONYMOUS: i32 = 0x20;
 const MAP_NORESERVE: i32 = 0x4000;
 
 impl Untouched {
-    /// `length` words, where the system has that many addresses.
-    fn new(length: usize) -> Option<Self> {
+    /// `length` words, where the system has that many addresses; where it has not, that is told by what they were to be.
+    pub fn new(length: usize, what: &str) -> Option<Self> {
         let flags = MAP_PRIVATE | MAP_ANONYMOUS | MAP_NORESERVE;
         // SAFETY: a new mapping, at an address that the system chooses.
         let start = unsafe { mmap(ptr::null_mut(), length * 8, PROT_READ | PROT_WRITE, flags, -1, 0) };
-        (start.addr() != usize::MAX).then_some(Self { start, length })
+        if start.addr() == usize::MAX {
+            say!("no addresses for {what}: lists about the limit are not tried");
+            return None;
+        }
+        Some(Self { start, length })
     }
 
-    /// A list of `n` operations. Where the system has no addresses for it, that is told.
+    /// A list of `n` operations.
     pub fn operations(n: usize) -> Option<Self> {
-        let list = Self::new(n * OP_WORDS);
-        if list.is_none() {
-            say!("no addresses for a list of {n} operations: lists about the limit are not tried");
-        }
-        list
+        Self::new(n * OP_WORDS, &format!("a list of {n} operations"))
     }
 
     /// The words.

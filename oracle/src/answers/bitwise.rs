@@ -6,11 +6,14 @@ use math::field::goldilocks::GoldilocksField;
 use stark::lookup::BusInteraction;
 use stark::trace::TraceTable;
 
-use crate::row::{check_width, element};
+use crate::answers::is_wh::rows_of;
+use crate::row::{check_width, element, elements, words};
 use crate::tables::bitwise::{
     BitwiseHistogram, BitwiseOperation, BitwiseOperationType, NUM_LOOKUP_TYPES, NUM_PRECOMPUTED_COLS, NUM_ROWS,
-    bus_interactions, cols, generate_bitwise_row, generate_bitwise_trace, mu_column, row_index, update_multiplicities,
+    bus_interactions, cols, generate_bitwise_row, generate_bitwise_trace, lookup_type_index, mu_column, row_index,
+    update_multiplicities,
 };
+use crate::tables::is_wh::{IsWhKey, collect_bitwise_from_is_wh};
 use crate::tables::types::{FE, GoldilocksExtension, zeroed_fe_vec};
 use crate::tuple::{Tuple, tuples};
 
@@ -71,8 +74,20 @@ impl Lookup {
         bitwise_row_index(self.x, self.y, self.z) * NUM_LOOKUP_TYPES + self.kind
     }
 
-    fn operation(self) -> BitwiseOperation {
+    /// The Rust's request for it (`BitwiseOperation::new`).
+    pub fn operation(self) -> BitwiseOperation {
         BitwiseOperation::new(BitwiseOperationType::ALL[self.kind], self.x, self.y, self.z)
+    }
+}
+
+impl From<BitwiseOperation> for Lookup {
+    fn from(operation: BitwiseOperation) -> Self {
+        Self {
+            kind: lookup_type_index(operation.lookup_type),
+            x: operation.x,
+            y: operation.y,
+            z: operation.z,
+        }
     }
 }
 
@@ -90,27 +105,16 @@ pub fn bitwise_count(counter: u64, lookup: Lookup) -> u64 {
 /// Every counter that is not 0 after the lookups, all starting from 0, as (place, count), lowest place first
 /// (`BitwiseHistogram`). Places are as in [`Lookup::counter`].
 pub fn bitwise_counts(lookups: &[Lookup]) -> Vec<(usize, u64)> {
-    let mut histogram = BitwiseHistogram::new();
-    for lookup in lookups {
-        histogram.bump(lookup.operation());
+    let mut counters = Counters::new();
+    for &lookup in lookups {
+        counters.bump(lookup);
     }
-    let mut trace = zero_trace();
-    histogram.fill_multiplicities(&mut trace);
-
-    let counters = |row: usize| {
-        let cells: &[FE] = trace.main_table.get_row(row);
-        BitwiseOperationType::ALL
-            .iter()
-            .map(move |&kind| cells[mu_column(kind)].value())
-    };
-    (0..NUM_ROWS)
-        .flat_map(counters)
-        .enumerate()
-        .filter(|&(_, count)| count != 0)
-        .collect()
+    let words = counters.words().into_iter().enumerate();
+    words.filter(|&(_, count)| count != 0).collect()
 }
 
-/// The Rust's counters, to which lookups are added one at a time (`BitwiseHistogram`). For a benchmark.
+/// The Rust's counters (`BitwiseHistogram`). A counter is a `u64` there, and wraps past 2^64 - 1 in a build without checks of
+/// overflow.
 pub struct Counters(BitwiseHistogram);
 
 impl Counters {
@@ -123,6 +127,75 @@ impl Counters {
     /// Adds one lookup.
     pub fn bump(&mut self, lookup: Lookup) {
         self.0.bump(lookup.operation());
+    }
+
+    /// Adds `n` lookups.
+    pub fn bump_n(&mut self, lookup: Lookup, n: u64) {
+        self.0.bump_n(lookup.operation(), n);
+    }
+
+    /// Adds a list of lookups.
+    pub fn add_ops(&mut self, operations: &[BitwiseOperation]) {
+        self.0.add_ops(operations);
+    }
+
+    /// Adds other counters.
+    pub fn merge(&mut self, other: &Self) {
+        self.0.merge(&other.0);
+    }
+
+    /// Adds what the rows of the IS_WH table look up, three words a row: word, half, count (`collect_bitwise_from_is_wh`).
+    pub fn collect_is_wh(&mut self, rows: &[u64]) {
+        self.collect_is_wh_rows(&rows_of(rows));
+    }
+
+    /// The same of rows as the Rust has them. For a benchmark.
+    pub fn collect_is_wh_rows(&mut self, rows: &[(IsWhKey, u64)]) {
+        collect_bitwise_from_is_wh(rows, &mut self.0);
+    }
+
+    /// Writes the multiplicities of a table (`fill_multiplicities`), which leaves them where a counter is 0.
+    pub fn fill_multiplicities(&self, table: &mut BitwiseTable) {
+        self.0.fill_multiplicities(&mut table.0);
+    }
+
+    /// Every counter mod p, at row × 10 + kind, read through the multiplicities of a table.
+    pub fn words(&self) -> Vec<u64> {
+        let mut table = BitwiseTable(zero_trace());
+        self.fill_multiplicities(&mut table);
+        let counters = |cells: &[FE]| BitwiseOperationType::ALL.map(|kind| cells[mu_column(kind)].value());
+        table
+            .0
+            .main_table
+            .data
+            .chunks_exact(BITWISE_COLUMNS)
+            .flat_map(counters)
+            .collect()
+    }
+}
+
+/// The Rust's bitwise table.
+pub struct BitwiseTable(Trace);
+
+impl BitwiseTable {
+    /// The table as its writer makes it (`generate_bitwise_trace`).
+    pub fn generate() -> Self {
+        Self(generate_bitwise_trace())
+    }
+
+    /// A table of these words, 21 a row, all below p.
+    pub fn of_words(table: &[u64]) -> Self {
+        Self(TraceTable::new_main(elements(table), BITWISE_COLUMNS, 1))
+    }
+
+    /// Counts lookups in its multiplicities (`update_multiplicities`).
+    pub fn update_multiplicities(&mut self, operations: &[BitwiseOperation]) {
+        update_multiplicities(&mut self.0, operations);
+    }
+
+    /// Its words, row after row.
+    pub fn words(&self) -> Vec<u64> {
+        words(&self.0)
     }
 }
 

@@ -5,14 +5,15 @@
 use std::process::ExitCode;
 
 use compare::comparison::Comparison;
-use compare::{limit, refusals, rows, say, tally, tuples, values, verdicts};
+use compare::{limit, looked_up, refusals, rows, say, tally, tuples, values, verdicts};
 
 /// An area: it compares with a seed and a number of drawn inputs.
 type Area = fn(&mut Comparison, u64, usize);
 
 /// The areas, in the order in which `all` runs them.
-const AREAS: [(&str, Area); 7] = [
+const AREAS: [(&str, Area); 8] = [
     ("rows", rows::compare),
+    ("looked_up", looked_up::compare),
     ("values", values::compare),
     ("tuples", tuples::compare),
     ("tally", tally::compare),
@@ -24,6 +25,7 @@ const AREAS: [(&str, Area); 7] = [
 const USAGE: &str = "\
 usage: differential all [SEED [N]]       (each of these in turn)
        differential rows [SEED [N]]      (N drawn operations)
+       differential looked_up [SEED [N]] (N drawn lists of keys)
        differential values [SEED [N]]    (N drawn rows of each kind)
        differential tuples [SEED [N]]    (N drawn rows of each kind)
        differential verdict [SEED [N]]   (N changes of words, N of rows, N / 10 tables of many calls)
