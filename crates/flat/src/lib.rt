@@ -8,6 +8,7 @@ use tuple::header::side_number;
 ghost use mathlib.Core.Path.{_≡_};
 ghost use Rattle.flat.specs.Flat.{flatAnswer, flatNumber, flatTuple, flatKey};
 
+pub mod lookup;
 pub mod reader;
 
 // Number and detail of the refusal, or 0 and 0 where the call did its work.
@@ -40,6 +41,17 @@ pub struct FlatTuple {
 pub struct FlatKey {
     pub word: u64,
     pub half: u64,
+}
+
+// The same, and the four words of a lookup in a list.
+#[repr(C)]
+pub struct FlatLookup {
+    pub number: u64,
+    pub detail: u64,
+    pub kind: u64,
+    pub x: u64,
+    pub y: u64,
+    pub z: u64,
 }
 
 // Where a reader stands: number and detail of the first fault, or 0 and 0 while there is none, and then the whole

@@ -49,3 +49,22 @@ pub extern "C" fn keccak_tables_merge(counters: &mut [u64], other: &[u64]) -> Fl
 {
     flat_answer(bitwise_counts::histogram::merge(counters, other))
 }
+
+#[no_mangle]
+pub extern "C" fn keccak_tables_add_ops(counters: &mut [u64], ops: &[u64]) -> FlatAnswer
+    ensures answer { λ r. ⌜ r ≡ flatAnswer (answerOf (addOpsRefusal (now (counters .entry)) (now (ops .entry)))) ⌝ }
+    ensures words { λ _. ⌜ now (counters .exit) ≡ addOpsAfter (now (counters .entry)) (now (ops .entry)) ⌝ }
+{
+    flat_answer(bitwise_lookups::counted::add_ops(counters, ops))
+}
+
+#[no_mangle]
+pub extern "C" fn keccak_tables_bitwise_update_multiplicities(
+    table: &mut [u64],
+    ops: &[u64],
+) -> FlatAnswer
+    ensures answer { λ r. ⌜ r ≡ flatAnswer (answerOf (updateRefusal (now (table .entry)) (now (ops .entry)))) ⌝ }
+    ensures words { λ _. ⌜ now (table .exit) ≡ updateAfter (now (table .entry)) (now (ops .entry)) ⌝ }
+{
+    flat_answer(bitwise_lookups::counted::update_multiplicities(table, ops))
+}

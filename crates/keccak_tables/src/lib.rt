@@ -6,6 +6,8 @@ pub mod core_calls;
 pub mod counters;
 pub mod evaluators;
 pub mod judge_calls;
+pub mod key_rows;
+pub mod lookup_calls;
 pub mod lookups;
 pub mod round_calls;
 pub mod tally_calls;
