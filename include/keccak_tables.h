@@ -218,6 +218,16 @@ typedef struct keccak_tables_key {
     uint64_t half;
 } keccak_tables_key;
 
+/* The answer of a call that gives a lookup: the four words of it in a list, 0 where it is refused. */
+typedef struct keccak_tables_lookup {
+    uint64_t refusal;
+    uint64_t detail;
+    uint64_t kind;
+    uint64_t x;
+    uint64_t y;
+    uint64_t z;
+} keccak_tables_lookup;
+
 /*
  * A verdict. Where both tables hold: `active`, the number of active core rows. Of a failure: `table`, `row` and `index`, all from 0,
  * the index being that of the value or tuple, and 0 of a timestamp that an earlier active core row has. Where it is refused:
@@ -289,6 +299,34 @@ keccak_tables_answer keccak_tables_bitwise_bump(uint64_t *counters, size_t count
 KECCAK_TABLES_MUST_USE
 keccak_tables_answer keccak_tables_bump_n(uint64_t *counters, size_t counters_length, size_t kind, uint8_t x, uint8_t y, uint8_t z,
                                           uint64_t n);
+
+/* A lookup of a kind at x, y and z. 1 kind >= 10, then z >= 16. */
+KECCAK_TABLES_MUST_USE
+keccak_tables_lookup keccak_tables_lookup_new(size_t kind, uint8_t x, uint8_t y, uint8_t z);
+
+/* AND, OR or XOR of two bytes, z being 0. 1 kind >= 10. */
+KECCAK_TABLES_MUST_USE
+keccak_tables_lookup keccak_tables_lookup_byte_op(size_t kind, uint8_t x, uint8_t y);
+
+/* MSB8 or ARE_BYTES of a byte, y and z being 0. 1 kind >= 10. */
+KECCAK_TABLES_MUST_USE
+keccak_tables_lookup keccak_tables_lookup_single_byte(size_t kind, uint8_t x);
+
+/* MSB16 or IS_HALF of x + 256 y, z being 0. 1 kind >= 10. */
+KECCAK_TABLES_MUST_USE
+keccak_tables_lookup keccak_tables_lookup_halfword(size_t kind, uint8_t x, uint8_t y);
+
+/* ZERO of value = x + 256 y + 65,536 z. 1 value >= 1,048,576. */
+KECCAK_TABLES_MUST_USE
+keccak_tables_lookup keccak_tables_lookup_zero(uint32_t value);
+
+/* HWSL of x + 256 y by z bits. 1 kind >= 10, then z >= 16. */
+KECCAK_TABLES_MUST_USE
+keccak_tables_lookup keccak_tables_lookup_shift_op(size_t kind, uint8_t x, uint8_t y, uint8_t z);
+
+/* IS_B20 of x + 256 y + 65,536 z. 1 z >= 16. */
+KECCAK_TABLES_MUST_USE
+keccak_tables_lookup keccak_tables_lookup_b20(uint8_t x, uint8_t y, uint8_t z);
 
 /*
  * Adds a list of lookups to their counters, one each, mod p. 1 the first lookup with kind >= 10 or z >= 16; 2 the list;

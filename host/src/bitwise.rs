@@ -81,6 +81,119 @@ impl BitwiseOperationType {
     }
 }
 
+/// A lookup on the table, by the constructors of the Rust.
+///
+/// ```
+/// use keccak_tables::bitwise::{self, BitwiseOperation};
+/// use keccak_tables::Refusal;
+///
+/// let lookups = [BitwiseOperation::zero(266_804)?, BitwiseOperation::b20(52, 18, 4)?];
+/// let list = BitwiseOperation::list(&lookups);
+/// assert_eq!(list, [2, 52, 18, 4, 5, 52, 18, 4]);
+/// let mut counters = vec![0; bitwise::NUM_COUNTERS];
+/// bitwise::add_ops(&mut counters, &list)?;
+/// assert_eq!(counters[2_668_042], 1);
+/// # Ok::<(), Refusal>(())
+/// ```
+#[derive(Debug, Clone, Copy, PartialEq, Eq, Hash)]
+pub struct BitwiseOperation {
+    /// Its kind.
+    pub lookup_type: BitwiseOperationType,
+    /// The byte X.
+    pub x: u8,
+    /// The byte Y.
+    pub y: u8,
+    /// Z, below 16.
+    pub z: u8,
+}
+
+impl BitwiseOperation {
+    /// A lookup of any kind.
+    ///
+    /// # Errors
+    ///
+    /// [`PastEnd`](Refusal::PastEnd): `z` is 16 or more.
+    pub fn new(lookup_type: BitwiseOperationType, x: u8, y: u8, z: u8) -> Result<Self, Refusal> {
+        Self::from_flat(ffi::lookup_new(lookup_type.number(), x, y, z))
+    }
+
+    /// AND, OR or XOR of two bytes: Z is 0.
+    #[must_use]
+    pub fn byte_op(lookup_type: BitwiseOperationType, x: u8, y: u8) -> Self {
+        Self::of_kind(ffi::lookup_byte_op(lookup_type.number(), x, y))
+    }
+
+    /// The top bit of a byte, or whether it is one: Y and Z are 0.
+    #[must_use]
+    pub fn single_byte(lookup_type: BitwiseOperationType, x: u8) -> Self {
+        Self::of_kind(ffi::lookup_single_byte(lookup_type.number(), x))
+    }
+
+    /// The top bit of the halfword X + 256 Y, or whether it is one: Z is 0.
+    #[must_use]
+    pub fn halfword(lookup_type: BitwiseOperationType, x: u8, y: u8) -> Self {
+        Self::of_kind(ffi::lookup_halfword(lookup_type.number(), x, y))
+    }
+
+    /// Whether a number of 20 bits is 0.
+    ///
+    /// # Errors
+    ///
+    /// [`PastEnd`](Refusal::PastEnd): `value` is 1,048,576 or more.
+    pub fn zero(value: u32) -> Result<Self, Refusal> {
+        Self::from_flat(ffi::lookup_zero(value))
+    }
+
+    /// The halfword X + 256 Y, shifted left by Z bits.
+    ///
+    /// # Errors
+    ///
+    /// [`PastEnd`](Refusal::PastEnd): `z` is 16 or more.
+    pub fn shift_op(lookup_type: BitwiseOperationType, x: u8, y: u8, z: u8) -> Result<Self, Refusal> {
+        Self::from_flat(ffi::lookup_shift_op(lookup_type.number(), x, y, z))
+    }
+
+    /// Whether X + 256 Y + 65,536 Z is below 2^20.
+    ///
+    /// # Errors
+    ///
+    /// [`PastEnd`](Refusal::PastEnd): `z` is 16 or more.
+    pub fn b20(x: u8, y: u8, z: u8) -> Result<Self, Refusal> {
+        Self::from_flat(ffi::lookup_b20(x, y, z))
+    }
+
+    /// Its words in a flat list.
+    #[must_use]
+    pub fn words(&self) -> [u64; LOOKUP_WORDS] {
+        [
+            self.lookup_type.number() as u64,
+            self.x.into(),
+            self.y.into(),
+            self.z.into(),
+        ]
+    }
+
+    /// The flat list of some lookups.
+    #[must_use]
+    pub fn list(operations: &[Self]) -> Vec<u64> {
+        operations.iter().flat_map(Self::words).collect()
+    }
+
+    fn from_flat(flat: ffi::FlatLookup) -> Result<Self, Refusal> {
+        Refusal::from_flat(flat.number, flat.detail).map(|()| Self {
+            lookup_type: BitwiseOperationType::ALL[flat.kind as usize],
+            x: flat.x as u8,
+            y: flat.y as u8,
+            z: flat.z as u8,
+        })
+    }
+
+    /// The answer of a call that refuses nothing but a kind.
+    fn of_kind(flat: ffi::FlatLookup) -> Self {
+        Self::from_flat(flat).expect("every kind has a number below 10")
+    }
+}
+
 /// The counters, one for each row and kind, at row × 10 + kind.
 pub const NUM_COUNTERS: usize = NUM_ROWS * NUM_LOOKUP_TYPES;
 

@@ -46,6 +46,17 @@ pub struct FlatTuple {
     pub multiplicity: u64,
 }
 
+/// The answer of a call that gives a lookup.
+#[repr(C)]
+pub struct FlatLookup {
+    pub number: u64,
+    pub detail: u64,
+    pub kind: u64,
+    pub x: u64,
+    pub y: u64,
+    pub z: u64,
+}
+
 /// A verdict: its kind, then three words as the kind has them.
 #[repr(C)]
 pub struct FlatVerdict {
@@ -135,6 +146,13 @@ bind! {
     generate_bitwise_row = keccak_tables_generate_bitwise_row(index: usize, row: &mut [u64]) -> FlatAnswer;
     bitwise_row_index = keccak_tables_bitwise_row_index(x: u8, y: u8, z: u8) -> FlatNumber;
     bitwise_bump = keccak_tables_bitwise_bump(counters: &mut [u64], kind: usize, x: u8, y: u8, z: u8) -> FlatAnswer;
+    lookup_new = keccak_tables_lookup_new(kind: usize, x: u8, y: u8, z: u8) -> FlatLookup;
+    lookup_byte_op = keccak_tables_lookup_byte_op(kind: usize, x: u8, y: u8) -> FlatLookup;
+    lookup_single_byte = keccak_tables_lookup_single_byte(kind: usize, x: u8) -> FlatLookup;
+    lookup_halfword = keccak_tables_lookup_halfword(kind: usize, x: u8, y: u8) -> FlatLookup;
+    lookup_zero = keccak_tables_lookup_zero(value: u32) -> FlatLookup;
+    lookup_shift_op = keccak_tables_lookup_shift_op(kind: usize, x: u8, y: u8, z: u8) -> FlatLookup;
+    lookup_b20 = keccak_tables_lookup_b20(x: u8, y: u8, z: u8) -> FlatLookup;
     generate_bitwise_trace = keccak_tables_generate_bitwise_trace(table: &mut [u64]) -> FlatAnswer;
     fill_multiplicities = keccak_tables_fill_multiplicities(counters: &[u64], table: &mut [u64]) -> FlatAnswer;
     bump_n =

@@ -130,6 +130,57 @@ static void bitwise_table(void) {
     free(counters);
 }
 
+/* A lookup has these words. */
+#define LOOKUP(lookup, k, a, b, c)                                                                                                \
+    CHECK((lookup).kind == (k) && (lookup).x == (a) && (lookup).y == (b) && (lookup).z == (c))
+
+static void lookups(void) {
+    keccak_tables_lookup lookup = CALL(keccak_tables_lookup_new)(KECCAK_TABLES_KIND_XOR, 52, 18, 4);
+    DONE(lookup);
+    LOOKUP(lookup, 9, 52, 18, 4);
+    lookup = keccak_tables_lookup_new(10, 52, 18, 16);
+    REFUSED(lookup, 1, 10);
+    LOOKUP(lookup, 0, 0, 0, 0);
+    lookup = keccak_tables_lookup_new(9, 52, 18, 16);
+    REFUSED(lookup, 1, 16);
+
+    lookup = CALL(keccak_tables_lookup_byte_op)(KECCAK_TABLES_KIND_AND, 52, 18);
+    DONE(lookup);
+    LOOKUP(lookup, 7, 52, 18, 0);
+    lookup = keccak_tables_lookup_byte_op(10, 52, 18);
+    REFUSED(lookup, 1, 10);
+
+    lookup = CALL(keccak_tables_lookup_single_byte)(KECCAK_TABLES_KIND_ARE_BYTES, 52);
+    DONE(lookup);
+    LOOKUP(lookup, 3, 52, 0, 0);
+    lookup = keccak_tables_lookup_single_byte(SIZE_MAX, 52);
+    REFUSED(lookup, 1, 10);
+
+    lookup = CALL(keccak_tables_lookup_halfword)(KECCAK_TABLES_KIND_MSB16, 52, 18);
+    DONE(lookup);
+    LOOKUP(lookup, 1, 52, 18, 0);
+    lookup = keccak_tables_lookup_halfword(10, 52, 18);
+    REFUSED(lookup, 1, 10);
+
+    lookup = CALL(keccak_tables_lookup_zero)(266804);
+    DONE(lookup);
+    LOOKUP(lookup, 2, 52, 18, 4);
+    lookup = keccak_tables_lookup_zero(1048576);
+    REFUSED(lookup, 1, 1048576);
+
+    lookup = CALL(keccak_tables_lookup_shift_op)(KECCAK_TABLES_KIND_HWSL, 52, 18, 15);
+    DONE(lookup);
+    LOOKUP(lookup, 6, 52, 18, 15);
+    lookup = keccak_tables_lookup_shift_op(10, 52, 18, 16);
+    REFUSED(lookup, 1, 10);
+
+    lookup = CALL(keccak_tables_lookup_b20)(52, 18, 4);
+    DONE(lookup);
+    LOOKUP(lookup, 5, 52, 18, 4);
+    lookup = keccak_tables_lookup_b20(52, 18, 16);
+    REFUSED(lookup, 1, 16);
+}
+
 static void more_counters(void) {
     size_t length = KECCAK_TABLES_BITWISE_COUNTERS;
     uint64_t *counters = calloc(length, sizeof *counters), *other = calloc(length, sizeof *other);
@@ -518,6 +569,7 @@ int main(void) {
     bitwise_counters();
     bitwise_tuples();
     bitwise_table();
+    lookups();
     more_counters();
     constant_calls();
     key_calls();

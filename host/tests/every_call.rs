@@ -3,7 +3,7 @@
 #[allow(dead_code)]
 mod interface;
 
-use keccak_tables::bitwise::BitwiseOperationType;
+use keccak_tables::bitwise::{BitwiseOperation, BitwiseOperationType};
 use keccak_tables::is_wh::{IsWhKey, IsWhRows};
 use keccak_tables::operation_file::Tally;
 use keccak_tables::verdict::{Table, Verdict};
@@ -113,6 +113,28 @@ fn bitwise_table_calls() {
     assert_eq!((row(&table)[20], table[11], table[12]), (111, 0, 0));
     let refused = bitwise::update_multiplicities(&mut table, &ops[..11]);
     assert_eq!(refused, Err(not_whole("ops")));
+}
+
+#[test]
+fn lookup_calls() {
+    let words = |lookup: BitwiseOperation| lookup.words();
+    let kind = BitwiseOperationType::ByteAluXor;
+    assert_eq!(BitwiseOperation::new(kind, 52, 18, 4).map(words), Ok([9, 52, 18, 4]));
+    assert_eq!(BitwiseOperation::byte_op(kind, 52, 18).words(), [9, 52, 18, 0]);
+    let single = BitwiseOperation::single_byte(BitwiseOperationType::Msb8, 52);
+    assert_eq!(single.words(), [0, 52, 0, 0]);
+    let half = BitwiseOperation::halfword(BitwiseOperationType::IsHalf, 52, 18);
+    assert_eq!(BitwiseOperation::list(&[single, half]), [0, 52, 0, 0, 4, 52, 18, 0]);
+    assert_eq!(BitwiseOperation::zero(266_804).map(words), Ok([2, 52, 18, 4]));
+    let shift = BitwiseOperation::shift_op(BitwiseOperationType::Hwsl, 52, 18, 15);
+    assert_eq!(shift.map(words), Ok([6, 52, 18, 15]));
+    assert_eq!(BitwiseOperation::b20(52, 18, 4).map(words), Ok([5, 52, 18, 4]));
+
+    let past_end = |limit| Err(Refusal::PastEnd { limit });
+    assert_eq!(BitwiseOperation::new(kind, 52, 18, 16), past_end(16));
+    assert_eq!(BitwiseOperation::shift_op(kind, 52, 18, 255), past_end(16));
+    assert_eq!(BitwiseOperation::b20(52, 18, 16), past_end(16));
+    assert_eq!(BitwiseOperation::zero(1_048_576), past_end(1_048_576));
 }
 
 #[test]
@@ -537,6 +559,6 @@ fn none_is_left_out() {
         }
     }
     // Those of the archive; two more that allocate a table, a verdict's `holds`, a reader's fault and the lines of its sums, a counter
-    // by its kind, and a kind's number.
-    assert_eq!(functions, interface::exports().len() + 7);
+    // by its kind, once or n times, a kind's number, a lookup's words and a list of them, and the five of rows of keys.
+    assert_eq!(functions, interface::exports().len() + 15);
 }

@@ -7,6 +7,7 @@
 --     number-refused, number-is the answer of a call that gives a number, once the checks are known
 --     is-refused, is-done       what an answer that another function gave says of the checks
 --     passed-if, passed-at      what an accepted call knows of a check, and of those after it
+--     still-if, still-at        a refusal by the first checks stands, whatever is checked later
 --     sets-overwrite            words stored one by one from the front
 --     new-word, new-words, old-words   what an accepted call leaves, word by word
 use Prim.Native.Nat.{ℕ, _≤_, _<_}
@@ -102,6 +103,20 @@ pub passed-at : (found : Option ℕ) (f : ℕ → Refusal) (later : Option Refus
 unfolding refuseAt
 passed-at none f later e = (refl, e)
 passed-at (some k) f later e = (cc, cc)
+
+-- ---- the first checks of a call, made by another function
+
+pub still-if : (b : Bool) (r : Refusal) {q : Refusal} {l m : Option Refusal} → (l ≡ some q → m ≡ some q) → refuseIf b r l ≡ some q
+    → refuseIf b r m ≡ some q
+unfolding refuseIf
+still-if true r h e = e
+still-if false r h e = h e
+
+pub still-at : (found : Option ℕ) (f : ℕ → Refusal) {q : Refusal} {l m : Option Refusal} → (l ≡ some q → m ≡ some q)
+    → refuseAt found f l ≡ some q → refuseAt found f m ≡ some q
+unfolding refuseAt
+still-at none f h e = h e
+still-at (some k) f h e = e
 
 -- ---- words stored one by one
 

@@ -1,10 +1,10 @@
 -- "The histogram is a commutative monoid: increments and merge are order-independent": merging, and what is charged before
 -- it and after it.
-use mathlib.Core.Path.{_≡_, refl, sym, ap, ap₂, _∙_}
+use mathlib.Core.Path.{_≡_, sym, ap, _∙_}
 use mathlib.Core.List.{List}
-use Prim.Native.Nat.{ℕ, _+_, _*_, _%_, _≤_, _<_}
+use Prim.Native.Nat.{ℕ, _+_, _%_, _≤_, _<_}
 use native.Mathlib.Omega.{arith}
-use lib.ListN.{length, getD}
+use lib.ListN.{length}
 use lib.Seq.{ext-getD}
 use Rattle.lists.specs.Tab.{word}
 use Rattle.lists.proofs.Then.{by-le}
@@ -14,11 +14,11 @@ use Rattle.field.specs.Field.{p, fadd}
 use Rattle.field.specs.Elements.{ElementRow}
 use Rattle.field.proofs.Field.{mod-p}
 use Rattle.field.proofs.Sums.{fadd-comm, fadd-assoc, fadd-swap}
-use Rattle.answer.specs.Refusal.{accepted, overwrite}
+use Rattle.answer.specs.Refusal.{accepted}
 use Rattle.answer.proofs.Overwrite.{over-new, over-past, over-length, left}
 use Rattle.bitwise.specs.Columns.{NUM-COUNTERS}
 use Rattle.bitwise.specs.Counters.{counterAt, charge, bumpRefusal, bumpNAfter, merged, mergeRefusal, mergeAfter}
-use Rattle.bitwise.proofs.Counters.{counter-lt, charge-length, charge-same, charge-other, charge-below}
+use Rattle.bitwise.proofs.Counters.{counter-lt, charge-length, charge-same, charge-other, charge-row}
 use Rattle.bitwise.proofs.Refusals.{bump-accepted, merge-accepted}
 
 -- ---- the words of a merged histogram
@@ -136,13 +136,6 @@ module _ (a b : List ℕ) (passed : mergeRefusal a b ≡ accepted) (kind x y z n
       bump-accepted l kind x y z .1
       (record { kind-below = hk; z-below = hz; long = e .long; element = e .below (counterAt kind x y z) at-lt })
 
-  charged-elements : (l : List ℕ) → ElementRow NUM-COUNTERS l → ElementRow NUM-COUNTERS (charge l (counterAt kind x y z) n)
-  charged-elements l e =
-      record {
-        long = omega (arith, charge-length l (counterAt kind x y z) n, e .long);
-        below = charge-below l (counterAt kind x y z) n NUM-COUNTERS (e .long) (e .below);
-      }
-
   first-row : ElementRow NUM-COUNTERS a
   first-row = merge-accepted a b .0 passed .0
 
@@ -159,7 +152,7 @@ module _ (a b : List ℕ) (passed : mergeRefusal a b ≡ accepted) (kind x y z n
   bump-first =
       ap (λ (l : List ℕ). mergeAfter l b) (left (charge a (counterAt kind x y z) n) a (taken a first-row))
       ∙ left (merged (charge a (counterAt kind x y z) n) b) (charge a (counterAt kind x y z) n)
-      (merge-accepted (charge a (counterAt kind x y z) n) b .1 (charged-elements a first-row, other-row))
+      (merge-accepted (charge a (counterAt kind x y z) n) b .1 (charge-row a (counterAt kind x y z) n NUM-COUNTERS first-row, other-row))
       ∙ charge-first a b (first-row .long) (other-row .long) (counterAt kind x y z) n at-lt
       ∙ sym after-is
 
@@ -167,6 +160,6 @@ module _ (a b : List ℕ) (passed : mergeRefusal a b ≡ accepted) (kind x y z n
   bump-last =
       ap (mergeAfter a) (left (charge b (counterAt kind x y z) n) b (taken b other-row))
       ∙ left (merged a (charge b (counterAt kind x y z) n)) a
-      (merge-accepted a (charge b (counterAt kind x y z) n) .1 (first-row, charged-elements b other-row))
+      (merge-accepted a (charge b (counterAt kind x y z) n) .1 (first-row, charge-row b (counterAt kind x y z) n NUM-COUNTERS other-row))
       ∙ charge-last a b (first-row .long) (other-row .long) (counterAt kind x y z) n at-lt
       ∙ sym after-is

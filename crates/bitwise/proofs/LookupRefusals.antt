@@ -1,6 +1,6 @@
 -- `add_ops` and `update_multiplicities` are accepted exactly where none of their conditions holds; and the refusals with
 -- their details, in their order.
-use mathlib.Core.Path.{_≡_, refl, sym, ap, _∙_}
+use mathlib.Core.Path.{_≡_, refl, ap}
 use mathlib.Core.Logic.{_↔_}
 use mathlib.Core.Bool.{Bool, true, false, not}
 use mathlib.Core.List.{List}
@@ -8,22 +8,23 @@ use mathlib.Core.Option.{Option, none, some}
 use Prim.Native.Nat.{ℕ, _+_, _*_, _%_, _≤_, _<_}
 use native.Mathlib.Omega.{arith}
 use borrow.Author.Tests.{leb-false, ltb-false, le-leb, lt-leb, lt-ltb, le-ltb, eq-eqb, ne-eqb, eqb-true, not-false}
-use lib.Dec.{eqb, ltb}
+use lib.Dec.{eqb}
 use lib.ListN.{length}
 use Rattle.lists.specs.Tab.{word}
 use Rattle.lists.specs.First.{first, firstAt}
-use Rattle.lists.specs.Failure.{FirstAt}
 use Rattle.lists.proofs.First.{first-hit, first-none, at-clear, at-nothing, at-hit}
 use Rattle.field.specs.Field.{p}
 use Rattle.field.specs.Elements.{ElementRow}
 use Rattle.field.proofs.NotElement.{all-elements, none-found, first-found}
-use Rattle.answer.specs.Refusal.{refuseIf, refuseAt, accepted, answerOf, tooShort}
+use Rattle.answer.specs.Refusal.{refuseIf, refuseAt, accepted, tooShort}
 use Rattle.answer.specs.declared.Refusal.{Refusal}
 use Rattle.answer.specs.declared.Refusal.the-variants.{PastEnd, NotWhole, TooShort, NotElement}
 use Rattle.answer.proofs.Laws.{refuse-yes, refuse-no, at-yes, at-no, passed-if, passed-at}
 use Rattle.bitwise.specs.Lookups.{Lookup, lookupCount, kindOf, xOf, yOf, zOf, pastAt, notByteAt, lookupPast, lookupsCut, lookupNotByte, addOpsRefusal, muAt, notElementMu, updateRefusal}
+use Rattle.bitwise.specs.Counters.{charge}
+use Rattle.bitwise.proofs.Counters.{charge-length, charge-below}
 use Rattle.bitwise.proofs.Refusals.{FirstLarge}
-use Rattle.bitwise.proofs.Lookups.{lookups-are, none-past, none-not-byte, past-kind, past-z, past-none, byte-x, byte-y, byte-none}
+use Rattle.bitwise.proofs.Lookups.{lookups-are, none-not-byte, past-kind, past-z, past-none, byte-x, byte-y, byte-none, mu-lt}
 
 -- ---- the checks of a list, whatever the later ones say
 
@@ -168,10 +169,37 @@ module _ (table ops : List ℕ) where
         (refuse-no _ (le-ltb (length table) 22020096 (h .long))
         (at-no _ (mus-none table 10485760 (h .below)) refl))
 
+-- one more on a word leaves it so
+pub mu-row : (table : List ℕ) (at n : ℕ) → MuTable table → MuTable (charge table at n)
+mu-row table at n h =
+    record {
+      long = omega (arith, charge-length table at n, h .long);
+      below = λ i l. charge-below table at n (muAt i) (omega (arith, mu-lt i l, h .long)) (h .below i l);
+    }
+
 -- ---- a call whose first three checks another function made
+module _ (ops : List ℕ) (room needed : ℕ) where
+  -- what such a call knows once they have passed
+  pub record Checked : Type 0 where
+    pub past : first (pastAt ops) (lookupCount ops) ≡ none
+    pub whole : not (eqb (length ops % 4) 0) ≡ false
+    pub fits : needed ≤ room
+
+  pub checked : lookupPast ops (lookupsCut ops (tooShort room needed accepted)) ≡ none → Checked
+  checked e =
+      let a = passed-at _ _ _ e in
+      let b = passed-if _ _ _ (a .1) in
+      let c = passed-if _ _ _ (b .1) in
+      record { past = a .0; whole = b .0; fits = ltb-false room needed (c .0) }
+
+  -- and the later checks decide
+  pub checked-later : {later o : Option Refusal} → Checked → later ≡ o → lookupPast ops (lookupsCut ops (tooShort room needed later)) ≡ o
+  checked-later k q = at-no _ (k .past) (refuse-no _ (k .whole) (refuse-no _ (le-ltb room needed (k .fits)) q))
+
 some-none : (r : Refusal) → none ≡ some r → ⊥
 some-none r e = let z : _≡_ {A = ℕ} 0 1 = cc in omega arith
 
+-- where they refuse, the call is refused so
 pub three-refused : (o : Option ℕ) (f : ℕ → Refusal) (b c : Bool) (q s : Refusal) (later : Option Refusal) {r : Refusal}
     → refuseAt o f (refuseIf b q (refuseIf c s accepted)) ≡ some r → refuseAt o f (refuseIf b q (refuseIf c s later)) ≡ some r
 unfolding refuseAt refuseIf

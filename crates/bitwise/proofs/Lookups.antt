@@ -1,30 +1,29 @@
 -- Lookups that are counted: what the checks of a list say, and that counting into the counters and filling the table after it
 -- is counting into the table.
-use mathlib.Core.Path.{_≡_, refl, sym, ap, subst, _∙_}
+use mathlib.Core.Path.{_≡_, refl, sym, ap, _∙_}
 use mathlib.Core.Bool.{Bool, true, false}
-use mathlib.Core.List.{List, _++_}
-use mathlib.Core.Option.{Option, none, some, orElse}
+use mathlib.Core.List.{List}
+use mathlib.Core.Option.{none, some, orElse}
 use Prim.Native.Nat.{ℕ, zero, suc, _+_, _-_, _*_, _/_, _%_, _≤_, _<_}
-use native.Mathlib.Nat.{div-add-mod'}
+use native.Mathlib.Nat.{add-zero, add-assoc, mod-add-mod, mod-eq-of-lt}
 use native.Mathlib.Numerals.{add-one}
 use native.Mathlib.Omega.{arith}
-use borrow.Author.Tests.{leb-true, leb-false, le-leb, lt-leb}
-use lib.Dec.{leb}
-use lib.ListN.{length, getD}
+use borrow.Author.Tests.{leb-false, le-leb, lt-leb, eq-eqb, ne-eqb}
+use lib.Dec.{leb, eqb}
+use lib.ListN.{length}
 use lib.Seq.{ext-getD}
-use Rattle.lists.specs.Tab.{tab, word}
-use Rattle.lists.specs.First.{when, first}
+use Rattle.lists.specs.Tab.{pick, word}
+use Rattle.lists.specs.First.{when, first, countBelow}
 use Rattle.lists.proofs.Then.{by-le}
 use Rattle.lists.proofs.Kept.{by-eq}
 use Rattle.lists.proofs.First.{first-clear, first-none}
 use Rattle.field.specs.Field.{p}
-use Rattle.bitwise.specs.Columns.{NUM-ROWS, NUM-COLUMNS, NUM-COUNTERS, TABLE-WORDS}
-use Rattle.bitwise.specs.Counters.{counterAt, charge}
+use Rattle.bitwise.specs.Columns.{NUM-ROWS, NUM-COUNTERS, TABLE-WORDS}
+use Rattle.bitwise.specs.Counters.{charge}
 use Rattle.bitwise.specs.Table.{filled}
-use Rattle.bitwise.specs.Tuples.{kindAt, mu-column}
-use Rattle.bitwise.specs.Lookups.{Lookup, lookupCount, kindOf, xOf, yOf, zOf, pastAt, notByteAt, chargeEach, lookupCounter, addedOps, muAt, updatedMus}
+use Rattle.bitwise.specs.Lookups.{Lookup, kindOf, xOf, yOf, zOf, pastAt, notByteAt, chargeEach, lookupCounter, muAt}
 use Rattle.bitwise.proofs.Numbers.{mu-column-at}
-use Rattle.bitwise.proofs.Counters.{counter-lt, charge-length, charge-same, charge-other, charge-below}
+use Rattle.bitwise.proofs.Counters.{counter-lt, charge-length, charge-same, charge-other}
 use Rattle.bitwise.proofs.Table.{filled-count, filled-fixed, filled-past, filled-length}
 
 -- ---- one of two tests, the first before the second
@@ -94,9 +93,6 @@ lookups-are ops n e f i l =
     let b = byte-clear ops i (first-clear (notByteAt ops) n i f l) in
     record { kind-below = a .0; x-below = b .0; y-below = b .1; z-below = a .1 }
 
-pub none-past : (ops : List ℕ) (n : ℕ) → ((i : ℕ) → i < n → Lookup ops i) → first (pastAt ops) n ≡ none
-none-past ops n h = first-none (pastAt ops) n (λ i l. past-none ops i (h i l .kind-below) (h i l .z-below))
-
 pub none-not-byte : (ops : List ℕ) (n : ℕ) → ((i : ℕ) → i < n → Lookup ops i) → first (notByteAt ops) n ≡ none
 none-not-byte ops n h = first-none (notByteAt ops) n (λ i l. byte-none ops i (h i l .x-below) (h i l .y-below))
 
@@ -114,6 +110,24 @@ module _ (at : ℕ → ℕ) where
   each-length zero words = refl
   each-length (suc i) words = charge-length (chargeEach at i words) (at i) 1 ∙ each-length i words
 
+  -- a word below p is afterwards what it was and as often one more as it was named, mod p
+  pub each-counts : (n : ℕ) (words : List ℕ) (k : ℕ) → k < length words → word words k < p
+      → word (chargeEach at n words) k ≡ (word words k + countBelow (λ i. eqb k (at i)) n) % p
+  unfolding chargeEach countBelow
+  each-counts zero words k b h = sym (mod-eq-of-lt h) ∙ ap (λ (m : ℕ). m % p) (sym (add-zero (word words k)))
+  each-counts (suc i) words k b h =
+      let before = each-counts i words k b h in
+      let c = countBelow (λ j. eqb k (at j)) i in
+      by-eq k (at i)
+      (λ e. let room : at i < length (chargeEach at i words) = omega (arith, e, b, each-length i words) in
+      ap (word (charge (chargeEach at i words) (at i) 1)) e ∙ charge-same (chargeEach at i words) (at i) 1 room
+      ∙ ap (λ (m : ℕ). (m + 1) % p) (ap (word (chargeEach at i words)) (sym e) ∙ before)
+      ∙ mod-add-mod (word words k + c) p 1
+      ∙ ap (λ (m : ℕ). m % p) (add-assoc (word words k) c 1)
+      ∙ ap (λ (t : Bool). (word words k + pick t (c + 1) c) % p) (sym (eq-eqb k (at i) e)))
+      (λ e. charge-other (chargeEach at i words) (at i) 1 k e ∙ before
+      ∙ ap (λ (t : Bool). (word words k + pick t (c + 1) c) % p) (sym (ne-eqb k (at i) e)))
+
 -- ---- where the counters stand in the table
 pub mu-is : (i : ℕ) → muAt i ≡ i / 10 * 21 + (11 + i % 10)
 unfolding muAt
@@ -128,7 +142,7 @@ mu-apart i j e = let a = mu-is i in let b = mu-is j in let q : i / 10 * 21 + (11
     omega (arith, q, d)
 
 -- a word of the table is a fixed one, or stands for a counter
-by-column : {P : Type 0} (k : ℕ) → k < TABLE-WORDS → ((r c : ℕ) → r < NUM-ROWS → c < 11 → k ≡ r * 21 + c → P) → ((j : ℕ) → j < NUM-COUNTERS → k ≡ muAt j → P) → P
+pub by-column : {P : Type 0} (k : ℕ) → k < TABLE-WORDS → ((r c : ℕ) → r < NUM-ROWS → c < 11 → k ≡ r * 21 + c → P) → ((j : ℕ) → j < NUM-COUNTERS → k ≡ muAt j → P) → P
 by-column k h f g =
     by-le 11 (k % 21)
     (λ l. let j : ℕ = k / 21 * 10 + (k % 21 - 11) in

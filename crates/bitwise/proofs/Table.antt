@@ -1,10 +1,10 @@
 -- The whole table: its rows as they are generated, and with their multiplicities.
 use mathlib.Core.Path.{_≡_, refl, sym, ap, _∙_}
 use mathlib.Core.List.{List, _++_}
-use Prim.Native.Nat.{ℕ, _+_, _-_, _*_, _/_, _%_, _≤_, _<_}
+use Prim.Native.Nat.{ℕ, _+_, _*_, _%_, _≤_, _<_}
 use native.Mathlib.Omega.{arith}
-use lib.Arith.{digits-lt, digits-div, digits-mod}
-use lib.ListN.{length, getD, length-append, List·getD-append}
+use lib.Arith.{digits-div, digits-mod}
+use lib.ListN.{length, length-append, List·getD-append}
 use lib.Seq.{getD-append-add}
 use Rattle.lists.specs.Tab.{tab, word, rowAt, cellsOf, tableOf}
 use Rattle.lists.proofs.Laws.{length-tab, getD-tab, length-table, rowAt-table}
@@ -34,6 +34,18 @@ length-bitwiseTable = length-table NUM-ROWS NUM-COLUMNS traceRow
 pub bitwiseTable-row : (i : ℕ) → i < NUM-ROWS → rowAt NUM-COLUMNS bitwiseTable i ≡ bitwiseRow i ++ tab 10 (λ k. 0)
 unfolding bitwiseTable traceRow
 bitwiseTable-row i h = rowAt-table NUM-ROWS NUM-COLUMNS traceRow i h (length-traceRow i)
+
+-- every multiplicity is 0, in what the call leaves of a table that is long enough
+pub trace-mu : (table : List ℕ) (r k : ℕ) → r < NUM-ROWS → k < 10 → word (overwrite bitwiseTable table) (r * 21 + (11 + k)) ≡ 0
+unfolding bitwiseTable tableOf traceRow
+trace-mu table r k hr hk =
+    let b : 11 + k < 21 = omega arith in
+    over-new TABLE-WORDS (cellsOf NUM-COLUMNS traceRow) table (r * 21 + (11 + k)) (omega arith)
+    ∙ ap (λ (q : ℕ). word (traceRow q) ((r * 21 + (11 + k)) % 21)) (digits-div r b)
+    ∙ ap (word (traceRow r)) (digits-mod r b)
+    ∙ ap (λ (n : ℕ). word (bitwiseRow r ++ tab 10 (λ j. 0)) (n + k)) (sym (length-bitwiseRow r))
+    ∙ getD-append-add (bitwiseRow r) (tab 10 (λ j. 0)) k 0
+    ∙ getD-tab 10 (λ j. 0) k 0 hk
 
 -- ---- with its multiplicities
 

@@ -26,7 +26,8 @@ use Rattle.keccak_rc.proofs.Found.{rc-values, rc-round, rc-tuple}
 use Rattle.bus_sums.specs.Sums.{share, shares, bitwiseAt, bitwiseShare, constantAt, constantsShare}
 use Rattle.bus_sums.proofs.Shares.{On, pick-some, share-none, share-is, shares-zero, sum-place, sum-zero}
 use Rattle.bus_sums.proofs.Rows.{fixed}
-use Rattle.bus_sums.proofs.Places.{placeRow, placeKind, Placed}
+use Rattle.bitwise.specs.Charge.{placeRow, placeKind}
+use Rattle.bitwise.proofs.Charge.{Placed}
 
 pick-on : (t : Bool) (n : ℕ) → T t → pick t n 0 ≡ n
 pick-on true n h = refl

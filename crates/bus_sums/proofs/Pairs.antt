@@ -19,9 +19,9 @@ use Rattle.tuple.specs.declared.Bus.{Bus}
 use Rattle.tuple.specs.declared.Bus.the-variants.{IsHalfword, IsWh, IsB20}
 use Rattle.tuple.specs.declared.Side.{Side}
 use Rattle.tuple.specs.declared.Side.the-variants.{Sender, Receiver}
+use Rattle.is_wh.specs.Row.{pairRow}
 use Rattle.is_wh.specs.Tuples.{isWhTuple}
 use Rattle.is_wh.proofs.Tuples.{mu-sent, half-sent, pair-received}
-use Rattle.is_wh.proofs.Received.{pairRow}
 use Rattle.matching.specs.Matching.{Matched}
 use Rattle.matching.proofs.Matching.{is-wh-of}
 use Rattle.keccak.specs.Columns.{state-ptr}

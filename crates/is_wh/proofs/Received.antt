@@ -9,6 +9,7 @@ use Rattle.lists.specs.Tab.{word}
 use Rattle.field.specs.Field.{fadd, fmul}
 use Rattle.tuple.specs.Tuple.{Tuple}
 use Rattle.is_wh.specs.Columns.{value}
+use Rattle.is_wh.specs.Row.{pairRow}
 use Rattle.is_wh.specs.Key.{of-dword}
 use Rattle.is_wh.specs.Tuples.{isWhTuple, is-whh}
 use Rattle.is_wh.specs.Found.{IsWhFound}
@@ -17,10 +18,6 @@ use Rattle.is_wh.proofs.Tuples.{pair-received}
 -- two halves make the word
 halves : (a b : ℕ) → a < 2 ^ 16 → b < 2 ^ 16 → fadd a (fmul 65536 b) ≡ a + 65536 * b
 halves a b ha hb = ap (fadd a) (mod-eq-of-lt (omega arith)) ∙ mod-eq-of-lt (omega arith)
-
--- the row of a pair, as `generate_is_wh_trace` fills it
-abbrev pub pairRow : ℕ → ℕ → ℕ → List ℕ
-pairRow w h mu = h ∷ w % 2 ^ 16 ∷ w / 2 ^ 16 ∷ mu ∷ []
 
 received : (row : List ℕ) → isWhTuple row 4 .values ≡ fadd (word row 1) (fmul 65536 (word row 2)) ∷ word row 0 ∷ []
 received row = ap (λ (t : Tuple). t .values) (pair-received row 4 (omega arith))

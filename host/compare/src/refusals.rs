@@ -20,12 +20,14 @@ use crate::untouched::Untouched;
 use crate::{looked_up, rows, tuples, values, verdicts};
 
 /// The numbers with which each call is tried, 0 being that it does its work. What only a file of 37 GB can cause is in
-/// `limit.rs`: 1 in `tally_feed`, `tally_finish` and `read_operations`.
+/// `limit.rs`: 1 in `tally_feed`, `tally_finish` and `read_operations`. The bindings' lookups have no kind past the last; the tests of
+/// the header try it.
 ///
 /// | what | 1 | 2 | 3 | 4 | 5 | 6 |
 /// |---|---|---|---|---|---|---|
 /// | a bitwise or constant row | index | | slice | | | |
 /// | `bitwise_bump`, `bump_n` | kind, Z | | counters | | counter | |
+/// | a lookup | kind, Z, value | | | | | |
 /// | a bitwise table, filled or not | | | counters, table | | counter | |
 /// | `merge` | | | both | | a counter of either | |
 /// | a list of lookups on counters or a table | kind, Z | list | slice | | counter, X, Y | |
@@ -39,10 +41,17 @@ use crate::{looked_up, rows, tuples, values, verdicts};
 /// | `verdict` | | core, round | | | core, round | |
 /// | a file's reader | n | | | address | | mark, cut |
 /// | `read_operations` | n | | list | address | | mark, cut |
-pub const MATRIX: [(&str, &[u64]); 42] = [
+pub const MATRIX: [(&str, &[u64]); 49] = [
     ("generate_bitwise_row", &[0, 1, 3]),
     ("bitwise_row_index", &[0, 1]),
     ("bitwise_bump", &[0, 1, 3, 5]),
+    ("lookup_new", &[0, 1]),
+    ("lookup_byte_op", &[0]),
+    ("lookup_single_byte", &[0]),
+    ("lookup_halfword", &[0]),
+    ("lookup_zero", &[0, 1]),
+    ("lookup_shift_op", &[0, 1]),
+    ("lookup_b20", &[0, 1]),
     ("generate_bitwise_trace", &[0, 3]),
     ("fill_multiplicities", &[0, 3, 5]),
     ("bump_n", &[0, 1, 3, 5]),

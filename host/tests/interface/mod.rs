@@ -8,6 +8,7 @@ use std::path::{Path, PathBuf};
 #[derive(Debug, Clone, PartialEq, Eq)]
 pub enum Passed {
     Byte,
+    Half,
     Word,
     Size,
     ReadBytes,
@@ -31,11 +32,12 @@ pub type Functions = BTreeMap<String, Signature>;
 pub type Structs = BTreeMap<String, Vec<(String, Passed)>>;
 
 /// The names of the structs in the header and in the archive's source.
-const STRUCTS: [(&str, &str); 7] = [
+const STRUCTS: [(&str, &str); 8] = [
     ("keccak_tables_answer", "FlatAnswer"),
     ("keccak_tables_number", "FlatNumber"),
     ("keccak_tables_tuple", "FlatTuple"),
     ("keccak_tables_key", "FlatKey"),
+    ("keccak_tables_lookup", "FlatLookup"),
     ("keccak_tables_judgement", "FlatVerdict"),
     ("keccak_tables_cursor", "FlatCursor"),
     ("keccak_tables_sums", "FlatTally"),
@@ -107,6 +109,7 @@ fn word(text: &str) -> &str {
 fn of_rust_type(name: &str) -> Vec<Passed> {
     match name {
         "u8" => vec![Passed::Byte],
+        "u32" => vec![Passed::Half],
         "u64" => vec![Passed::Word],
         "usize" => vec![Passed::Size],
         "&[u8]" => vec![Passed::ReadBytes, Passed::Size],
@@ -196,6 +199,7 @@ fn c_declaration(declaration: &str) -> (String, Passed) {
     let (kind, name) = declaration.split_at(at);
     let passed = match kind.trim() {
         "uint8_t" => Passed::Byte,
+        "uint32_t" => Passed::Half,
         "uint64_t" => Passed::Word,
         "size_t" => Passed::Size,
         "const uint8_t *" => Passed::ReadBytes,

@@ -3,6 +3,7 @@
 
 mod bitwise;
 mod keys;
+mod operations;
 pub mod refusals;
 
 use keccak_tables::P;

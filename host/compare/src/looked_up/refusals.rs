@@ -18,6 +18,7 @@ const TOO_MANY_KEYS: u64 = MAX_KEYS as u64 + 1;
 
 /// The refusals of the calls of this area.
 pub fn compare(comparison: &mut Comparison, words: &mut Words) {
+    super::operations::compare(comparison);
     comparison.group("refusals: the bitwise table, its multiplicities and counters");
     let mut long = Long::new(words);
     tables(comparison, &mut long);

@@ -1,0 +1,12 @@
+pub mod Distinct
+pub mod Lists
+pub mod Keys
+pub mod Flat
+pub mod Runs
+pub mod Counts
+pub mod Order
+pub mod Weights
+pub mod Scan
+pub mod Filling
+pub mod Refusals
+pub mod Answers

@@ -1,0 +1,5 @@
+pub mod Rows
+pub mod Lists
+pub mod Loads
+pub mod Calls
+pub mod Meaning
