@@ -114,7 +114,7 @@ impl BitwiseOperation {
     ///
     /// [`PastEnd`](Refusal::PastEnd): `z` is 16 or more.
     pub fn new(lookup_type: BitwiseOperationType, x: u8, y: u8, z: u8) -> Result<Self, Refusal> {
-        Self::from_flat(ffi::lookup_new(lookup_type.number(), x, y, z))
+        Self::from_flat(ffi::lookup_new(lookup_type.number(), x, y, z), "z")
     }
 
     /// AND, OR or XOR of two bytes: Z is 0.
@@ -141,7 +141,7 @@ impl BitwiseOperation {
     ///
     /// [`PastEnd`](Refusal::PastEnd): `value` is 1,048,576 or more.
     pub fn zero(value: u32) -> Result<Self, Refusal> {
-        Self::from_flat(ffi::lookup_zero(value))
+        Self::from_flat(ffi::lookup_zero(value), "value")
     }
 
     /// The halfword X + 256 Y, shifted left by Z bits.
@@ -150,7 +150,7 @@ impl BitwiseOperation {
     ///
     /// [`PastEnd`](Refusal::PastEnd): `z` is 16 or more.
     pub fn shift_op(lookup_type: BitwiseOperationType, x: u8, y: u8, z: u8) -> Result<Self, Refusal> {
-        Self::from_flat(ffi::lookup_shift_op(lookup_type.number(), x, y, z))
+        Self::from_flat(ffi::lookup_shift_op(lookup_type.number(), x, y, z), "z")
     }
 
     /// Whether X + 256 Y + 65,536 Z is below 2^20.
@@ -159,7 +159,7 @@ impl BitwiseOperation {
     ///
     /// [`PastEnd`](Refusal::PastEnd): `z` is 16 or more.
     pub fn b20(x: u8, y: u8, z: u8) -> Result<Self, Refusal> {
-        Self::from_flat(ffi::lookup_b20(x, y, z))
+        Self::from_flat(ffi::lookup_b20(x, y, z), "z")
     }
 
     /// Its words in a flat list.
@@ -179,8 +179,9 @@ impl BitwiseOperation {
         operations.iter().flat_map(Self::words).collect()
     }
 
-    fn from_flat(flat: ffi::FlatLookup) -> Result<Self, Refusal> {
-        Refusal::from_flat(flat.number, flat.detail).map(|()| Self {
+    /// The answer of a call of which that argument alone can be past its end: every kind has a number below 10.
+    fn from_flat(flat: ffi::FlatLookup, argument: &'static str) -> Result<Self, Refusal> {
+        Refusal::from_flat(flat.number, flat.detail, |_, _| argument).map(|()| Self {
             lookup_type: BitwiseOperationType::ALL[flat.kind as usize],
             x: flat.x as u8,
             y: flat.y as u8,
@@ -190,7 +191,7 @@ impl BitwiseOperation {
 
     /// The answer of a call that refuses nothing but a kind.
     fn of_kind(flat: ffi::FlatLookup) -> Self {
-        Self::from_flat(flat).expect("every kind has a number below 10")
+        Self::from_flat(flat, "lookup_type").expect("every kind has a number below 10")
     }
 }
 

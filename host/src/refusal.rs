@@ -7,11 +7,13 @@ use crate::bitwise::NUM_LOOKUP_TYPES;
 use crate::is_wh::MAX_KEYS;
 use crate::operation::MAX_OPS;
 
-/// The numbers of the refusals that an argument is named in.
+// The refusals' numbers.
 pub(crate) const PAST_END: u64 = 1;
 pub(crate) const NOT_WHOLE: u64 = 2;
 pub(crate) const TOO_SHORT: u64 = 3;
+const HIGH_ADDRESS: u64 = 4;
 pub(crate) const NOT_ELEMENT: u64 = 5;
+const BAD_RECORD: u64 = 6;
 
 /// Which of the lent slices is not whole.
 #[derive(Debug, Clone, Copy, PartialEq, Eq, Hash)]
@@ -27,7 +29,7 @@ pub enum Lent {
 /// Why a call did nothing. A call's checks are made in this order, each over all its arguments; but a file is read before the
 /// slice that takes its words is looked at, record by record, and there 6 comes before 4.
 ///
-/// An argument is told by its name in the call that was made.
+/// `argument` is the name of the argument in the call's signature; of a [`Tally`](crate::operation_file::Tally) it is that of `feed`.
 ///
 /// Later versions may refuse for further reasons, so a `match` needs an arm for the rest.
 #[non_exhaustive]
@@ -81,9 +83,9 @@ impl Refusal {
             Self::PastEnd { .. } => PAST_END,
             Self::NotWhole { .. } => NOT_WHOLE,
             Self::TooShort { .. } => TOO_SHORT,
-            Self::HighAddress { .. } => 4,
+            Self::HighAddress { .. } => HIGH_ADDRESS,
             Self::NotElement { .. } => NOT_ELEMENT,
-            Self::BadRecord { .. } => 6,
+            Self::BadRecord { .. } => BAD_RECORD,
         }
     }
 
@@ -100,8 +102,10 @@ impl Refusal {
         }
     }
 
-    /// What a flat answer says: nothing where the call did its work, by number 0. Of a refusal `name` says the argument, by the number
-    /// and the detail: where several arguments of the call can have that number, by the call's checks of it in their order.
+    /// What a flat answer says: nothing where the call did its work, by number 0.
+    ///
+    /// Of a refusal `name` says the argument, by its number and detail. Where several arguments of a call can have one number, it makes
+    /// the call's checks of that number again, in their order, up to the last, which is what is left.
     pub(crate) fn from_flat(number: u64, detail: u64, name: impl FnOnce(u64, u64) -> &'static str) -> Result<(), Self> {
         if number == 0 {
             return Ok(());
@@ -124,12 +128,12 @@ impl Refusal {
                 argument,
                 needed: detail,
             },
-            4 => Self::HighAddress { address: detail },
+            HIGH_ADDRESS => Self::HighAddress { address: detail },
             NOT_ELEMENT => Self::NotElement {
                 argument,
                 place: detail,
             },
-            6 => Self::BadRecord { start: detail },
+            BAD_RECORD => Self::BadRecord { start: detail },
             _ => unreachable!("the definition of the answers has no refusal {number}"),
         })
     }
@@ -202,17 +206,10 @@ mod tests {
 
     #[test]
     fn each_refusal_has_its_number_its_detail_and_its_argument() {
-        let (argument, whole) = ("rows", |argument, which| Refusal::NotWhole { argument, which });
+        let argument = "rows";
+        let whole = |argument, which| Refusal::NotWhole { argument, which };
         let cases = [
-            (
-                1,
-                16,
-                "z",
-                Refusal::PastEnd {
-                    argument: "z",
-                    limit: 16,
-                },
-            ),
+            (1, 16, argument, Refusal::PastEnd { argument, limit: 16 }),
             (2, 0, "core", whole("core", Lent::Core)),
             (2, 1, "round", whole("round", Lent::Round)),
             (2, 2, argument, whole(argument, Lent::List)),

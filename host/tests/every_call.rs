@@ -130,11 +130,12 @@ fn lookup_calls() {
     assert_eq!(shift.map(words), Ok([6, 52, 18, 15]));
     assert_eq!(BitwiseOperation::b20(52, 18, 4).map(words), Ok([5, 52, 18, 4]));
 
-    let past_end = |limit| Err(Refusal::PastEnd { limit });
-    assert_eq!(BitwiseOperation::new(kind, 52, 18, 16), past_end(16));
-    assert_eq!(BitwiseOperation::shift_op(kind, 52, 18, 255), past_end(16));
-    assert_eq!(BitwiseOperation::b20(52, 18, 16), past_end(16));
-    assert_eq!(BitwiseOperation::zero(1_048_576), past_end(1_048_576));
+    let refused = Err(past_end("z", 16));
+    assert_eq!(BitwiseOperation::new(kind, 52, 18, 16), refused);
+    assert_eq!(BitwiseOperation::shift_op(kind, 52, 18, 255), refused);
+    assert_eq!(BitwiseOperation::b20(52, 18, 16), refused);
+    let refused = BitwiseOperation::zero(1_048_576);
+    assert_eq!(refused, Err(past_end("value", 1_048_576)));
 }
 
 #[test]
