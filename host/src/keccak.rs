@@ -69,16 +69,11 @@ pub const LAST_ADDRESS: u64 = u64::MAX - 192;
 /// fewer than 486 words; [`HighAddress`](Refusal::HighAddress): an operation's address is above
 /// [`LAST_ADDRESS`], in any operation of the list.
 pub fn keccak_row(ops: &[u64], index: usize, row: &mut [u64]) -> Result<(), Refusal> {
-    ffi::keccak_row(ops, index, row).named(|number, _| of_list_and_index(number, ops.len() / OP_WORDS))
-}
-
-/// The argument of a refusal by `keccak_row` on a list of n operations: their number is checked before the index.
-fn of_list_and_index(number: u64, n: usize) -> &'static str {
-    match number {
-        PAST_END if n <= MAX_OPS => "index",
+    ffi::keccak_row(ops, index, row).named(|number, _| match number {
+        PAST_END if ops.len() / OP_WORDS <= MAX_OPS => "index",
         TOO_SHORT => "row",
         _ => "ops",
-    }
+    })
 }
 
 /// Writes the core table of a list of operations to the front of `table`, which has room for [`keccak_height`] rows.
@@ -218,23 +213,4 @@ pub fn bus_interaction(row: &[u64], index: usize, syscall: u64, out: &mut [u64])
 /// [`NotElement`](Refusal::NotElement): a column of `row` is p or more.
 pub fn bus_interactions(row: &[u64], syscall: u64, out: &mut [u64]) -> Result<(), Refusal> {
     ffi::keccak_bus_interactions(row, syscall, out).named(|number, _| of_row(number, row, NUM_COLUMNS))
-}
-
-#[cfg(test)]
-mod tests {
-    use super::*;
-
-    /// A list that is too long takes more memory than a test may have.
-    #[test]
-    fn of_too_long_a_list_the_list_is_named() {
-        let names = [0, 1, MAX_OPS, MAX_OPS + 1, usize::MAX].map(|n| of_list_and_index(PAST_END, n));
-        assert_eq!(names, ["index", "index", "index", "ops", "ops"]);
-        for (argument, refused) in [
-            ("ops", height_for(MAX_OPS + 1, "ops")),
-            ("n", keccak_height(MAX_OPS + 1)),
-        ] {
-            let limit = MAX_OPS as u64 + 1;
-            assert_eq!(refused, Err(Refusal::PastEnd { argument, limit }));
-        }
-    }
 }
