@@ -18,7 +18,7 @@
 //! ```
 
 use crate::ffi;
-use crate::refusal::Refusal;
+use crate::refusal::{NOT_ELEMENT, PAST_END, Refusal, TOO_SHORT, is_large_at};
 use crate::tuple::BusInteraction;
 
 /// The rows of the table: X, Y below 256 and Z below 16.
@@ -114,7 +114,7 @@ impl BitwiseOperation {
     ///
     /// [`PastEnd`](Refusal::PastEnd): `z` is 16 or more.
     pub fn new(lookup_type: BitwiseOperationType, x: u8, y: u8, z: u8) -> Result<Self, Refusal> {
-        Self::from_flat(ffi::lookup_new(lookup_type.number(), x, y, z))
+        Self::from_flat(ffi::lookup_new(lookup_type.number(), x, y, z), "z")
     }
 
     /// AND, OR or XOR of two bytes: Z is 0.
@@ -141,7 +141,7 @@ impl BitwiseOperation {
     ///
     /// [`PastEnd`](Refusal::PastEnd): `value` is 1,048,576 or more.
     pub fn zero(value: u32) -> Result<Self, Refusal> {
-        Self::from_flat(ffi::lookup_zero(value))
+        Self::from_flat(ffi::lookup_zero(value), "value")
     }
 
     /// The halfword X + 256 Y, shifted left by Z bits.
@@ -150,7 +150,7 @@ impl BitwiseOperation {
     ///
     /// [`PastEnd`](Refusal::PastEnd): `z` is 16 or more.
     pub fn shift_op(lookup_type: BitwiseOperationType, x: u8, y: u8, z: u8) -> Result<Self, Refusal> {
-        Self::from_flat(ffi::lookup_shift_op(lookup_type.number(), x, y, z))
+        Self::from_flat(ffi::lookup_shift_op(lookup_type.number(), x, y, z), "z")
     }
 
     /// Whether X + 256 Y + 65,536 Z is below 2^20.
@@ -159,7 +159,7 @@ impl BitwiseOperation {
     ///
     /// [`PastEnd`](Refusal::PastEnd): `z` is 16 or more.
     pub fn b20(x: u8, y: u8, z: u8) -> Result<Self, Refusal> {
-        Self::from_flat(ffi::lookup_b20(x, y, z))
+        Self::from_flat(ffi::lookup_b20(x, y, z), "z")
     }
 
     /// Its words in a flat list.
@@ -179,8 +179,9 @@ impl BitwiseOperation {
         operations.iter().flat_map(Self::words).collect()
     }
 
-    fn from_flat(flat: ffi::FlatLookup) -> Result<Self, Refusal> {
-        Refusal::from_flat(flat.number, flat.detail).map(|()| Self {
+    /// The answer of a call of which that argument alone can be past its end: every kind has a number below 10.
+    fn from_flat(flat: ffi::FlatLookup, argument: &'static str) -> Result<Self, Refusal> {
+        Refusal::from_flat(flat.number, flat.detail, |_, _| argument).map(|()| Self {
             lookup_type: BitwiseOperationType::ALL[flat.kind as usize],
             x: flat.x as u8,
             y: flat.y as u8,
@@ -190,7 +191,7 @@ impl BitwiseOperation {
 
     /// The answer of a call that refuses nothing but a kind.
     fn of_kind(flat: ffi::FlatLookup) -> Self {
-        Self::from_flat(flat).expect("every kind has a number below 10")
+        Self::from_flat(flat, "lookup_type").expect("every kind has a number below 10")
     }
 }
 
@@ -210,7 +211,10 @@ pub const LOOKUP_WORDS: usize = 4;
 /// [`PastEnd`](Refusal::PastEnd): `index` is 1,048,576 or more; [`TooShort`](Refusal::TooShort): `row` has fewer than
 /// 11 words.
 pub fn generate_bitwise_row(index: usize, row: &mut [u64]) -> Result<(), Refusal> {
-    ffi::generate_bitwise_row(index, row).into()
+    ffi::generate_bitwise_row(index, row).named(|number, _| match number {
+        PAST_END => "index",
+        _ => "row",
+    })
 }
 
 /// The index of the row of X, Y and Z: x + 256 y + 65,536 z, where z is below 16.
@@ -219,7 +223,8 @@ pub fn generate_bitwise_row(index: usize, row: &mut [u64]) -> Result<(), Refusal
 ///
 /// [`PastEnd`](Refusal::PastEnd): `z` is 16 or more.
 pub fn row_index(x: u8, y: u8, z: u8) -> Result<usize, Refusal> {
-    Result::from(ffi::bitwise_row_index(x, y, z)).map(|index| index as usize)
+    let answer = ffi::bitwise_row_index(x, y, z).named(|_, _| "z");
+    answer.map(|index| index as usize)
 }
 
 /// Adds one, mod p, to the counter of a kind of lookup in the row of X, Y and Z.
@@ -239,7 +244,7 @@ pub fn bump(counters: &mut [u64], kind: BitwiseOperationType, x: u8, y: u8, z: u
 /// [`PastEnd`](Refusal::PastEnd): `kind` is 10 or more, then `z` is 16 or more; [`TooShort`](Refusal::TooShort):
 /// `counters` has fewer than 10,485,760 words; [`NotElement`](Refusal::NotElement): that counter is p or more.
 pub fn bump_numbered(counters: &mut [u64], kind: usize, x: u8, y: u8, z: u8) -> Result<(), Refusal> {
-    ffi::bitwise_bump(counters, kind, x, y, z).into()
+    ffi::bitwise_bump(counters, kind, x, y, z).named(|number, _| of_bump(number, kind))
 }
 
 /// Adds `n`, mod p, to the counter of a kind of lookup in the row of X, Y and Z.
@@ -257,7 +262,16 @@ pub fn bump_n(counters: &mut [u64], kind: BitwiseOperationType, x: u8, y: u8, z:
 ///
 /// Those of [`bump_numbered`].
 pub fn bump_n_numbered(counters: &mut [u64], kind: usize, x: u8, y: u8, z: u8, n: u64) -> Result<(), Refusal> {
-    ffi::bump_n(counters, kind, x, y, z, n).into()
+    ffi::bump_n(counters, kind, x, y, z, n).named(|number, _| of_bump(number, kind))
+}
+
+/// The argument of a refusal by `bump` or `bump_n`: the kind is checked before Z.
+fn of_bump(number: u64, kind: usize) -> &'static str {
+    match number {
+        PAST_END if kind >= NUM_LOOKUP_TYPES => "kind",
+        PAST_END => "z",
+        _ => "counters",
+    }
 }
 
 /// Adds a list of lookups, [`LOOKUP_WORDS`] each ([`BitwiseOperation::list`]), to their counters, one each, mod p.
@@ -268,7 +282,11 @@ pub fn bump_n_numbered(counters: &mut [u64], kind: usize, x: u8, y: u8, z: u8, n
 /// [`NotWhole`](Refusal::NotWhole): `ops` is not whole lookups; [`TooShort`](Refusal::TooShort): `counters` has fewer than 10,485,760
 /// words; [`NotElement`](Refusal::NotElement): a counter, charged or not, is p or more, then X or Y of a lookup is 256 or more.
 pub fn add_ops(counters: &mut [u64], ops: &[u64]) -> Result<(), Refusal> {
-    ffi::add_ops(counters, ops).into()
+    ffi::add_ops(counters, ops).named(|number, place| match number {
+        TOO_SHORT => "counters",
+        NOT_ELEMENT if is_large_at(place, &counters[..NUM_COUNTERS]) => "counters",
+        _ => "ops",
+    })
 }
 
 /// Adds other counters to these, each to its own, mod p. The order in which several are added is of no account.
@@ -278,7 +296,11 @@ pub fn add_ops(counters: &mut [u64], ops: &[u64]) -> Result<(), Refusal> {
 /// [`TooShort`](Refusal::TooShort): `counters`, then `other`, has fewer than 10,485,760 words; [`NotElement`](Refusal::NotElement): a
 /// word of `counters`, then of `other`, is p or more.
 pub fn merge(counters: &mut [u64], other: &[u64]) -> Result<(), Refusal> {
-    ffi::merge(counters, other).into()
+    ffi::merge(counters, other).named(|number, place| match number {
+        TOO_SHORT if counters.len() < NUM_COUNTERS => "counters",
+        NOT_ELEMENT if is_large_at(place, &counters[..NUM_COUNTERS]) => "counters",
+        _ => "other",
+    })
 }
 
 /// Writes the whole table, every multiplicity being 0.
@@ -287,7 +309,7 @@ pub fn merge(counters: &mut [u64], other: &[u64]) -> Result<(), Refusal> {
 ///
 /// [`TooShort`](Refusal::TooShort): `table` has fewer than 22,020,096 words.
 pub fn generate_bitwise_trace(table: &mut [u64]) -> Result<(), Refusal> {
-    ffi::generate_bitwise_trace(table).into()
+    ffi::generate_bitwise_trace(table).named(|_, _| "table")
 }
 
 /// Sets the multiplicities of a table to the counters, those that are 0 too; the fixed columns are neither read nor written.
@@ -297,7 +319,10 @@ pub fn generate_bitwise_trace(table: &mut [u64]) -> Result<(), Refusal> {
 /// [`TooShort`](Refusal::TooShort): `counters` has fewer than 10,485,760 words, then `table` fewer than 22,020,096;
 /// [`NotElement`](Refusal::NotElement): a counter is p or more.
 pub fn fill_multiplicities(counters: &[u64], table: &mut [u64]) -> Result<(), Refusal> {
-    ffi::fill_multiplicities(counters, table).into()
+    ffi::fill_multiplicities(counters, table).named(|number, _| match number {
+        TOO_SHORT if counters.len() >= NUM_COUNTERS => "table",
+        _ => "counters",
+    })
 }
 
 /// Adds a list of lookups, [`LOOKUP_WORDS`] each ([`BitwiseOperation::list`]), to the multiplicities of a table, one each, mod p.
@@ -308,7 +333,16 @@ pub fn fill_multiplicities(counters: &[u64], table: &mut [u64]) -> Result<(), Re
 /// [`NotWhole`](Refusal::NotWhole): `ops` is not whole lookups; [`TooShort`](Refusal::TooShort): `table` has fewer than 22,020,096
 /// words; [`NotElement`](Refusal::NotElement): a multiplicity, charged or not, is p or more, then X or Y of a lookup is 256 or more.
 pub fn update_multiplicities(table: &mut [u64], ops: &[u64]) -> Result<(), Refusal> {
-    ffi::bitwise_update_multiplicities(table, ops).into()
+    ffi::bitwise_update_multiplicities(table, ops).named(|number, place| match number {
+        TOO_SHORT => "table",
+        NOT_ELEMENT if is_multiplicity(place) && is_large_at(place, &table[..TABLE_WORDS]) => "table",
+        _ => "ops",
+    })
+}
+
+/// Whether a place of the table is that of a multiplicity: the fixed columns are not read.
+fn is_multiplicity(place: u64) -> bool {
+    place % NUM_COLUMNS as u64 >= NUM_PRECOMPUTED_COLS as u64
 }
 
 /// Tuple `index` of a row of 21 columns; its values go to the front of `out`.
@@ -319,5 +353,5 @@ pub fn update_multiplicities(table: &mut [u64], ops: &[u64]) -> Result<(), Refus
 /// words, then `out` fewer than the tuple has values; [`NotElement`](Refusal::NotElement): a column of `row` is p or
 /// more.
 pub fn bus_interaction(row: &[u64], index: usize, out: &mut [u64]) -> Result<BusInteraction, Refusal> {
-    BusInteraction::from_flat(ffi::bitwise_bus_interaction(row, index, out))
+    BusInteraction::from_flat(ffi::bitwise_bus_interaction(row, index, out), row, NUM_COLUMNS)
 }

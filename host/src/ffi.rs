@@ -13,9 +13,10 @@ pub struct FlatAnswer {
     detail: u64,
 }
 
-impl From<FlatAnswer> for Result<(), Refusal> {
-    fn from(flat: FlatAnswer) -> Self {
-        Refusal::from_flat(flat.number, flat.detail)
+impl FlatAnswer {
+    /// Nothing, or the refusal; `name` says its argument (`Refusal::from_flat`).
+    pub fn named(self, name: impl FnOnce(u64, u64) -> &'static str) -> Result<(), Refusal> {
+        Refusal::from_flat(self.number, self.detail, name)
     }
 }
 
@@ -27,9 +28,10 @@ pub struct FlatNumber {
     value: u64,
 }
 
-impl From<FlatNumber> for Result<u64, Refusal> {
-    fn from(flat: FlatNumber) -> Self {
-        Refusal::from_flat(flat.number, flat.detail).map(|()| flat.value)
+impl FlatNumber {
+    /// The number, or the refusal.
+    pub fn named(self, name: impl FnOnce(u64, u64) -> &'static str) -> Result<u64, Refusal> {
+        Refusal::from_flat(self.number, self.detail, name).map(|()| self.value)
     }
 }
 
@@ -90,9 +92,10 @@ pub struct FlatTally {
     sums: Sums,
 }
 
-impl From<FlatTally> for Result<Sums, Refusal> {
-    fn from(flat: FlatTally) -> Self {
-        Refusal::from_flat(flat.number, flat.detail).map(|()| flat.sums)
+impl FlatTally {
+    /// The sums, or the refusal.
+    pub fn named(self, name: impl FnOnce(u64, u64) -> &'static str) -> Result<Sums, Refusal> {
+        Refusal::from_flat(self.number, self.detail, name).map(|()| self.sums)
     }
 }
 

@@ -19,7 +19,7 @@
 use crate::ffi;
 use crate::keccak::{KEY_WORDS, is_wh_keys};
 use crate::operation::{MAX_OPS, OP_WORDS};
-use crate::refusal::Refusal;
+use crate::refusal::{NOT_ELEMENT, Refusal, TOO_SHORT, word_at};
 use crate::tuple::BusInteraction;
 
 /// The columns of a row: the key's halfwords, lowest first, then the multiplicity.
@@ -75,7 +75,14 @@ pub fn dedup_is_wh_rows(
     spare: &mut [u64],
     rows: &mut [u64],
 ) -> Result<usize, Refusal> {
-    Result::from(ffi::dedup_is_wh_rows(keys, codes, spare, rows)).map(|rows| rows as usize)
+    let n = keys.len() / 2;
+    let answer = ffi::dedup_is_wh_rows(keys, codes, spare, rows).named(|number, _| match number {
+        TOO_SHORT if codes.len() < n => "codes",
+        TOO_SHORT if spare.len() < n => "spare",
+        TOO_SHORT => "rows",
+        _ => "keys",
+    });
+    answer.map(|rows| rows as usize)
 }
 
 /// The height of the table of `n` rows: a power of two, 4 or more.
@@ -84,7 +91,8 @@ pub fn dedup_is_wh_rows(
 ///
 /// [`PastEnd`](Refusal::PastEnd): `n` is more than [`MAX_KEYS`].
 pub fn is_wh_height(n: usize) -> Result<usize, Refusal> {
-    Result::from(ffi::is_wh_height(n)).map(|rows| rows as usize)
+    let answer = ffi::is_wh_height(n).named(|_, _| "n");
+    answer.map(|rows| rows as usize)
 }
 
 /// Writes the table of a list of rows, three words each, to the front of `table`, which has room for [`is_wh_height`] rows.
@@ -95,7 +103,10 @@ pub fn is_wh_height(n: usize) -> Result<usize, Refusal> {
 /// [`TooShort`](Refusal::TooShort): `table` has fewer than 4 words for each row of [`is_wh_height`];
 /// [`NotElement`](Refusal::NotElement): a row's word is 2^32 or more, its half 2^16 or more, or its count 2^20 or more.
 pub fn generate_is_wh_trace(rows: &[u64], table: &mut [u64]) -> Result<(), Refusal> {
-    ffi::generate_is_wh_trace(rows, table).into()
+    ffi::generate_is_wh_trace(rows, table).named(|number, _| match number {
+        TOO_SHORT => "table",
+        _ => "rows",
+    })
 }
 
 /// Adds to the counters of the bitwise table, mod p, what the table of a list of rows looks up, padding rows included; no rows, no
@@ -107,7 +118,17 @@ pub fn generate_is_wh_trace(rows: &[u64], table: &mut [u64]) -> Result<(), Refus
 /// `counters` has fewer than 10,485,760 words; [`NotElement`](Refusal::NotElement): a word of `rows` as there, then a counter, charged
 /// or not, is p or more.
 pub fn collect_bitwise_from_is_wh(rows: &[u64], counters: &mut [u64]) -> Result<(), Refusal> {
-    ffi::collect_bitwise_from_is_wh(rows, counters).into()
+    ffi::collect_bitwise_from_is_wh(rows, counters).named(|number, place| match number {
+        TOO_SHORT => "counters",
+        NOT_ELEMENT if !is_past_limit_at(place, rows) => "counters",
+        _ => "rows",
+    })
+}
+
+/// Whether a list of rows has a word at that place that is more than it can be: a key's word, its half, or a count.
+fn is_past_limit_at(place: u64, rows: &[u64]) -> bool {
+    let limit = [1 << 32, 1 << 16, IS_WH_MU_MAX + 1][(place % ROW_WORDS as u64) as usize];
+    word_at(place, rows).is_some_and(|word| word >= limit)
 }
 
 /// The rows of the IS_WH table, in memory of their own.
@@ -181,5 +202,5 @@ impl IsWhRows {
 /// [`PastEnd`](Refusal::PastEnd): `index` is 5 or more; [`TooShort`](Refusal::TooShort): `row` has fewer than 4 words,
 /// then `out` fewer than the tuple has values; [`NotElement`](Refusal::NotElement): a column of `row` is p or more.
 pub fn bus_interaction(row: &[u64], index: usize, out: &mut [u64]) -> Result<BusInteraction, Refusal> {
-    BusInteraction::from_flat(ffi::is_wh_bus_interaction(row, index, out))
+    BusInteraction::from_flat(ffi::is_wh_bus_interaction(row, index, out), row, NUM_COLUMNS)
 }

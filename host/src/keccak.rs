@@ -21,9 +21,9 @@ pub mod cols;
 
 use crate::all_cores;
 use crate::ffi;
-use crate::operation::OP_WORDS;
-use crate::refusal::Refusal;
-use crate::tuple::BusInteraction;
+use crate::operation::{MAX_OPS, OP_WORDS};
+use crate::refusal::{PAST_END, Refusal, TOO_SHORT};
+use crate::tuple::{BusInteraction, of_row};
 
 /// The columns of a row ([`cols`]): 2 timestamp words, 8 address bytes, 200 INPUT, 200 OUTPUT, 25 pointers of 3 limbs, MU.
 pub const NUM_COLUMNS: usize = 486;
@@ -69,7 +69,11 @@ pub const LAST_ADDRESS: u64 = u64::MAX - 192;
 /// fewer than 486 words; [`HighAddress`](Refusal::HighAddress): an operation's address is above
 /// [`LAST_ADDRESS`], in any operation of the list.
 pub fn keccak_row(ops: &[u64], index: usize, row: &mut [u64]) -> Result<(), Refusal> {
-    ffi::keccak_row(ops, index, row).into()
+    ffi::keccak_row(ops, index, row).named(|number, _| match number {
+        PAST_END if ops.len() / OP_WORDS <= MAX_OPS => "index",
+        TOO_SHORT => "row",
+        _ => "ops",
+    })
 }
 
 /// Writes the core table of a list of operations to the front of `table`, which has room for [`keccak_height`] rows.
@@ -81,7 +85,10 @@ pub fn keccak_row(ops: &[u64], index: usize, row: &mut [u64]) -> Result<(), Refu
 /// [`keccak_height`]; [`HighAddress`](Refusal::HighAddress): an operation's address is above
 /// [`LAST_ADDRESS`].
 pub fn generate_keccak_trace(ops: &[u64], table: &mut [u64]) -> Result<(), Refusal> {
-    ffi::generate_keccak_trace(ops, table).into()
+    ffi::generate_keccak_trace(ops, table).named(|number, _| match number {
+        TOO_SHORT => "table",
+        _ => "ops",
+    })
 }
 
 /// Writes the rows of a list of operations, without the table's padding, to the front of `table`.
@@ -111,7 +118,10 @@ pub fn generate_keccak_trace(ops: &[u64], table: &mut [u64]) -> Result<(), Refus
 /// [`HighAddress`](Refusal::HighAddress): an operation's address is above
 /// [`LAST_ADDRESS`].
 pub fn keccak_rows(ops: &[u64], table: &mut [u64]) -> Result<(), Refusal> {
-    ffi::keccak_rows(ops, table).into()
+    ffi::keccak_rows(ops, table).named(|number, _| match number {
+        TOO_SHORT => "table",
+        _ => "ops",
+    })
 }
 
 /// The core table of a list of operations, in memory of its own. The rows of a long list are written on all cores.
@@ -123,7 +133,7 @@ pub fn keccak_rows(ops: &[u64], table: &mut [u64]) -> Result<(), Refusal> {
 /// [`LAST_ADDRESS`].
 pub fn keccak_table(ops: &[u64]) -> Result<Vec<u64>, Refusal> {
     let n = ops.len() / OP_WORDS;
-    let mut table = vec![0; keccak_height(n)? * NUM_COLUMNS];
+    let mut table = vec![0; height_for(n, "ops")? * NUM_COLUMNS];
     let (rows, padding) = table.split_at_mut(n * NUM_COLUMNS);
     if all_cores::write(ops, rows, keccak_rows) {
         pad(padding)?;
@@ -151,7 +161,10 @@ fn pad(rows: &mut [u64]) -> Result<(), Refusal> {
 /// [`HighAddress`](Refusal::HighAddress): an operation's address is above
 /// [`LAST_ADDRESS`].
 pub fn is_wh_keys(ops: &[u64], out: &mut [u64]) -> Result<(), Refusal> {
-    ffi::is_wh_keys(ops, out).into()
+    ffi::is_wh_keys(ops, out).named(|number, _| match number {
+        TOO_SHORT => "out",
+        _ => "ops",
+    })
 }
 
 /// The rows of the core table of `n` operations: a power of two, 4 or more.
@@ -160,7 +173,13 @@ pub fn is_wh_keys(ops: &[u64], out: &mut [u64]) -> Result<(), Refusal> {
 ///
 /// [`PastEnd`](Refusal::PastEnd): `n` is more than [`MAX_OPS`](crate::MAX_OPS).
 pub fn keccak_height(n: usize) -> Result<usize, Refusal> {
-    Result::from(ffi::keccak_height(n)).map(|rows| rows as usize)
+    height_for(n, "n")
+}
+
+/// The same for a call whose argument by this name has n operations.
+fn height_for(n: usize, argument: &'static str) -> Result<usize, Refusal> {
+    let answer = ffi::keccak_height(n).named(|_, _| argument);
+    answer.map(|rows| rows as usize)
 }
 
 /// Writes the 52 constraint values of a row of 486 columns, mod p and in the order of the Rust's `eval`, to the front of
@@ -171,7 +190,7 @@ pub fn keccak_height(n: usize) -> Result<usize, Refusal> {
 /// [`TooShort`](Refusal::TooShort): `row` has fewer than 486 words, then `out` fewer than 52;
 /// [`NotElement`](Refusal::NotElement): a column of `row` is p or more.
 pub fn core_values(row: &[u64], out: &mut [u64]) -> Result<(), Refusal> {
-    ffi::keccak_values(row, out).into()
+    ffi::keccak_values(row, out).named(|number, _| of_row(number, row, NUM_COLUMNS))
 }
 
 /// Tuple `index` of a row of 486 columns, in the order of the Rust's `bus_interactions`; its values go to the front of
@@ -183,7 +202,7 @@ pub fn core_values(row: &[u64], out: &mut [u64]) -> Result<(), Refusal> {
 /// words, then `out` fewer than the tuple has values; [`NotElement`](Refusal::NotElement): a column of `row` is p or
 /// more.
 pub fn bus_interaction(row: &[u64], index: usize, syscall: u64, out: &mut [u64]) -> Result<BusInteraction, Refusal> {
-    BusInteraction::from_flat(ffi::keccak_bus_interaction(row, index, syscall, out))
+    BusInteraction::from_flat(ffi::keccak_bus_interaction(row, index, syscall, out), row, NUM_COLUMNS)
 }
 
 /// All 84 tuples of a row, one after the other, to the front of `out`: 1,457 words, which [`tuples`](crate::tuples) reads.
@@ -193,5 +212,5 @@ pub fn bus_interaction(row: &[u64], index: usize, syscall: u64, out: &mut [u64])
 /// [`TooShort`](Refusal::TooShort): `row` has fewer than 486 words, then `out` fewer than 1,457;
 /// [`NotElement`](Refusal::NotElement): a column of `row` is p or more.
 pub fn bus_interactions(row: &[u64], syscall: u64, out: &mut [u64]) -> Result<(), Refusal> {
-    ffi::keccak_bus_interactions(row, syscall, out).into()
+    ffi::keccak_bus_interactions(row, syscall, out).named(|number, _| of_row(number, row, NUM_COLUMNS))
 }

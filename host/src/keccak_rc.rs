@@ -12,7 +12,7 @@
 //! ```
 
 use crate::ffi;
-use crate::refusal::Refusal;
+use crate::refusal::{PAST_END, Refusal};
 use crate::tuple::BusInteraction;
 
 /// The rows of the table: 24 rounds, then 8 rows with a zero constant.
@@ -33,7 +33,10 @@ pub const TABLE_WORDS: usize = NUM_ROWS * NUM_COLUMNS;
 ///
 /// [`PastEnd`](Refusal::PastEnd): `round` is 32 or more; [`TooShort`](Refusal::TooShort): `out` has fewer than 9 words.
 pub fn generate_row(round: usize, out: &mut [u64]) -> Result<(), Refusal> {
-    ffi::keccak_rc_generate_row(round, out).into()
+    ffi::keccak_rc_generate_row(round, out).named(|number, _| match number {
+        PAST_END => "round",
+        _ => "out",
+    })
 }
 
 /// Writes the whole table, every multiplicity being 0.
@@ -42,7 +45,7 @@ pub fn generate_row(round: usize, out: &mut [u64]) -> Result<(), Refusal> {
 ///
 /// [`TooShort`](Refusal::TooShort): `table` has fewer than 320 words.
 pub fn generate_keccak_rc_trace(table: &mut [u64]) -> Result<(), Refusal> {
-    ffi::generate_keccak_rc_trace(table).into()
+    ffi::generate_keccak_rc_trace(table).named(|_, _| "table")
 }
 
 /// Sets the multiplicities of the rounds 0 to 23 to the number of operations.
@@ -52,7 +55,10 @@ pub fn generate_keccak_rc_trace(table: &mut [u64]) -> Result<(), Refusal> {
 /// [`PastEnd`](Refusal::PastEnd): `n` is more than [`MAX_OPS`](crate::MAX_OPS); [`TooShort`](Refusal::TooShort):
 /// `table` has fewer than 320 words.
 pub fn update_multiplicities(table: &mut [u64], n: u64) -> Result<(), Refusal> {
-    ffi::keccak_rc_update_multiplicities(table, n).into()
+    ffi::keccak_rc_update_multiplicities(table, n).named(|number, _| match number {
+        PAST_END => "n",
+        _ => "table",
+    })
 }
 
 /// Tuple `index` of a row of ten columns, of which it has one; its values go to the front of `out`.
@@ -62,5 +68,5 @@ pub fn update_multiplicities(table: &mut [u64], n: u64) -> Result<(), Refusal> {
 /// [`PastEnd`](Refusal::PastEnd): `index` is 1 or more; [`TooShort`](Refusal::TooShort): `row` has fewer than 10 words,
 /// then `out` fewer than 9; [`NotElement`](Refusal::NotElement): a column of `row` is p or more.
 pub fn bus_interaction(row: &[u64], index: usize, out: &mut [u64]) -> Result<BusInteraction, Refusal> {
-    BusInteraction::from_flat(ffi::keccak_rc_bus_interaction(row, index, out))
+    BusInteraction::from_flat(ffi::keccak_rc_bus_interaction(row, index, out), row, NUM_COLUMNS)
 }

@@ -19,8 +19,8 @@ pub mod cols;
 use crate::all_cores;
 use crate::ffi;
 use crate::operation::OP_WORDS;
-use crate::refusal::Refusal;
-use crate::tuple::BusInteraction;
+use crate::refusal::{PAST_END, Refusal, TOO_SHORT};
+use crate::tuple::{BusInteraction, of_row};
 
 /// The columns of a row ([`cols`]).
 pub const NUM_COLUMNS: usize = 1480;
@@ -47,7 +47,11 @@ pub const ROUNDS: usize = 24;
 /// [`PastEnd`](Refusal::PastEnd): `round` is 24 or more; [`TooShort`](Refusal::TooShort): `start` has fewer than 25
 /// words, then `row` fewer than 1,480.
 pub fn keccak_rnd_row(timestamp: u64, start: &[u64], round: usize, row: &mut [u64]) -> Result<(), Refusal> {
-    ffi::keccak_rnd_row(timestamp, start, round, row).into()
+    ffi::keccak_rnd_row(timestamp, start, round, row).named(|number, _| match number {
+        PAST_END => "round",
+        TOO_SHORT if start.len() < 25 => "start",
+        _ => "row",
+    })
 }
 
 /// Writes the round table of a list of operations to the front of `table`, which has room for [`keccak_rnd_height`] rows.
@@ -60,7 +64,10 @@ pub fn keccak_rnd_row(timestamp: u64, start: &[u64], round: usize, row: &mut [u6
 /// [`keccak_rnd_height`]; [`HighAddress`](Refusal::HighAddress): an operation's address is above
 /// [`LAST_ADDRESS`](crate::keccak::LAST_ADDRESS).
 pub fn generate_keccak_rnd_trace(ops: &[u64], table: &mut [u64]) -> Result<(), Refusal> {
-    ffi::generate_keccak_rnd_trace(ops, table).into()
+    ffi::generate_keccak_rnd_trace(ops, table).named(|number, _| match number {
+        TOO_SHORT => "table",
+        _ => "ops",
+    })
 }
 
 /// Writes the rows of a list of operations, 24 to each and without the table's padding, to the front of `table`. The rows of two
@@ -74,7 +81,10 @@ pub fn generate_keccak_rnd_trace(ops: &[u64], table: &mut [u64]) -> Result<(), R
 /// operation; [`HighAddress`](Refusal::HighAddress): an operation's address is above
 /// [`LAST_ADDRESS`](crate::keccak::LAST_ADDRESS).
 pub fn keccak_rnd_rows(ops: &[u64], table: &mut [u64]) -> Result<(), Refusal> {
-    ffi::keccak_rnd_rows(ops, table).into()
+    ffi::keccak_rnd_rows(ops, table).named(|number, _| match number {
+        TOO_SHORT => "table",
+        _ => "ops",
+    })
 }
 
 /// The round table of a list of operations, in memory of its own. The rows of a long list are written on all cores.
@@ -86,7 +96,7 @@ pub fn keccak_rnd_rows(ops: &[u64], table: &mut [u64]) -> Result<(), Refusal> {
 /// [`LAST_ADDRESS`](crate::keccak::LAST_ADDRESS).
 pub fn keccak_rnd_table(ops: &[u64]) -> Result<Vec<u64>, Refusal> {
     let n = ops.len() / OP_WORDS;
-    let mut table = vec![0; keccak_rnd_height(n)? * NUM_COLUMNS];
+    let mut table = vec![0; height_for(n, "ops")? * NUM_COLUMNS];
     // The padding is zero, as the memory is.
     if !all_cores::write(ops, &mut table[..n * ROUNDS * NUM_COLUMNS], keccak_rnd_rows) {
         generate_keccak_rnd_trace(ops, &mut table)?;
@@ -100,7 +110,13 @@ pub fn keccak_rnd_table(ops: &[u64]) -> Result<Vec<u64>, Refusal> {
 ///
 /// [`PastEnd`](Refusal::PastEnd): `n` is more than [`MAX_OPS`](crate::MAX_OPS).
 pub fn keccak_rnd_height(n: usize) -> Result<usize, Refusal> {
-    Result::from(ffi::keccak_rnd_height(n)).map(|rows| rows as usize)
+    height_for(n, "n")
+}
+
+/// The same for a call whose argument by this name has n operations.
+fn height_for(n: usize, argument: &'static str) -> Result<usize, Refusal> {
+    let answer = ffi::keccak_rnd_height(n).named(|_, _| argument);
+    answer.map(|rows| rows as usize)
 }
 
 /// How many AreBytes tuples the padding rows of the round table of `n` operations send; 0 where `n` is 0.
@@ -109,7 +125,7 @@ pub fn keccak_rnd_height(n: usize) -> Result<usize, Refusal> {
 ///
 /// [`PastEnd`](Refusal::PastEnd): `n` is more than [`MAX_OPS`](crate::MAX_OPS).
 pub fn padding_are_bytes(n: usize) -> Result<u64, Refusal> {
-    ffi::padding_are_bytes(n).into()
+    ffi::padding_are_bytes(n).named(|_, _| "n")
 }
 
 /// Writes the 141 constraint values of a row of 1,480 columns, mod p and in the order of the Rust's `eval`, to the front
@@ -120,7 +136,7 @@ pub fn padding_are_bytes(n: usize) -> Result<u64, Refusal> {
 /// [`TooShort`](Refusal::TooShort): `row` has fewer than 1,480 words, then `out` fewer than 141;
 /// [`NotElement`](Refusal::NotElement): a column of `row` is p or more.
 pub fn round_values(row: &[u64], out: &mut [u64]) -> Result<(), Refusal> {
-    ffi::keccak_rnd_values(row, out).into()
+    ffi::keccak_rnd_values(row, out).named(|number, _| of_row(number, row, NUM_COLUMNS))
 }
 
 /// Tuple `index` of a row of 1,480 columns, in the order of the Rust's `bus_interactions`; its values go to the front of
@@ -132,7 +148,7 @@ pub fn round_values(row: &[u64], out: &mut [u64]) -> Result<(), Refusal> {
 /// words, then `out` fewer than the tuple has values; [`NotElement`](Refusal::NotElement): a column of `row` is p or
 /// more.
 pub fn bus_interaction(row: &[u64], index: usize, out: &mut [u64]) -> Result<BusInteraction, Refusal> {
-    BusInteraction::from_flat(ffi::keccak_rnd_bus_interaction(row, index, out))
+    BusInteraction::from_flat(ffi::keccak_rnd_bus_interaction(row, index, out), row, NUM_COLUMNS)
 }
 
 /// All 1,031 tuples of a row, one after the other, to the front of `out`: 8,211 words, which [`tuples`](crate::tuples)
@@ -143,5 +159,5 @@ pub fn bus_interaction(row: &[u64], index: usize, out: &mut [u64]) -> Result<Bus
 /// [`TooShort`](Refusal::TooShort): `row` has fewer than 1,480 words, then `out` fewer than 8,211;
 /// [`NotElement`](Refusal::NotElement): a column of `row` is p or more.
 pub fn bus_interactions(row: &[u64], out: &mut [u64]) -> Result<(), Refusal> {
-    ffi::keccak_rnd_bus_interactions(row, out).into()
+    ffi::keccak_rnd_bus_interactions(row, out).named(|number, _| of_row(number, row, NUM_COLUMNS))
 }

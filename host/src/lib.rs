@@ -19,7 +19,9 @@
 //! assert_eq!(table[0], 5);
 //!
 //! let refused = keccak::generate_keccak_trace(&list, &mut []);
-//! assert_eq!(refused, Err(Refusal::TooShort { needed: 4 * 486 }));
+//! assert_eq!(refused, Err(Refusal::TooShort { argument: "table", needed: 4 * 486 }));
+//! let words = refused.map_err(|refusal| refusal.to_string());
+//! assert_eq!(words, Err("table is shorter than the 1944 words that are needed".into()));
 //! # Ok::<(), Refusal>(())
 //! ```
 

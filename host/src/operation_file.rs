@@ -20,7 +20,7 @@
 //! ```
 
 use crate::ffi::{self, FlatCursor};
-use crate::refusal::Refusal;
+use crate::refusal::{Refusal, TOO_SHORT};
 
 /// The bytes of a record.
 pub const RECORD_BYTES: usize = 418;
@@ -89,7 +89,7 @@ impl Tally {
     /// The first fault so far. Reading on does not change it.
     #[must_use]
     pub fn fault(&self) -> Option<Refusal> {
-        Refusal::from_flat(self.0.number, self.0.detail).err()
+        Refusal::from_flat(self.0.number, self.0.detail, |_, _| "bytes").err()
     }
 
     /// What the whole file says, now that it has ended.
@@ -100,7 +100,7 @@ impl Tally {
     /// address is above [`LAST_ADDRESS`](crate::keccak::LAST_ADDRESS); [`BadRecord`](Refusal::BadRecord): a wrong mark
     /// or a cut record. The first faulty record is told, and of it the mark before the address.
     pub fn finish(self) -> Result<Sums, Refusal> {
-        ffi::tally_finish(self.0).into()
+        ffi::tally_finish(self.0).named(|_, _| "bytes")
     }
 }
 
@@ -116,7 +116,10 @@ impl Default for Tally {
 ///
 /// Those of [`Tally::finish`]; then [`TooShort`](Refusal::TooShort): `ops` has fewer than 52 words for each record.
 pub fn read_operations(file: &[u8], ops: &mut [u64]) -> Result<(), Refusal> {
-    ffi::read_operations(file, ops).into()
+    ffi::read_operations(file, ops).named(|number, _| match number {
+        TOO_SHORT => "ops",
+        _ => "file",
+    })
 }
 
 /// Writes the records of a list of operations to the front of `file`.
@@ -128,5 +131,8 @@ pub fn read_operations(file: &[u8], ops: &mut [u64]) -> Result<(), Refusal> {
 /// [`HighAddress`](Refusal::HighAddress): an operation's address is above
 /// [`LAST_ADDRESS`](crate::keccak::LAST_ADDRESS).
 pub fn write_operations(ops: &[u64], file: &mut [u8]) -> Result<(), Refusal> {
-    ffi::write_operations(ops, file).into()
+    ffi::write_operations(ops, file).named(|number, _| match number {
+        TOO_SHORT => "file",
+        _ => "ops",
+    })
 }

@@ -2,8 +2,18 @@
 
 use std::fmt;
 
+use crate::P;
+use crate::bitwise::NUM_LOOKUP_TYPES;
 use crate::is_wh::MAX_KEYS;
 use crate::operation::MAX_OPS;
+
+// The refusals' numbers.
+pub(crate) const PAST_END: u64 = 1;
+pub(crate) const NOT_WHOLE: u64 = 2;
+pub(crate) const TOO_SHORT: u64 = 3;
+const HIGH_ADDRESS: u64 = 4;
+pub(crate) const NOT_ELEMENT: u64 = 5;
+const BAD_RECORD: u64 = 6;
 
 /// Which of the lent slices is not whole.
 #[derive(Debug, Clone, Copy, PartialEq, Eq, Hash)]
@@ -19,7 +29,7 @@ pub enum Lent {
 /// Why a call did nothing. A call's checks are made in this order, each over all its arguments; but a file is read before the
 /// slice that takes its words is looked at, record by record, and there 6 comes before 4.
 ///
-/// Which argument it was stands in no refusal: the `# Errors` of the call tell it by the number and the detail.
+/// `argument` is the name of the argument in the call's signature; of a [`Tally`](crate::operation_file::Tally) it is that of `feed`.
 ///
 /// Later versions may refuse for further reasons, so a `match` needs an arm for the rest.
 #[non_exhaustive]
@@ -27,16 +37,22 @@ pub enum Lent {
 pub enum Refusal {
     /// 1: an index, kind, count or round past its end.
     PastEnd {
+        /// The number, or the list that has too many entries or such a word.
+        argument: &'static str,
         /// The least number refused.
         limit: u64,
     },
     /// 2: a table or list that is not whole rows, operations, lookups or keys.
     NotWhole {
-        /// Which one.
+        /// The table or list.
+        argument: &'static str,
+        /// Which one it is.
         which: Lent,
     },
     /// 3: a lent slice that is too short.
     TooShort {
+        /// The slice.
+        argument: &'static str,
         /// The length needed, in words, or in bytes where the slice is one of bytes.
         needed: u64,
     },
@@ -47,7 +63,9 @@ pub enum Refusal {
     },
     /// 5: a word that is not below p; or one of a list of lookups, keys or rows of keys that is more than it can be.
     NotElement {
-        /// Its place in the lent slice.
+        /// The slice that it stands in.
+        argument: &'static str,
+        /// Its place there.
         place: u64,
     },
     /// 6: a wrong mark or a cut record in an operation file.
@@ -62,12 +80,12 @@ impl Refusal {
     #[must_use]
     pub const fn number(self) -> u64 {
         match self {
-            Self::PastEnd { .. } => 1,
-            Self::NotWhole { .. } => 2,
-            Self::TooShort { .. } => 3,
-            Self::HighAddress { .. } => 4,
-            Self::NotElement { .. } => 5,
-            Self::BadRecord { .. } => 6,
+            Self::PastEnd { .. } => PAST_END,
+            Self::NotWhole { .. } => NOT_WHOLE,
+            Self::TooShort { .. } => TOO_SHORT,
+            Self::HighAddress { .. } => HIGH_ADDRESS,
+            Self::NotElement { .. } => NOT_ELEMENT,
+            Self::BadRecord { .. } => BAD_RECORD,
         }
     }
 
@@ -75,62 +93,100 @@ impl Refusal {
     #[must_use]
     pub const fn detail(self) -> u64 {
         match self {
-            Self::PastEnd { limit } => limit,
-            Self::NotWhole { which } => which as u64,
-            Self::TooShort { needed } => needed,
+            Self::PastEnd { limit, .. } => limit,
+            Self::NotWhole { which, .. } => which as u64,
+            Self::TooShort { needed, .. } => needed,
             Self::HighAddress { address } => address,
-            Self::NotElement { place } => place,
+            Self::NotElement { place, .. } => place,
             Self::BadRecord { start } => start,
         }
     }
 
     /// What a flat answer says: nothing where the call did its work, by number 0.
-    pub(crate) fn from_flat(number: u64, detail: u64) -> Result<(), Self> {
+    ///
+    /// Of a refusal `name` says the argument, by its number and detail. Where several arguments of a call can have one number, it makes
+    /// the call's checks of that number again, in their order, up to the last, which is what is left.
+    pub(crate) fn from_flat(number: u64, detail: u64, name: impl FnOnce(u64, u64) -> &'static str) -> Result<(), Self> {
+        if number == 0 {
+            return Ok(());
+        }
+        let argument = name(number, detail);
         Err(match number {
-            0 => return Ok(()),
-            1 => Self::PastEnd { limit: detail },
-            2 => Self::NotWhole {
+            PAST_END => Self::PastEnd {
+                argument,
+                limit: detail,
+            },
+            NOT_WHOLE => Self::NotWhole {
+                argument,
                 which: match detail {
                     0 => Lent::Core,
                     1 => Lent::Round,
                     _ => Lent::List,
                 },
             },
-            3 => Self::TooShort { needed: detail },
-            4 => Self::HighAddress { address: detail },
-            5 => Self::NotElement { place: detail },
-            6 => Self::BadRecord { start: detail },
+            TOO_SHORT => Self::TooShort {
+                argument,
+                needed: detail,
+            },
+            HIGH_ADDRESS => Self::HighAddress { address: detail },
+            NOT_ELEMENT => Self::NotElement {
+                argument,
+                place: detail,
+            },
+            BAD_RECORD => Self::BadRecord { start: detail },
             _ => unreachable!("the definition of the answers has no refusal {number}"),
         })
     }
 }
 
+/// Whether these words have one at that place that is p or more.
+pub(crate) fn is_large_at(place: u64, words: &[u64]) -> bool {
+    word_at(place, words).is_some_and(|word| word >= P)
+}
+
+/// The word at a place, where there is one.
+pub(crate) fn word_at(place: u64, words: &[u64]) -> Option<u64> {
+    words.get(usize::try_from(place).ok()?).copied()
+}
+
 impl fmt::Display for Refusal {
     fn fmt(&self, f: &mut fmt::Formatter<'_>) -> fmt::Result {
         match *self {
-            // No other argument has these ends; of a smaller one the number does not say which argument it was.
-            Self::PastEnd { limit } if limit == MAX_OPS as u64 + 1 => {
-                write!(f, "there are more than {MAX_OPS} operations")
+            Self::PastEnd { argument, limit } => past_end(f, argument, limit),
+            Self::NotWhole { which: Lent::Core, .. } => write!(f, "the core table is not whole rows"),
+            Self::NotWhole { which: Lent::Round, .. } => write!(f, "the round table is not whole rows"),
+            Self::NotWhole { argument, .. } => write!(f, "the last entry of the list {argument} is not whole"),
+            Self::TooShort { argument, needed } => {
+                // No other slice of bytes is written to.
+                let unit = if argument == "file" { "bytes" } else { "words" };
+                write!(f, "{argument} is shorter than the {needed} {unit} that are needed")
             }
-            Self::PastEnd { limit } if limit == MAX_KEYS as u64 + 1 => {
-                write!(f, "there are more than {MAX_KEYS} keys or rows of keys")
-            }
-            Self::PastEnd { limit } => write!(f, "an index, a kind, a Z or a round is past its end: {limit} or more"),
-            Self::NotWhole { which: Lent::Core } => write!(f, "the core table is not whole rows"),
-            Self::NotWhole { which: Lent::Round } => write!(f, "the round table is not whole rows"),
-            Self::NotWhole { which: Lent::List } => {
-                write!(f, "the list is not whole operations, lookups, keys or rows")
-            }
-            Self::TooShort { needed } => write!(f, "a lent slice is shorter than the {needed} that are needed"),
             Self::HighAddress { address } => write!(
                 f,
                 "the last of the 25 lanes from address {address} would start past 2^64 - 1"
             ),
-            Self::NotElement { place } => {
-                write!(f, "word {place} of a lent slice is not below p, or more than it can be")
-            }
+            // The lists, whose words have ends of their own; what other slices hold is below p.
+            Self::NotElement {
+                argument: argument @ ("ops" | "keys" | "rows"),
+                place,
+            } => write!(f, "word {place} of the list {argument} is more than it can be"),
+            Self::NotElement { argument, place } => write!(f, "word {place} of {argument} is not below p"),
             Self::BadRecord { start } => write!(f, "the record that starts at byte {start} is cut or has a wrong mark"),
         }
+    }
+}
+
+/// The words of refusal 1. No other argument has the ends of the first two sentences.
+fn past_end(f: &mut fmt::Formatter<'_>, argument: &str, limit: u64) -> fmt::Result {
+    if limit == MAX_OPS as u64 + 1 {
+        write!(f, "there are more than {MAX_OPS} operations")
+    } else if limit == MAX_KEYS as u64 + 1 {
+        write!(f, "there are more than {MAX_KEYS} keys or rows of keys")
+    } else if argument == "ops" {
+        let word = if limit == NUM_LOOKUP_TYPES as u64 { "kind" } else { "Z" };
+        write!(f, "a {word} in the list ops is past its end: {limit} or more")
+    } else {
+        write!(f, "{argument} is past its end: {limit} or more")
     }
 }
 
@@ -140,49 +196,82 @@ impl std::error::Error for Refusal {}
 mod tests {
     use super::*;
 
+    fn told(number: u64, detail: u64, argument: &'static str) -> Refusal {
+        let refused = Refusal::from_flat(number, detail, |told, with| {
+            assert_eq!((told, with), (number, detail));
+            argument
+        });
+        refused.expect_err("a refusal")
+    }
+
     #[test]
-    fn each_refusal_has_its_number_its_detail_and_its_words() {
-        let whole = |which| Refusal::NotWhole { which };
-        let past_end = "an index, a kind, a Z or a round is past its end: 16 or more";
-        let last_lane = "the last of the 25 lanes from address 9 would start past 2^64 - 1";
-        let bad_record = "the record that starts at byte 418 is cut or has a wrong mark";
+    fn each_refusal_has_its_number_its_detail_and_its_argument() {
+        let argument = "rows";
+        let whole = |argument, which| Refusal::NotWhole { argument, which };
         let cases = [
-            (Refusal::PastEnd { limit: 16 }, [1, 16], past_end),
+            (1, 16, argument, Refusal::PastEnd { argument, limit: 16 }),
+            (2, 0, "core", whole("core", Lent::Core)),
+            (2, 1, "round", whole("round", Lent::Round)),
+            (2, 2, argument, whole(argument, Lent::List)),
+            (3, 486, argument, Refusal::TooShort { argument, needed: 486 }),
+            (4, 9, argument, Refusal::HighAddress { address: 9 }),
+            (5, 7, argument, Refusal::NotElement { argument, place: 7 }),
+            (6, 418, argument, Refusal::BadRecord { start: 418 }),
+        ];
+        for (number, detail, argument, refusal) in cases {
+            assert_eq!(told(number, detail, argument), refusal);
+            assert_eq!((refusal.number(), refusal.detail()), (number, detail));
+        }
+        let none = Refusal::from_flat(0, 0, |_, _| unreachable!("nothing is refused"));
+        assert_eq!(none, Ok(()));
+    }
+
+    #[test]
+    fn each_refusal_has_its_words() {
+        let cases = [
+            (1, 10, "kind", "kind is past its end: 10 or more"),
+            (1, 1_048_576, "index", "index is past its end: 1048576 or more"),
+            (1, 10, "ops", "a kind in the list ops is past its end: 10 or more"),
+            (1, 16, "ops", "a Z in the list ops is past its end: 16 or more"),
+            (1, 89_478_486, "ops", "there are more than 89478485 operations"),
+            (1, 89_478_486, "n", "there are more than 89478485 operations"),
             (
-                Refusal::PastEnd { limit: 89_478_486 },
-                [1, 89_478_486],
-                "there are more than 89478485 operations",
-            ),
-            (
-                Refusal::PastEnd { limit: 2_236_962_126 },
-                [1, 2_236_962_126],
+                1,
+                2_236_962_126,
+                "keys",
                 "there are more than 2236962125 keys or rows of keys",
             ),
-            (whole(Lent::Core), [2, 0], "the core table is not whole rows"),
-            (whole(Lent::Round), [2, 1], "the round table is not whole rows"),
+            (2, 0, "core", "the core table is not whole rows"),
+            (2, 1, "round", "the round table is not whole rows"),
+            (2, 2, "keys", "the last entry of the list keys is not whole"),
+            (3, 486, "row", "row is shorter than the 486 words that are needed"),
+            (3, 418, "file", "file is shorter than the 418 bytes that are needed"),
             (
-                whole(Lent::List),
-                [2, 2],
-                "the list is not whole operations, lookups, keys or rows",
+                4,
+                9,
+                "ops",
+                "the last of the 25 lanes from address 9 would start past 2^64 - 1",
             ),
+            (5, 20, "row", "word 20 of row is not below p"),
+            (5, 2, "ops", "word 2 of the list ops is more than it can be"),
             (
-                Refusal::TooShort { needed: 486 },
-                [3, 486],
-                "a lent slice is shorter than the 486 that are needed",
+                6,
+                418,
+                "file",
+                "the record that starts at byte 418 is cut or has a wrong mark",
             ),
-            (Refusal::HighAddress { address: 9 }, [4, 9], last_lane),
-            (
-                Refusal::NotElement { place: 7 },
-                [5, 7],
-                "word 7 of a lent slice is not below p, or more than it can be",
-            ),
-            (Refusal::BadRecord { start: 418 }, [6, 418], bad_record),
         ];
-        for (refusal, [number, detail], words) in cases {
-            assert_eq!((refusal.number(), refusal.detail()), (number, detail));
-            assert_eq!(Refusal::from_flat(number, detail), Err(refusal));
-            assert_eq!(refusal.to_string(), words);
+        for (number, detail, argument, words) in cases {
+            assert_eq!(told(number, detail, argument).to_string(), words);
         }
-        assert_eq!(Refusal::from_flat(0, 0), Ok(()));
+    }
+
+    #[test]
+    fn a_word_is_large_from_p_on_and_where_there_is_one() {
+        let words = [P - 1, P, u64::MAX];
+        assert_eq!(
+            [0, 1, 2, 3, u64::MAX].map(|at| is_large_at(at, &words)),
+            [false, true, true, false, false]
+        );
     }
 }

@@ -1,7 +1,7 @@
 //! What a call for a tuple answers.
 
 use crate::ffi::FlatTuple;
-use crate::refusal::Refusal;
+use crate::refusal::{PAST_END, Refusal, TOO_SHORT};
 
 /// The buses of the Keccak tables and of the tables that they look up.
 #[non_exhaustive]
@@ -94,8 +94,9 @@ pub struct BusInteraction {
 }
 
 impl BusInteraction {
-    pub(crate) fn from_flat(flat: FlatTuple) -> Result<Self, Refusal> {
-        Refusal::from_flat(flat.number, flat.detail)?;
+    /// What a call for a tuple of this row answered, which has so many columns.
+    pub(crate) fn from_flat(flat: FlatTuple, row: &[u64], columns: usize) -> Result<Self, Refusal> {
+        Refusal::from_flat(flat.number, flat.detail, |number, _| of_row(number, row, columns))?;
         let header = [flat.bus, flat.side, flat.length, flat.multiplicity];
         Ok(Self::from_header(&header).expect("the definition of the answers has no other bus or side"))
     }
@@ -112,6 +113,16 @@ impl BusInteraction {
             length: usize::try_from(length).ok()?,
             multiplicity,
         })
+    }
+}
+
+/// The argument of a refusal by a call that reads a row of so many columns and writes to `out`: the row's length is checked before
+/// that of `out`.
+pub(crate) fn of_row(number: u64, row: &[u64], columns: usize) -> &'static str {
+    match number {
+        PAST_END => "index",
+        TOO_SHORT if row.len() >= columns => "out",
+        _ => "row",
     }
 }
 

@@ -3,7 +3,7 @@
 use std::fmt;
 
 use crate::ffi::{self, FlatVerdict};
-use crate::refusal::Refusal;
+use crate::refusal::{NOT_WHOLE, Refusal, is_large_at};
 
 /// One of the two tables.
 #[derive(Debug, Clone, Copy, PartialEq, Eq, Hash)]
@@ -92,10 +92,11 @@ impl Verdict {
 /// [`NotWhole`](Refusal::NotWhole): `core`, then `round`, is not whole rows; [`NotElement`](Refusal::NotElement): a
 /// word of `core`, or else of `round`, is p or more.
 pub fn verdict(core: &[u64], round: &[u64]) -> Result<Verdict, Refusal> {
-    from_flat(ffi::verdict(core, round))
+    from_flat(ffi::verdict(core, round), core)
 }
 
-fn from_flat(flat: FlatVerdict) -> Result<Verdict, Refusal> {
+/// What was said of this core table and a round table.
+fn from_flat(flat: FlatVerdict, core: &[u64]) -> Result<Verdict, Refusal> {
     let FlatVerdict {
         kind,
         first,
@@ -109,11 +110,21 @@ fn from_flat(flat: FlatVerdict) -> Result<Verdict, Refusal> {
         2 | 5 => Verdict::Lookup { table, row, index },
         3 => Verdict::Repeated { row },
         6 => Verdict::Unbalanced { table, row, index },
-        _ => match Refusal::from_flat(first, row) {
+        _ => match Refusal::from_flat(first, row, |number, detail| of_verdict(number, detail, core)) {
             Err(refusal) => return Err(refusal),
             Ok(()) => unreachable!("the definition of the verdicts has no kind {kind} with refusal 0"),
         },
     })
+}
+
+/// The argument of a refusal: of what is not whole the detail says which, and the core table's words are checked first.
+fn of_verdict(number: u64, detail: u64, core: &[u64]) -> &'static str {
+    let is_core = if number == NOT_WHOLE {
+        detail == 0
+    } else {
+        is_large_at(detail, core)
+    };
+    if is_core { "core" } else { "round" }
 }
 
 /// One line: `holds N`; or `core` or `round`, `row R`, then `value I`, `lookup I`, `timestamp 0` or `balance I`.
@@ -141,14 +152,17 @@ impl fmt::Display for Table {
 #[cfg(test)]
 mod tests {
     use super::*;
+    use crate::P;
+    use crate::refusal::Lent;
 
     fn read([kind, first, second, third]: [u64; 4]) -> Result<Verdict, Refusal> {
-        from_flat(FlatVerdict {
+        let flat = FlatVerdict {
             kind,
             first,
             second,
             third,
-        })
+        };
+        from_flat(flat, &[0, P])
     }
 
     #[test]
@@ -172,6 +186,15 @@ mod tests {
             assert_eq!(verdict.to_string(), line);
             assert_eq!(verdict.holds(), words[0] == 0);
         }
-        assert_eq!(read([7, 5, 486, 0]), Err(Refusal::NotElement { place: 486 }));
+    }
+
+    #[test]
+    fn a_refusal_names_its_table() {
+        for (place, argument) in [(0, "round"), (1, "core"), (2, "round"), (u64::MAX, "round")] {
+            assert_eq!(read([7, 5, place, 0]), Err(Refusal::NotElement { argument, place }));
+        }
+        for (detail, argument, which) in [(0, "core", Lent::Core), (1, "round", Lent::Round)] {
+            assert_eq!(read([7, 2, detail, 0]), Err(Refusal::NotWhole { argument, which }));
+        }
     }
 }

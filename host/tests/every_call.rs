@@ -13,9 +13,24 @@ use keccak_tables::{
 };
 
 const GUARD: u64 = 0xA5A5_A5A5_A5A5_A5A5;
-const TOO_MANY: Refusal = Refusal::PastEnd {
-    limit: MAX_OPS as u64 + 1,
-};
+const TOO_MANY: Refusal = past_end("n", MAX_OPS as u64 + 1);
+
+const fn past_end(argument: &'static str, limit: u64) -> Refusal {
+    Refusal::PastEnd { argument, limit }
+}
+
+fn not_whole(argument: &'static str) -> Refusal {
+    let which = Lent::List;
+    Refusal::NotWhole { argument, which }
+}
+
+fn too_short(argument: &'static str, needed: u64) -> Refusal {
+    Refusal::TooShort { argument, needed }
+}
+
+fn not_element(argument: &'static str, place: u64) -> Refusal {
+    Refusal::NotElement { argument, place }
+}
 
 fn operation() -> Operation {
     Operation {
@@ -41,10 +56,10 @@ fn bitwise_calls() {
     assert_eq!(bitwise::generate_bitwise_row(266_804, &mut row), Ok(()));
     assert_eq!(row, [52, 18, 4, 16, 54, 38, 0, 0, 0, 9024, 1, GUARD]);
     let refused = bitwise::generate_bitwise_row(bitwise::NUM_ROWS, &mut row);
-    assert_eq!(refused, Err(Refusal::PastEnd { limit: 1_048_576 }));
+    assert_eq!(refused, Err(past_end("index", 1_048_576)));
 
     assert_eq!(bitwise::row_index(52, 18, 4), Ok(266_804));
-    assert_eq!(bitwise::row_index(52, 18, 16), Err(Refusal::PastEnd { limit: 16 }));
+    assert_eq!(bitwise::row_index(52, 18, 16), Err(past_end("z", 16)));
 
     let mut counters = vec![0; bitwise::NUM_COUNTERS];
     counters[2_668_047] = P - 1;
@@ -56,7 +71,7 @@ fn bitwise_calls() {
     assert_eq!(counters[2_668_045..2_668_051], [0, 0, 0, 0, 1, 0]);
     assert_eq!(BitwiseOperationType::ByteAluAnd.number(), 7);
     let refused = bitwise::bump_numbered(&mut counters, 10, 52, 18, 16);
-    assert_eq!(refused, Err(Refusal::PastEnd { limit: 10 }));
+    assert_eq!(refused, Err(past_end("kind", 10)));
 
     let mut all = [7; bitwise::NUM_COLUMNS];
     all[..11].copy_from_slice(&row[..11]);
@@ -68,7 +83,7 @@ fn bitwise_calls() {
     assert_eq!(out, [2, 52, 18, 38, GUARD]);
     all[20] = P;
     let refused = bitwise::bus_interaction(&all, 9, &mut out);
-    assert_eq!(refused, Err(Refusal::NotElement { place: 20 }));
+    assert_eq!(refused, Err(not_element("row", 20)));
 }
 
 /// A table whole, its multiplicities from counters and from a list of lookups.
@@ -80,7 +95,7 @@ fn bitwise_table_calls() {
     let fixed = [52, 18, 4, 16, 54, 38, 0, 0, 0, 9024, 1];
     assert_eq!(row(&table), [&fixed[..], &[0; 10]].concat());
     assert_eq!(table[bitwise::TABLE_WORDS], GUARD);
-    let short = Err(Refusal::TooShort { needed: 22_020_096 });
+    let short = Err(too_short("table", 22_020_096));
     assert_eq!(bitwise::generate_bitwise_trace(&mut table[..22_020_095]), short);
 
     let mut counters = vec![0; bitwise::NUM_COUNTERS];
@@ -97,7 +112,7 @@ fn bitwise_table_calls() {
     assert_eq!(bitwise::update_multiplicities(&mut table, &ops), Ok(()));
     assert_eq!((row(&table)[20], table[11], table[12]), (111, 0, 0));
     let refused = bitwise::update_multiplicities(&mut table, &ops[..11]);
-    assert_eq!(refused, Err(Refusal::NotWhole { which: Lent::List }));
+    assert_eq!(refused, Err(not_whole("ops")));
 }
 
 #[test]
@@ -115,11 +130,12 @@ fn lookup_calls() {
     assert_eq!(shift.map(words), Ok([6, 52, 18, 15]));
     assert_eq!(BitwiseOperation::b20(52, 18, 4).map(words), Ok([5, 52, 18, 4]));
 
-    let past_end = |limit| Err(Refusal::PastEnd { limit });
-    assert_eq!(BitwiseOperation::new(kind, 52, 18, 16), past_end(16));
-    assert_eq!(BitwiseOperation::shift_op(kind, 52, 18, 255), past_end(16));
-    assert_eq!(BitwiseOperation::b20(52, 18, 16), past_end(16));
-    assert_eq!(BitwiseOperation::zero(1_048_576), past_end(1_048_576));
+    let refused = Err(past_end("z", 16));
+    assert_eq!(BitwiseOperation::new(kind, 52, 18, 16), refused);
+    assert_eq!(BitwiseOperation::shift_op(kind, 52, 18, 255), refused);
+    assert_eq!(BitwiseOperation::b20(52, 18, 16), refused);
+    let refused = BitwiseOperation::zero(1_048_576);
+    assert_eq!(refused, Err(past_end("value", 1_048_576)));
 }
 
 #[test]
@@ -130,23 +146,20 @@ fn counter_calls() {
     assert_eq!(bitwise::bump_n_numbered(&mut counters, 7, 52, 18, 4, P - 6), Ok(()));
     assert_eq!(counters[place], P - 1);
     let refused = bitwise::bump_n_numbered(&mut counters, 7, 52, 18, 16, 0);
-    assert_eq!(refused, Err(Refusal::PastEnd { limit: 16 }));
+    assert_eq!(refused, Err(past_end("z", 16)));
 
     let ops = [7, 52, 18, 4, 3, 1, 2, 0, 3, 1, 2, 0];
     assert_eq!(bitwise::add_ops(&mut counters, &ops), Ok(()));
     assert_eq!((counters[place], counters[5133]), (0, 2));
     let refused = bitwise::add_ops(&mut counters, &[3, 1, 256, 0]);
-    assert_eq!(refused, Err(Refusal::NotElement { place: 2 }));
+    assert_eq!(refused, Err(not_element("ops", 2)));
 
     let mut other = vec![0; bitwise::NUM_COUNTERS];
     other[5133] = P - 1;
     assert_eq!(bitwise::merge(&mut counters, &other), Ok(()));
     assert_eq!((counters[5133], counters.iter().sum::<u64>()), (1, 1));
     other[9] = P;
-    assert_eq!(
-        bitwise::merge(&mut counters, &other),
-        Err(Refusal::NotElement { place: 9 })
-    );
+    assert_eq!(bitwise::merge(&mut counters, &other), Err(not_element("other", 9)));
 }
 
 #[test]
@@ -155,16 +168,13 @@ fn constant_calls() {
     let mut row = [GUARD; 10];
     assert_eq!(keccak_rc::generate_row(23, &mut row), Ok(()));
     assert_eq!((&row[..9], row[9]), (&last[..], GUARD));
-    assert_eq!(
-        keccak_rc::generate_row(32, &mut row),
-        Err(Refusal::PastEnd { limit: 32 })
-    );
+    assert_eq!(keccak_rc::generate_row(32, &mut row), Err(past_end("round", 32)));
 
     let mut table = [GUARD; keccak_rc::TABLE_WORDS + 1];
     assert_eq!(keccak_rc::generate_keccak_rc_trace(&mut table), Ok(()));
     assert_eq!((&table[230..239], table[239], table[320]), (&last[..], 0, GUARD));
     let refused = keccak_rc::generate_keccak_rc_trace(&mut table[..319]);
-    assert_eq!(refused, Err(Refusal::TooShort { needed: 320 }));
+    assert_eq!(refused, Err(too_short("table", 320)));
 
     assert_eq!(keccak_rc::update_multiplicities(&mut table, 7), Ok(()));
     assert_eq!([table[9], table[239], table[249]], [7, 7, 0]);
@@ -175,7 +185,7 @@ fn constant_calls() {
     assert_eq!(answer, received(Bus::KeccakRc, 9, 7));
     assert_eq!((&row[..9], row[9]), (&last[..], GUARD));
     let refused = keccak_rc::bus_interaction(&table[230..240], 1, &mut row);
-    assert_eq!(refused, Err(Refusal::PastEnd { limit: 1 }));
+    assert_eq!(refused, Err(past_end("index", 1)));
 }
 
 #[test]
@@ -188,7 +198,7 @@ fn key_calls() {
     assert_eq!(answer, received(Bus::IsWh, 2, 9));
     assert_eq!(out, [65_538, 3, GUARD]);
     let refused = is_wh::bus_interaction(&[3, 2, 1, 9], 4, &mut out[..1]);
-    assert_eq!(refused, Err(Refusal::TooShort { needed: 2 }));
+    assert_eq!(refused, Err(too_short("out", 2)));
 }
 
 #[test]
@@ -202,18 +212,18 @@ fn key_row_calls() {
     assert_eq!((&rows[..9], &rows[9..]), (&expected[..], &[GUARD; 4][..]));
     assert_eq!((codes[4], spare[4]), (GUARD, GUARD));
     let refused = is_wh::dedup_is_wh_rows(&keys, &mut codes, &mut spare, &mut rows[..11]);
-    assert_eq!(refused, Err(Refusal::TooShort { needed: 12 }));
+    assert_eq!(refused, Err(too_short("rows", 12)));
 
     assert_eq!(is_wh::is_wh_height(5), Ok(8));
     let refused = is_wh::is_wh_height(is_wh::MAX_KEYS + 1);
-    assert_eq!(refused, Err(Refusal::PastEnd { limit: 2_236_962_126 }));
+    assert_eq!(refused, Err(past_end("n", 2_236_962_126)));
 
     let mut table = [GUARD; 17];
     assert_eq!(is_wh::generate_is_wh_trace(&rows[..9], &mut table), Ok(()));
     let words = [65_535, 0, 0, 1, 8, 7, 0, 1, 9, 7, 0, 2, 0, 0, 0, 0, GUARD];
     assert_eq!(table, words);
     let refused = is_wh::generate_is_wh_trace(&[1, 2, 1 << 20], &mut table);
-    assert_eq!(refused, Err(Refusal::NotElement { place: 2 }));
+    assert_eq!(refused, Err(not_element("rows", 2)));
 
     let mut counters = vec![0; bitwise::NUM_COUNTERS];
     assert_eq!(is_wh::collect_bitwise_from_is_wh(&rows[..9], &mut counters), Ok(()));
@@ -236,7 +246,7 @@ fn key_row_calls() {
         ]
     );
     let refused = is_wh::collect_bitwise_from_is_wh(&rows[..8], &mut counters);
-    assert_eq!(refused, Err(Refusal::NotWhole { which: Lent::List }));
+    assert_eq!(refused, Err(not_whole("rows")));
 }
 
 /// The same in memory of their own, and from operations.
@@ -251,9 +261,9 @@ fn key_rows_of_their_own() {
     assert_eq!(of_operations.charge(&mut counters), Ok(()));
     assert_eq!((counters[5], counters[255], counters[34]), (3, 1, 25));
     assert_eq!(IsWhRows::of_keys(&[]).map(|rows| rows.words().len()), Ok(0));
-    assert_eq!(IsWhRows::of_keys(&[1]), Err(Refusal::NotWhole { which: Lent::List }));
+    assert_eq!(IsWhRows::of_keys(&[1]), Err(not_whole("keys")));
     let refused = IsWhRows::of_operations(&operation().words()[1..]);
-    assert_eq!(refused, Err(Refusal::NotWhole { which: Lent::List }));
+    assert_eq!(refused, Err(not_whole("ops")));
 }
 
 /// The core row of the operation, and a word past it.
@@ -270,15 +280,15 @@ fn core_row_and_table_calls() {
     assert_eq!(row[..10], [5, 0, 8, 0, 2, 0, 3, 0, 0, 0]);
     assert_eq!(row[485..], [1, GUARD]);
     let refused = keccak::keccak_row(&list, 1, &mut row);
-    assert_eq!(refused, Err(Refusal::PastEnd { limit: 1 }));
+    assert_eq!(refused, Err(past_end("index", 1)));
 
     let mut table = vec![GUARD; 4 * keccak::NUM_COLUMNS + 1];
     assert_eq!(keccak::generate_keccak_trace(&list, &mut table), Ok(()));
     assert_eq!((&table[..486], table[486 + 413], table[1944]), (&row[..486], 8, GUARD));
     assert_eq!(keccak::keccak_table(&list), Ok(table[..1944].to_vec()));
-    let not_whole = Refusal::NotWhole { which: Lent::List };
-    assert_eq!(keccak::generate_keccak_trace(&list[..51], &mut table), Err(not_whole));
-    assert_eq!(keccak::keccak_table(&list[1..]), Err(not_whole));
+    let refused = keccak::generate_keccak_trace(&list[..51], &mut table);
+    assert_eq!(refused, Err(not_whole("ops")));
+    assert_eq!(keccak::keccak_table(&list[1..]), Err(not_whole("ops")));
 }
 
 /// The rows of two operations, by one call and by one each into its own part; a list that is refused as the table is.
@@ -301,7 +311,7 @@ fn core_rows_calls() {
     }
     assert_eq!(parts, rows[..words]);
     let refused = keccak::keccak_rows(&list, &mut rows[..words - 1]);
-    assert_eq!(refused, Err(Refusal::TooShort { needed: words as u64 }));
+    assert_eq!(refused, Err(too_short("table", words as u64)));
     assert_eq!(parts, rows[..words]);
 }
 
@@ -326,14 +336,14 @@ fn core_value_and_tuple_calls() {
     assert_eq!(keccak::core_values(&row, &mut values), Ok(()));
     assert_eq!((&values[..52], values[52]), (&[0; 52][..], GUARD));
     let refused = keccak::core_values(&row[..485], &mut values);
-    assert_eq!(refused, Err(Refusal::TooShort { needed: 486 }));
+    assert_eq!(refused, Err(too_short("row", 486)));
 
     let mut out = [GUARD; keccak::MAX_TUPLE_LENGTH];
     let answer = keccak::bus_interaction(&row, 0, 0x7_0000_0006, &mut out);
     assert_eq!(answer, received(Bus::Ecall, 4, 1));
     assert_eq!(out[..5], [5, 0, 6, 7, GUARD]);
     let refused = keccak::bus_interaction(&row, 84, 0, &mut out);
-    assert_eq!(refused, Err(Refusal::PastEnd { limit: 84 }));
+    assert_eq!(refused, Err(past_end("index", 84)));
 
     let mut all = [GUARD; keccak::TUPLE_WORDS + 1];
     assert_eq!(keccak::bus_interactions(&row, 0x7_0000_0006, &mut all), Ok(()));
@@ -343,7 +353,7 @@ fn core_value_and_tuple_calls() {
     );
     assert_eq!(tuples(&all[..1457]).count(), keccak::NUM_TUPLES);
     let refused = keccak::bus_interactions(&row, 0, &mut all[..1456]);
-    assert_eq!(refused, Err(Refusal::TooShort { needed: 1457 }));
+    assert_eq!(refused, Err(too_short("out", 1457)));
 }
 
 /// The row of round 0 from the zero state, and a word past it.
@@ -359,7 +369,7 @@ fn round_row_and_table_calls() {
     let mut row = round_row();
     assert_eq!((row[0], row[1471], row[1479], row[1480]), (5, 1, 1, GUARD));
     let refused = keccak_rnd::keccak_rnd_row(5, &[0; 24], 0, &mut row);
-    assert_eq!(refused, Err(Refusal::TooShort { needed: 25 }));
+    assert_eq!(refused, Err(too_short("start", 25)));
 
     let words = 32 * keccak_rnd::NUM_COLUMNS;
     let mut table = vec![GUARD; words + 1];
@@ -367,7 +377,7 @@ fn round_row_and_table_calls() {
     assert_eq!((&table[..1480], table[words]), (&row[..1480], GUARD));
     assert_eq!(keccak_rnd::keccak_rnd_table(&list), Ok(table[..words].to_vec()));
     let refused = keccak_rnd::generate_keccak_rnd_trace(&list, &mut table[..words - 1]);
-    assert_eq!(refused, Err(Refusal::TooShort { needed: words as u64 }));
+    assert_eq!(refused, Err(too_short("table", words as u64)));
 
     assert_eq!(keccak_rnd::keccak_rnd_height(2_731), Ok(131_072));
     assert_eq!(keccak_rnd::keccak_rnd_height(MAX_OPS + 1), Err(TOO_MANY));
@@ -396,7 +406,7 @@ fn round_rows_calls() {
     }
     assert_eq!(parts, rows[..2 * part_words]);
     let refused = keccak_rnd::keccak_rnd_rows(&list[..103], &mut rows);
-    assert_eq!(refused, Err(Refusal::NotWhole { which: Lent::List }));
+    assert_eq!(refused, Err(not_whole("ops")));
     assert_eq!(parts, rows[..2 * part_words]);
 }
 
@@ -431,7 +441,7 @@ fn tables_on_all_cores_are_those_of_one_call() {
             list[i as usize * OP_WORDS + 1] = address;
             assert_eq!(table(&list), Err(Refusal::HighAddress { address }));
         }
-        assert_eq!(table(&list[1..]), Err(Refusal::NotWhole { which: Lent::List }));
+        assert_eq!(table(&list[1..]), Err(not_whole("ops")));
     }
 }
 
@@ -453,7 +463,7 @@ fn round_value_and_tuple_calls() {
     assert_eq!(tuples(&all[..8211]).count(), keccak_rnd::NUM_TUPLES);
 
     row[1479] = P;
-    let refused = Err(Refusal::NotElement { place: 1479 });
+    let refused = Err(not_element("row", 1479));
     assert_eq!(keccak_rnd::bus_interactions(&row, &mut all), refused);
     assert_eq!(keccak_rnd::round_values(&row, &mut values), refused);
     assert_eq!(keccak_rnd::bus_interaction(&row, 0, &mut out).map(drop), refused);
@@ -482,7 +492,13 @@ fn verdict_calls() {
     assert!(!unbalanced.holds());
     assert_eq!(verdict::verdict(&core, &round), Ok(Verdict::Holds { active: 1 }));
     let refused = verdict::verdict(&core, &round[1..]);
-    assert_eq!(refused, Err(Refusal::NotWhole { which: Lent::Round }));
+    assert_eq!(
+        refused,
+        Err(Refusal::NotWhole {
+            argument: "round",
+            which: Lent::Round
+        })
+    );
 }
 
 #[test]
@@ -492,7 +508,7 @@ fn file_calls() {
     assert_eq!(operation_file::write_operations(&list, &mut file), Ok(()));
     assert_eq!((&file[..3], file[418]), (&[0x4B, 0x4F, 5][..], 0xA5));
     let refused = operation_file::write_operations(&list, &mut file[..417]);
-    assert_eq!(refused, Err(Refusal::TooShort { needed: 418 }));
+    assert_eq!(refused, Err(too_short("file", 418)));
 
     let mut read = [GUARD; OP_WORDS + 1];
     assert_eq!(operation_file::read_operations(&file[..418], &mut read), Ok(()));

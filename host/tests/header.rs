@@ -144,12 +144,19 @@ fn capitals(name: &str) -> String {
 }
 
 fn refusals() -> Vec<(String, u64)> {
+    let argument = "any";
     let refusals = [
-        ("PAST_END", Refusal::PastEnd { limit: 0 }),
-        ("NOT_WHOLE", Refusal::NotWhole { which: Lent::Core }),
-        ("TOO_SHORT", Refusal::TooShort { needed: 0 }),
+        ("PAST_END", Refusal::PastEnd { argument, limit: 0 }),
+        (
+            "NOT_WHOLE",
+            Refusal::NotWhole {
+                argument,
+                which: Lent::Core,
+            },
+        ),
+        ("TOO_SHORT", Refusal::TooShort { argument, needed: 0 }),
         ("HIGH_ADDRESS", Refusal::HighAddress { address: 0 }),
-        ("NOT_ELEMENT", Refusal::NotElement { place: 0 }),
+        ("NOT_ELEMENT", Refusal::NotElement { argument, place: 0 }),
         ("BAD_RECORD", Refusal::BadRecord { start: 0 }),
     ];
     let none = [("NONE".to_string(), 0)];
@@ -159,7 +166,8 @@ fn refusals() -> Vec<(String, u64)> {
 }
 
 fn lent((name, which): (&str, Lent)) -> (String, u64) {
-    (name.to_string(), Refusal::NotWhole { which }.detail())
+    let argument = "any";
+    (name.to_string(), Refusal::NotWhole { argument, which }.detail())
 }
 
 fn kinds() -> Vec<(String, u64)> {

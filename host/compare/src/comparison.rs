@@ -181,7 +181,10 @@ mod tests {
     #[test]
     fn a_refusal_is_its_number_and_its_detail() {
         let input = || "test".to_string();
-        let refusal = Refusal::PastEnd { limit: 10 };
+        let refusal = Refusal::PastEnd {
+            argument: "kind",
+            limit: 10,
+        };
         assert_eq!(run(|c| c.refused(input, Err::<(), _>(refusal), 1, 10)), (2, 0));
         assert_eq!(run(|c| c.refused(input, Err::<(), _>(refusal), 1, 16)), (2, 1));
         assert_eq!(run(|c| c.refused(input, Ok(()), 1, 10)), (2, 1));

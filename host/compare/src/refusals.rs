@@ -429,7 +429,10 @@ fn one_verdict(comparison: &mut Comparison, words: &mut Words, core: &[u64], rou
 
 #[cfg(test)]
 mod tests {
-    use super::MATRIX;
+    use super::*;
+    use keccak_tables::is_wh::{
+        IsWhRows, MAX_KEYS, collect_bitwise_from_is_wh, dedup_is_wh_rows, generate_is_wh_trace,
+    };
 
     #[test]
     fn the_matrix_has_every_call_of_the_header() {
@@ -439,5 +442,43 @@ mod tests {
         for (call, _) in MATRIX {
             assert_eq!(header.matches(&format!(" keccak_tables_{call}(")).count(), 1, "{call}");
         }
+    }
+
+    /// The list is named, whatever else is wrong; the tables and rows that have memory of their own name the list that they are given.
+    #[test]
+    fn of_too_long_a_list_the_list_is_named() {
+        let Some(untouched) = Untouched::operations(MAX_OPS + 1) else {
+            return;
+        };
+        let long = untouched.words();
+        let named = |argument, limit| Err(Refusal::PastEnd { argument, limit });
+        let index = keccak::keccak_row(&long[OP_WORDS..], MAX_OPS, &mut []);
+        assert_eq!(index, named("index", MAX_OPS as u64));
+        let refused = named("ops", TOO_MANY);
+        for call in &LIST_CALLS {
+            assert_eq!((call.call)(long, usize::MAX, &mut []), refused, "{}", call.name);
+        }
+        assert_eq!(write_operations(long, &mut []), refused);
+        assert_eq!(keccak::keccak_table(long).map(drop), refused);
+        assert_eq!(keccak_rnd::keccak_rnd_table(long).map(drop), refused);
+        assert_eq!(IsWhRows::of_operations(long).map(drop), refused);
+    }
+
+    /// The same of keys and of rows of keys.
+    #[test]
+    fn of_too_many_keys_the_list_is_named() {
+        let Some(untouched) = Untouched::new(3 * (MAX_KEYS + 1), "the most rows of keys") else {
+            return;
+        };
+        let (rows, keys) = (untouched.words(), &untouched.words()[..2 * (MAX_KEYS + 1)]);
+        let named = |argument| {
+            let limit = MAX_KEYS as u64 + 1;
+            Err(Refusal::PastEnd { argument, limit })
+        };
+        assert_eq!(IsWhRows::of_keys(keys).map(drop), named("keys"));
+        let dedup = dedup_is_wh_rows(keys, &mut [], &mut [], &mut []);
+        assert_eq!(dedup.map(drop), named("keys"));
+        assert_eq!(generate_is_wh_trace(rows, &mut []), named("rows"));
+        assert_eq!(collect_bitwise_from_is_wh(rows, &mut []), named("rows"));
     }
 }

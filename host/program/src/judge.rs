@@ -7,7 +7,7 @@ use super::failures::{failures, in_writers_order};
 use super::progress::{Progress, Waiting};
 use super::{Failure, Outcome, Streams, files, refused};
 use keccak_tables::verdict::{Table, verdict};
-use keccak_tables::{Lent, P, Refusal, keccak, keccak_rnd, layout};
+use keccak_tables::{Lent, Refusal, keccak, keccak_rnd, layout};
 
 pub fn judge(arguments: &[OsString], streams: &mut Streams) -> Result<Outcome, Failure> {
     let wrong = || Failure::Usage("judge takes two files, CORE ROUND, and before them --all or --all --most N".into());
@@ -73,7 +73,7 @@ fn list(core: &[u64], round: &[u64], most: usize, streams: &mut Streams) -> Resu
 fn words(refusal: Refusal, core: &[u64], round: &[u64]) -> String {
     let (core, round) = (("CORE", Table::Core, core), ("ROUND", Table::Round, round));
     match refusal {
-        Refusal::NotWhole { which } => {
+        Refusal::NotWhole { which, .. } => {
             let (name, table, words) = if which == Lent::Core { core } else { round };
             format!(
                 "{name} has {} words, which are not whole rows of {}",
@@ -81,14 +81,9 @@ fn words(refusal: Refusal, core: &[u64], round: &[u64]) -> String {
                 width(table)
             )
         }
-        Refusal::NotElement { place } => {
-            // The core table is looked through first.
+        Refusal::NotElement { argument, place } => {
             let at = place as usize;
-            let (name, table, words) = if core.2.iter().any(|&word| word >= P) {
-                core
-            } else {
-                round
-            };
+            let (name, table, words) = if argument == "core" { core } else { round };
             let (row, column) = (at / width(table), at % width(table));
             let place = layout::column(table, column)
                 .map(|place| place.to_string())

@@ -162,7 +162,7 @@ fn refused(refusal: Refusal, words: &str, streams: &mut Streams) -> Result<Outco
 /// The refusal of an operation file, in words.
 fn file_refused(refusal: Refusal, streams: &mut Streams) -> Result<Outcome, Failure> {
     let words = match refusal {
-        Refusal::PastEnd { limit } => format!(
+        Refusal::PastEnd { limit, .. } => format!(
             "the file goes on after record {}, which is the last that it may have",
             limit - 1
         ),

@@ -110,7 +110,7 @@ fn a_run_that_is_cut_short_leaves_what_was_there() {
         .spawn()
         .unwrap();
     let part = format!("core.{}.part", run.id());
-    while fs::metadata(folder.0.join(&part)).is_ok_and(|about| about.len() > 0) == false {
+    while !fs::metadata(folder.0.join(&part)).is_ok_and(|about| about.len() > 0) {
         assert_eq!(run.try_wait().unwrap(), None);
         std::thread::sleep(std::time::Duration::from_millis(1));
     }
