@@ -6,8 +6,8 @@ use Rattle.answer.specs.Refusal.{refusalNumber, refusalDetail}
 use Rattle.answer.specs.declared.Refusal.the-variants.{PastEnd}
 use Rattle.bitwise.specs.Columns.{NUM-LOOKUP-TYPES}
 use Rattle.bitwise.specs.Tuples.{lookup-type-index}
-use Rattle.bitwise_lookups.specs.declared.OperationAnswer.{OperationAnswer}
-use Rattle.bitwise_lookups.specs.declared.OperationAnswer.the-variants.{Is, Refused}
+use Rattle.bitwise_operations.specs.declared.OperationAnswer.{OperationAnswer}
+use Rattle.bitwise_operations.specs.declared.OperationAnswer.the-variants.{Is, Refused}
 use Rattle.flat.specs.declared.FlatLookup.{FlatLookup}
 
 -- 1: "kind (≥ 10) .. past its end, detail the least number refused"; else what the constructor answers

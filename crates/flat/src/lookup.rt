@@ -2,8 +2,8 @@
 use super::FlatLookup;
 use answer::Refusal;
 use bitwise::NUM_LOOKUP_TYPES;
-use bitwise_lookups::OperationAnswer;
-use bitwise_lookups::lookup_type_index;
+use bitwise_operations::OperationAnswer;
+use bitwise_operations::lookup_type_index;
 ghost use mathlib.Core.Path.{_≡_};
 ghost use Rattle.flat.specs.FlatLookup.{ofKind, flatLookup};
 

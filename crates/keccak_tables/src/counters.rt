@@ -55,7 +55,7 @@ pub extern "C" fn keccak_tables_add_ops(counters: &mut [u64], ops: &[u64]) -> Fl
     ensures answer { λ r. ⌜ r ≡ flatAnswer (answerOf (addOpsRefusal (now (counters .entry)) (now (ops .entry)))) ⌝ }
     ensures words { λ _. ⌜ now (counters .exit) ≡ addOpsAfter (now (counters .entry)) (now (ops .entry)) ⌝ }
 {
-    flat_answer(bitwise_lookups::counted::add_ops(counters, ops))
+    flat_answer(bitwise_operations::counted::add_ops(counters, ops))
 }
 
 #[no_mangle]
@@ -66,5 +66,5 @@ pub extern "C" fn keccak_tables_bitwise_update_multiplicities(
     ensures answer { λ r. ⌜ r ≡ flatAnswer (answerOf (updateRefusal (now (table .entry)) (now (ops .entry)))) ⌝ }
     ensures words { λ _. ⌜ now (table .exit) ≡ updateAfter (now (table .entry)) (now (ops .entry)) ⌝ }
 {
-    flat_answer(bitwise_lookups::counted::update_multiplicities(table, ops))
+    flat_answer(bitwise_operations::counted::update_multiplicities(table, ops))
 }

@@ -1,6 +1,6 @@
 // A lookup by the Rust's constructors, its kind by its number: the words of it that a list of lookups has.
-use bitwise_lookups::BitwiseOperation;
-use bitwise_lookups::OperationAnswer;
+use bitwise_operations::BitwiseOperation;
+use bitwise_operations::OperationAnswer;
 use bitwise_tuples::kinds::kind_at;
 use flat::FlatLookup;
 use flat::lookup::flat_lookup;
@@ -9,8 +9,8 @@ ghost use mathlib.Core.Path.{_≡_};
 ghost use Rattle.bitwise.specs.Row.{indexRefusal};
 ghost use Rattle.bitwise.specs.Tuples.{kindAt};
 ghost use Rattle.bitwise.specs.declared.BitwiseOperationType.the-variants.{Zero, IsB20};
-ghost use Rattle.bitwise_lookups.specs.Operation.{operation, twentyBits, operationOf, zeroRefusal};
-ghost use Rattle.bitwise_lookups.specs.declared.OperationAnswer.the-variants.{Is};
+ghost use Rattle.bitwise_operations.specs.Operation.{operation, twentyBits, operationOf, zeroRefusal};
+ghost use Rattle.bitwise_operations.specs.declared.OperationAnswer.the-variants.{Is};
 ghost use Rattle.flat.specs.FlatLookup.{ofKind, flatLookup};
 
 #[no_mangle]
