@@ -86,11 +86,14 @@ impl BitwiseOperation {
         if value >= 1048576 {
             return OperationAnswer::Refused(Refusal::PastEnd(1048576));
         }
+        let x = value % 256;
+        let y = value / 256 % 256;
+        let z = value / 65536;
         OperationAnswer::Is(BitwiseOperation {
             lookup_type: BitwiseOperationType::Zero,
-            x: (value % 256) as u8,
-            y: (value / 256 % 256) as u8,
-            z: (value / 65536) as u8,
+            x: x as u8,
+            y: y as u8,
+            z: z as u8,
         })
     }
 

@@ -12,11 +12,11 @@ returns : tie.Need-returns
 unfolding zeroRefusal
 returns c = operation-refused _ (refuse-yes _ _ (le-leb _ _ (c .if1 .taken)))
 
-cast-t6 : tie.Need-cast-t6
-cast-t6 c = omega arith
-
 cast-t9 : tie.Need-cast-t9
 cast-t9 c = omega arith
+
+cast-t10 : tie.Need-cast-t10
+cast-t10 c = omega arith
 
 cast-t11 : tie.Need-cast-t11
 cast-t11 c = omega arith
@@ -30,7 +30,7 @@ zero-spec =
     tie.close
     (tie.spec
     returns
-    cast-t6
     cast-t9
+    cast-t10
     cast-t11
     returns-2)
