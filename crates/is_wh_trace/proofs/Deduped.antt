@@ -13,7 +13,7 @@ use Rattle.lists.specs.First.{firstAt}
 use Rattle.answer.specs.Refusal.{accepted}
 use Rattle.sort.specs.Sorted.{copies}
 use Rattle.keccak.specs.Height.{height}
-use Rattle.is_wh_rows.specs.Rows.{Row, keyCode, codes, place, distinct, counted, keyRows, rowsFor, rowsOf, flat}
+use Rattle.is_wh_rows.specs.Rows.{Row, keyCode, codes, place, distinct, muOf, keyRows, rowsFor, rowsOf, flat}
 use Rattle.is_wh_rows.specs.Lists.{MAX-KEYS, limitOf, badAt, GoodList}
 use Rattle.is_wh_rows.proofs.Order.{Each, each-append, each-key}
 use Rattle.is_wh_rows.proofs.Flat.{length-flat}
@@ -65,7 +65,7 @@ fine-rows f [] h = tt
 fine-rows f (k ∷ ks) h =
     each-append Fine (keyRows k (f k)) (rowsFor f ks) (each-key Fine k (f k) (λ j l. fine k (f k) j (h .0))) (fine-rows f ks (h .1))
   where
-    fine : (c n j : ℕ) → c < 281474976710656 → (c / 65536 < 4294967296) × (c % 65536 < 65536) × (counted n j < 1048576)
+    fine : (c n j : ℕ) → c < 281474976710656 → (c / 65536 < 4294967296) × (c % 65536 < 65536) × (muOf n j < 1048576)
     fine c n j l = (omega arith, omega arith, omega arith)
 
 limit-again : (k : ℕ) → limitOf (suc (suc (suc k)) % 3) ≡ limitOf (k % 3)
