@@ -20,7 +20,7 @@ use Rattle.is_wh_rows.proofs.Flat.{length-flat}
 use Rattle.is_wh_rows.proofs.Keys.{word-small, half-small}
 use Rattle.is_wh_rows.proofs.Lists.{rows-accepted}
 use Rattle.is_wh_rows.proofs.Refusals.{rows-few}
-use Rattle.is_wh_trace.specs.Trace.{rowCount, traceRefusal}
+use Rattle.is_wh_trace.specs.Trace.{rowCount, isWhTraceRefusal}
 
 -- ---- codes of 48 bits
 
@@ -95,8 +95,8 @@ module _ (keys : List ℕ) (ok : firstAt (badAt 2 keys) (length keys) ≡ none) 
       }
 
   pub deduped-accepted : length keys / 2 ≤ MAX-KEYS → (room : ℕ)
-      → (traceRefusal room (flat (rowsOf (codes keys))) ≡ accepted) ↔ (height 4 (length (rowsOf (codes keys))) * 4 ≤ room)
-  unfolding traceRefusal
+      → (isWhTraceRefusal room (flat (rowsOf (codes keys))) ≡ accepted) ↔ (height 4 (length (rowsOf (codes keys))) * 4 ≤ room)
+  unfolding isWhTraceRefusal
   deduped-accepted few room =
       let rows = flat (rowsOf (codes keys)) in
       let e : height 4 (rowCount rows) * 4 ≡ height 4 (length (rowsOf (codes keys))) * 4 = ap (λ (n : ℕ). height 4 n * 4) rows-counted in

@@ -86,7 +86,7 @@ use Rattle.bus_sums.proofs.Receipt.{sums-holds, sums-demand, ours-filled, witne
 use Rattle.matching.specs.Matching.{Matched}
 use Rattle.is_wh_rows.specs.Lists.{GoodList}
 use Rattle.is_wh_rows.specs.Calls.{dedupRefusal}
-use Rattle.is_wh_trace.specs.Trace.{rowCount, isWhHeight, isWhTable, traceRefusal, traceAfter}
+use Rattle.is_wh_trace.specs.Trace.{rowCount, isWhHeight, isWhTable, isWhTraceRefusal, isWhTraceAfter}
 use Rattle.is_wh_counts.specs.Counts.{isWhCharged}
 use Rattle.is_wh_sums.proofs.Sent.{rows-matched}
 use Rattle.is_wh_sums.proofs.Written.{keysOf, rowsWritten, written-balanced, collected-is-sent}
@@ -374,9 +374,9 @@ module _ (ops out : List ℕ) (wrote-keys : keysRefusal (length out) ops ≡ acc
   -- that `dedup_is_wh_rows` leaves, and their table, each list of values is received on IsWh exactly as often as the
   -- core table that `generate_keccak_trace` leaves sends it
   pub pairs-received : (C S R : List ℕ) (wrote-rows : dedupRefusal (length C) (length S) (length R) (keysOf ops out wrote-keys) ≡ accepted) →
-      (T core : List ℕ) → traceRefusal (length T) (rowsWritten ops out wrote-keys C S R wrote-rows) ≡ accepted → coreTraceRefusal (length core) ops ≡ accepted →
+      (T core : List ℕ) → isWhTraceRefusal (length T) (rowsWritten ops out wrote-keys C S R wrote-rows) ≡ accepted → coreTraceRefusal (length core) ops ≡ accepted →
       (nr : ℕ) (v : List ℕ) →
-      tableShare Receiver IsWh v isWhKind (take (isWhHeight (rowsWritten ops out wrote-keys C S R wrote-rows) * 4) (traceAfter (rowsWritten ops out wrote-keys C S R wrote-rows) T))
+      tableShare Receiver IsWh v isWhKind (take (isWhHeight (rowsWritten ops out wrote-keys C S R wrote-rows) * 4) (isWhTraceAfter (rowsWritten ops out wrote-keys C S R wrote-rows) T))
       ≡ tableShare Sender IsWh v (coreKind nr) (take (height 4 (opCount ops) * 486) (coreTraceAfter ops core))
   pairs-received C S R wrote-rows T core wrote-table wrote-core = written-balanced ops out wrote-keys C S R wrote-rows T core wrote-table wrote-core
 
