@@ -19,7 +19,7 @@ use Rattle.lists.proofs.Then.{by-le}
 use Rattle.sort.specs.Sorted.{copies}
 use Rattle.sort.proofs.Laws.{Least, least-le}
 use Rattle.sort.proofs.Unique.{copies-below, copies-none}
-use Rattle.is_wh_rows.specs.Rows.{Row, MU-MAX, keyCode, codes, place, distinct, rowOf, rowsNeeded, counted, keyRows, rowsFor, rowsOf}
+use Rattle.is_wh_rows.specs.Rows.{Row, MU-MAX, keyCode, codes, place, distinct, rowOf, rowsNeeded, muOf, keyRows, rowsFor, rowsOf}
 use Rattle.is_wh_rows.specs.Lists.{badAt}
 use Rattle.is_wh_rows.specs.Meaning.{timesSent, timesCounted}
 use Rattle.is_wh_rows.proofs.Distinct.{by-order, place-before, place-same, place-past, place-none, least-place}
@@ -125,7 +125,7 @@ module _ (w h : ℕ) (lh : h < 65536) where
       let e : c / 65536 * 65536 + c % 65536 ≡ c = omega arith in
       ap (λ (b : Bool). pick b n 0 + 0) (same-pair (c / 65536) (c % 65536) w h (omega arith) lh ∙ ap (eqb (w * 65536 + h)) e) ∙ omega arith
 
-  full-rows : (c n m : ℕ) → timesCounted w h (tab m (λ j. rowOf c (counted n j))) ≡ pick (eqb (w * 65536 + h) c) (min n (m * MU-MAX)) 0
+  full-rows : (c n m : ℕ) → timesCounted w h (tab m (λ j. rowOf c (muOf n j))) ≡ pick (eqb (w * 65536 + h) c) (min n (m * MU-MAX)) 0
   unfolding tab tabFrom timesCounted
   full-rows c n zero = go (eqb (w * 65536 + h) c)
     where
@@ -133,11 +133,11 @@ module _ (w h : ℕ) (lh : h < 65536) where
       go true = omega arith
       go false = refl
   full-rows c n (suc m) =
-      let f : ℕ → Row = λ j. rowOf c (counted n j) in
+      let f : ℕ → Row = λ j. rowOf c (muOf n j) in
       ap (λ (k : ℕ). timesCounted w h (tab k f)) (sym (add-one m))
       ∙ ap (timesCounted w h) (sym (tab-last m f))
       ∙ counted-append w h (tab m f) (f m ∷ [])
-      ∙ ap₂ _+_ (full-rows c n m) (one-row c (counted n m))
+      ∙ ap₂ _+_ (full-rows c n m) (one-row c (muOf n m))
       ∙ go (eqb (w * 65536 + h) c)
     where
       go : (b : Bool) → pick b (min n (m * 1048575)) 0 + pick b (min 1048575 (n - m * 1048575)) 0 ≡ pick b (min n (suc m * 1048575)) 0
@@ -190,15 +190,15 @@ module _ (w h : ℕ) (big : 65536 ≤ h) where
   unfolding timesCounted
   late-row c n = ap (λ (b : Bool). pick b n 0 + 0) (false-and (eqb (c / 65536) w) (eqb (c % 65536) h) (λ t. ne-eqb (c % 65536) h (λ e. omega arith)))
 
-  late-rows : (c n m : ℕ) → timesCounted w h (tab m (λ j. rowOf c (counted n j))) ≡ 0
+  late-rows : (c n m : ℕ) → timesCounted w h (tab m (λ j. rowOf c (muOf n j))) ≡ 0
   unfolding tab tabFrom timesCounted
   late-rows c n zero = refl
   late-rows c n (suc m) =
-      let f : ℕ → Row = λ j. rowOf c (counted n j) in
+      let f : ℕ → Row = λ j. rowOf c (muOf n j) in
       ap (λ (k : ℕ). timesCounted w h (tab k f)) (sym (add-one m))
       ∙ ap (timesCounted w h) (sym (tab-last m f))
       ∙ counted-append w h (tab m f) (f m ∷ [])
-      ∙ ap₂ _+_ (late-rows c n m) (late-row c (counted n m))
+      ∙ ap₂ _+_ (late-rows c n m) (late-row c (muOf n m))
 
   late-for : (f : ℕ → ℕ) (ks : List ℕ) → timesCounted w h (rowsFor f ks) ≡ 0
   unfolding rowsFor timesCounted keyRows

@@ -8,7 +8,7 @@ use lib.ListN.{length, set}
 use lib.Seq.{sets, length-sets}
 use Rattle.lists.specs.Tab.{tab, tabFrom, word}
 use Rattle.lists.proofs.Laws.{sets-append, length-tab, tab-add}
-use Rattle.is_wh_rows.specs.Rows.{Row, rowOf, rowsNeeded, counted, keyRows, flat}
+use Rattle.is_wh_rows.specs.Rows.{Row, rowOf, rowsNeeded, muOf, keyRows, flat}
 
 pub flat-append : (a b : List Row) → flat (a ++ b) ≡ flat a ++ flat b
 unfolding flat
@@ -40,16 +40,16 @@ tab-last n f = sym (tab-add n 1 f (λ k. f n) (λ k h. ap f (omega arith)))
 pub record KeyStored (l : List ℕ) (at code n : ℕ) (rows : List ℕ) (j : ℕ) : Type 0 where
   pub bound : j ≤ rowsNeeded n
   pub long : length rows ≡ length l
-  pub is : rows ≡ sets l at (flat (tab j (λ i. rowOf code (counted n i))))
+  pub is : rows ≡ sets l at (flat (tab j (λ i. rowOf code (muOf n i))))
 
 pub key-none : (l : List ℕ) (at code n : ℕ) → KeyStored l at code n l 0
 unfolding flat tab tabFrom
 key-none l at code n = record { bound = omega arith; long = refl; is = refl }
 
-pub key-more : {l : List ℕ} {at code n : ℕ} {rows rows′ : List ℕ} {j m : ℕ} → KeyStored l at code n rows j → j < rowsNeeded n → m ≡ counted n j
+pub key-more : {l : List ℕ} {at code n : ℕ} {rows rows′ : List ℕ} {j m : ℕ} → KeyStored l at code n rows j → j < rowsNeeded n → m ≡ muOf n j
     → rows′ ≡ sets rows (at + 3 * j) (flat (rowOf code m ∷ [])) → KeyStored l at code n rows′ (j + 1)
 key-more {l} {at} {code} {n} {rows} {rows′} {j} {m} s b q e =
-    let f : ℕ → Row = λ i. rowOf code (counted n i) in
+    let f : ℕ → Row = λ i. rowOf code (muOf n i) in
     let whole : rows′ ≡ sets l at (flat (tab (j + 1) f)) =
     e
     ∙ ap₂ (λ (r : List ℕ) (k : ℕ). sets r (at + 3 * j) (flat (rowOf code k ∷ []))) (s .is) q
@@ -60,7 +60,7 @@ key-more {l} {at} {code} {n} {rows} {rows′} {j} {m} s b q e =
 
 pub key-all : {l : List ℕ} {at code n : ℕ} {rows : List ℕ} {j : ℕ} → KeyStored l at code n rows j → rowsNeeded n ≤ j → rows ≡ sets l at (flat (keyRows code n))
 unfolding keyRows
-key-all {l} {at} {code} {n} s b = let e = s .bound in let q = exact (s .bound) b in s .is ∙ ap (λ (k : ℕ). sets l at (flat (tab k (λ i. rowOf code (counted n i))))) q
+key-all {l} {at} {code} {n} s b = let e = s .bound in let q = exact (s .bound) b in s .is ∙ ap (λ (k : ℕ). sets l at (flat (tab k (λ i. rowOf code (muOf n i))))) q
   where
     exact : {j m : ℕ} → j ≤ m → m ≤ j → j ≡ m
     exact a b = omega arith

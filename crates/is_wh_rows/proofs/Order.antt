@@ -8,7 +8,7 @@ use lib.ListN.{length}
 use Rattle.lists.specs.Tab.{tab, tabFrom}
 use Rattle.sort.specs.Sorted.{copies}
 use Rattle.sort.proofs.Laws.{Least}
-use Rattle.is_wh_rows.specs.Rows.{Row, MU-MAX, distinct, rowOf, rowsNeeded, counted, keyRows, rowsFor, rowsOf}
+use Rattle.is_wh_rows.specs.Rows.{Row, MU-MAX, distinct, rowOf, rowsNeeded, muOf, keyRows, rowsFor, rowsOf}
 use Rattle.is_wh_rows.specs.Meaning.{nth, codeOf, InOrder, InRange}
 use Rattle.is_wh_rows.proofs.Counts.{Strict, strict-distinct}
 
@@ -36,9 +36,9 @@ each-at P [] h i l = absurd (omega arith)
 each-at P (r ∷ a) h zero l = h .0
 each-at P (r ∷ a) h (suc i) l = each-at P a (h .1) i (omega arith)
 
-pub each-key : (P : Row → Type 0) (c n : ℕ) → ((j : ℕ) → j < rowsNeeded n → P (rowOf c (counted n j))) → Each P (keyRows c n)
+pub each-key : (P : Row → Type 0) (c n : ℕ) → ((j : ℕ) → j < rowsNeeded n → P (rowOf c (muOf n j))) → Each P (keyRows c n)
 unfolding keyRows tab
-each-key P c n h = each-from P 0 (rowsNeeded n) (λ j. rowOf c (counted n j)) (λ j l b. h j (omega arith))
+each-key P c n h = each-from P 0 (rowsNeeded n) (λ j. rowOf c (muOf n j)) (λ j l b. h j (omega arith))
 
 -- ---- the counts
 
@@ -48,7 +48,7 @@ ranged-for f [] = tt
 ranged-for f (k ∷ ks) =
     each-append _ (keyRows k (f k)) (rowsFor f ks) (each-key _ k (f k) (λ j l. range (f k) j l)) (ranged-for f ks)
   where
-    range : (n j : ℕ) → j < rowsNeeded n → (1 ≤ counted n j) × (counted n j ≤ MU-MAX)
+    range : (n j : ℕ) → j < rowsNeeded n → (1 ≤ muOf n j) × (muOf n j ≤ MU-MAX)
     range n j l = (omega arith, omega arith)
 
 pub rows-in-range : (cs : List ℕ) → InRange (rowsOf cs)
@@ -86,9 +86,9 @@ code-is c n = omega arith
 -- of one key: all rows but the last are full
 ordered-key : (c n : ℕ) → Ordered (keyRows c n)
 unfolding keyRows tab
-ordered-key c n = ordered-from 0 (rowsNeeded n) (λ j. rowOf c (counted n j)) (λ j k l b. inr (refl, full j k l b))
+ordered-key c n = ordered-from 0 (rowsNeeded n) (λ j. rowOf c (muOf n j)) (λ j k l b. inr (refl, full j k l b))
   where
-    full : (j k : ℕ) → j < k → k < 0 + rowsNeeded n → counted n j ≡ MU-MAX
+    full : (j k : ℕ) → j < k → k < 0 + rowsNeeded n → muOf n j ≡ MU-MAX
     full j k l b = omega arith
 
 above : (f : ℕ → ℕ) (ks : List ℕ) (x : ℕ) → Least x ks → Each (λ r. x ≤ codeOf r) (rowsFor f ks)
@@ -96,7 +96,7 @@ unfolding rowsFor
 above f [] x h = tt
 above f (k ∷ ks) x h =
     each-append _ (keyRows k (f k)) (rowsFor f ks)
-    (each-key _ k (f k) (λ j l. subst (λ (c : ℕ). x ≤ c) (sym (code-is k (counted (f k) j))) (h .0)))
+    (each-key _ k (f k) (λ j l. subst (λ (c : ℕ). x ≤ c) (sym (code-is k (muOf (f k) j))) (h .0)))
     (above f ks x (h .1))
 
 ordered-for : (f : ℕ → ℕ) (ks : List ℕ) → Strict ks → Ordered (rowsFor f ks)
@@ -106,8 +106,8 @@ ordered-for f (k ∷ ks) h =
     ordered-append (keyRows k (f k)) (rowsFor f ks) (ordered-key k (f k)) (ordered-for f ks (h .1))
     (each-key _ k (f k)
     (λ j l.
-    each-map (λ r. suc k ≤ codeOf r) (Before (rowOf k (counted (f k) j))) (rowsFor f ks)
-    (λ r m. inl (subst (λ (c : ℕ). c < codeOf r) (sym (code-is k (counted (f k) j))) m)) (above f ks (suc k) (h .0))))
+    each-map (λ r. suc k ≤ codeOf r) (Before (rowOf k (muOf (f k) j))) (rowsFor f ks)
+    (λ r m. inl (subst (λ (c : ℕ). c < codeOf r) (sym (code-is k (muOf (f k) j))) m)) (above f ks (suc k) (h .0))))
 
 pub rows-in-order : (cs : List ℕ) → InOrder (rowsOf cs)
 unfolding rowsOf InOrder

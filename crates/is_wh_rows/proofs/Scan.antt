@@ -14,7 +14,7 @@ use Rattle.lists.proofs.Then.{by-le}
 use Rattle.sort.specs.Sorted.{Ascends, copies}
 use Rattle.sort.proofs.Laws.{Least, Asc, ascends-asc, asc-ascends}
 use Rattle.sort.proofs.Unique.{copies-below, copies-none}
-use Rattle.is_wh_rows.specs.Rows.{Row, rowOf, rowsNeeded, counted, keyRows, rowsFor, distinct, flat}
+use Rattle.is_wh_rows.specs.Rows.{Row, rowOf, rowsNeeded, muOf, keyRows, rowsFor, distinct, flat}
 use Rattle.is_wh_rows.specs.Loads.{weight, total, codesIn, rowsIn}
 use Rattle.is_wh_rows.proofs.Runs.{asc-drop, copies-yes, copies-le}
 use Rattle.is_wh_rows.proofs.Weights.{asc-codes, weight-yes, rows-front}
@@ -25,7 +25,7 @@ ascends-drop ws i h = asc-ascends (drop i ws) (asc-drop ws i (ascends-asc ws h))
 
 length-keyRows : (c n : ℕ) → length (keyRows c n) ≡ rowsNeeded n
 unfolding keyRows
-length-keyRows c n = length-tab (rowsNeeded n) (λ j. rowOf c (counted n j))
+length-keyRows c n = length-tab (rowsNeeded n) (λ j. rowOf c (muOf n j))
 
 no-rows : (ws : List ℕ) (i : ℕ) → length ws ≤ i → rowsIn (drop i ws) ≡ []
 unfolding rowsIn rowsFor distinct codesIn

@@ -43,11 +43,11 @@ rowOf code n = record { word = code / 65536; half = code % 65536; mu = n }
 abbrev pub rowsNeeded : ℕ → ℕ
 rowsNeeded n = (n + 1048574) / MU-MAX
 
-abbrev pub counted : ℕ → ℕ → ℕ
-counted n j = min MU-MAX (n - j * MU-MAX)
+abbrev pub muOf : ℕ → ℕ → ℕ
+muOf n j = min MU-MAX (n - j * MU-MAX)
 
 unfoldable pub keyRows : ℕ → ℕ → List Row
-keyRows code n = tab (rowsNeeded n) (λ j. rowOf code (counted n j))
+keyRows code n = tab (rowsNeeded n) (λ j. rowOf code (muOf n j))
 
 -- the rows of each of the words ks, in their order, each occurring as often as f says
 unfoldable pub rowsFor : (ℕ → ℕ) → List ℕ → List Row

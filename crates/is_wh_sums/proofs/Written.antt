@@ -28,7 +28,7 @@ use Rattle.is_wh_rows.specs.Rows.{codes, rowsOf, flat}
 use Rattle.is_wh_rows.specs.Lists.{GoodList}
 use Rattle.is_wh_rows.specs.Calls.{dedupRefusal, rowsAfter}
 use Rattle.is_wh_rows.proofs.Answers.{rows-start}
-use Rattle.is_wh_trace.specs.Trace.{rowCount, isWhHeight, isWhTable, traceRefusal, traceAfter}
+use Rattle.is_wh_trace.specs.Trace.{rowCount, isWhHeight, isWhTable, isWhTraceRefusal, isWhTraceAfter}
 use Rattle.is_wh_trace.proofs.Answers.{table-start}
 use Rattle.is_wh_counts.specs.Counts.{sendingRows, isWhCharged}
 use Rattle.verdict.specs.CoreAndRound.{coreKind}
@@ -65,9 +65,9 @@ module _ (ops out : List ℕ) (wrote-keys : keysRefusal (length out) ops ≡ acc
     rows-are : rowsWritten ≡ flat (rowsOf (codes (keyWords (opCount ops) (opAt ops))))
     rows-are = rows-start keysOf C S R wrote-rows ∙ ap (λ (k : List ℕ). flat (rowsOf (codes k))) keys-are
 
-    pub written-balanced : (T core : List ℕ) → traceRefusal (length T) rowsWritten ≡ accepted → coreTraceRefusal (length core) ops ≡ accepted
+    pub written-balanced : (T core : List ℕ) → isWhTraceRefusal (length T) rowsWritten ≡ accepted → coreTraceRefusal (length core) ops ≡ accepted
         → (nr : ℕ) (v : List ℕ)
-        → tableShare Receiver IsWh v isWhKind (take (isWhHeight rowsWritten * 4) (traceAfter rowsWritten T))
+        → tableShare Receiver IsWh v isWhKind (take (isWhHeight rowsWritten * 4) (isWhTraceAfter rowsWritten T))
         ≡ tableShare Sender IsWh v (coreKind nr) (take (height MIN-ROWS (opCount ops) * 486) (coreTraceAfter ops core))
     written-balanced T core wrote-table wrote-core nr v =
         let n = opCount ops in

@@ -13,14 +13,14 @@ use Rattle.lists.specs.First.{firstAt}
 use Rattle.answer.specs.Refusal.{accepted}
 use Rattle.sort.specs.Sorted.{copies}
 use Rattle.keccak.specs.Height.{height}
-use Rattle.is_wh_rows.specs.Rows.{Row, keyCode, codes, place, distinct, counted, keyRows, rowsFor, rowsOf, flat}
+use Rattle.is_wh_rows.specs.Rows.{Row, keyCode, codes, place, distinct, muOf, keyRows, rowsFor, rowsOf, flat}
 use Rattle.is_wh_rows.specs.Lists.{MAX-KEYS, limitOf, badAt, GoodList}
 use Rattle.is_wh_rows.proofs.Order.{Each, each-append, each-key}
 use Rattle.is_wh_rows.proofs.Flat.{length-flat}
 use Rattle.is_wh_rows.proofs.Keys.{word-small, half-small}
 use Rattle.is_wh_rows.proofs.Lists.{rows-accepted}
 use Rattle.is_wh_rows.proofs.Refusals.{rows-few}
-use Rattle.is_wh_trace.specs.Trace.{rowCount, traceRefusal}
+use Rattle.is_wh_trace.specs.Trace.{rowCount, isWhTraceRefusal}
 
 -- ---- codes of 48 bits
 
@@ -65,7 +65,7 @@ fine-rows f [] h = tt
 fine-rows f (k ∷ ks) h =
     each-append Fine (keyRows k (f k)) (rowsFor f ks) (each-key Fine k (f k) (λ j l. fine k (f k) j (h .0))) (fine-rows f ks (h .1))
   where
-    fine : (c n j : ℕ) → c < 281474976710656 → (c / 65536 < 4294967296) × (c % 65536 < 65536) × (counted n j < 1048576)
+    fine : (c n j : ℕ) → c < 281474976710656 → (c / 65536 < 4294967296) × (c % 65536 < 65536) × (muOf n j < 1048576)
     fine c n j l = (omega arith, omega arith, omega arith)
 
 limit-again : (k : ℕ) → limitOf (suc (suc (suc k)) % 3) ≡ limitOf (k % 3)
@@ -95,8 +95,8 @@ module _ (keys : List ℕ) (ok : firstAt (badAt 2 keys) (length keys) ≡ none) 
       }
 
   pub deduped-accepted : length keys / 2 ≤ MAX-KEYS → (room : ℕ)
-      → (traceRefusal room (flat (rowsOf (codes keys))) ≡ accepted) ↔ (height 4 (length (rowsOf (codes keys))) * 4 ≤ room)
-  unfolding traceRefusal
+      → (isWhTraceRefusal room (flat (rowsOf (codes keys))) ≡ accepted) ↔ (height 4 (length (rowsOf (codes keys))) * 4 ≤ room)
+  unfolding isWhTraceRefusal
   deduped-accepted few room =
       let rows = flat (rowsOf (codes keys)) in
       let e : height 4 (rowCount rows) * 4 ≡ height 4 (length (rowsOf (codes keys))) * 4 = ap (λ (n : ℕ). height 4 n * 4) rows-counted in

@@ -37,8 +37,8 @@ unfoldable pub heightRefusal : ℕ → Option Refusal
 heightRefusal n = pastEnd (MAX-KEYS + 1) n accepted
 
 -- `generate_is_wh_trace`: a list of rows, and a table of `room` words
-unfoldable pub traceRefusal : ℕ → List ℕ → Option Refusal
-traceRefusal room rows = rowsRefusal room (isWhHeight rows * NUM-COLUMNS) rows accepted
+unfoldable pub isWhTraceRefusal : ℕ → List ℕ → Option Refusal
+isWhTraceRefusal room rows = rowsRefusal room (isWhHeight rows * NUM-COLUMNS) rows accepted
 
-unfoldable pub traceAfter : List ℕ → List ℕ → List ℕ
-traceAfter rows table = afterwards (traceRefusal (length table) rows) (overwrite (isWhTable rows) table) table
+unfoldable pub isWhTraceAfter : List ℕ → List ℕ → List ℕ
+isWhTraceAfter rows table = afterwards (isWhTraceRefusal (length table) rows) (overwrite (isWhTable rows) table) table

@@ -17,7 +17,7 @@ ghost use Rattle.lists.specs.Tab.{tableOf};
 ghost use Rattle.answer.specs.Refusal.{answerOf, numberOf};
 ghost use Rattle.is_wh.specs.Row.{pairRow};
 ghost use Rattle.keccak.specs.Height.{height, MIN-ROWS};
-ghost use Rattle.is_wh_trace.specs.Trace.{traceRow, tableRow, heightRefusal, traceRefusal, traceAfter};
+ghost use Rattle.is_wh_trace.specs.Trace.{traceRow, tableRow, heightRefusal, isWhTraceRefusal, isWhTraceAfter};
 
 // The height of the table of n rows.
 pub fn is_wh_height(n: usize) -> Number
@@ -64,8 +64,8 @@ fn put_table(rows: &[u64], n: usize, h: usize, table: &mut [u64])
 
 // The IS_WH table of a list of rows.
 pub fn generate_is_wh_trace(rows: &[u64], table: &mut [u64]) -> Answer
-    ensures answer { λ r. ⌜ r ≡ answerOf (traceRefusal (length (now (table .entry))) (now (rows .entry))) ⌝ }
-    ensures words { λ _. ⌜ now (table .exit) ≡ traceAfter (now (rows .entry)) (now (table .entry)) ⌝ }
+    ensures answer { λ r. ⌜ r ≡ answerOf (isWhTraceRefusal (length (now (table .entry))) (now (rows .entry))) ⌝ }
+    ensures words { λ _. ⌜ now (table .exit) ≡ isWhTraceAfter (now (rows .entry)) (now (table .entry)) ⌝ }
 {
     let n = rows.len() / ROW_SIZE;
     let h = table_height(MIN_ROWS, n);

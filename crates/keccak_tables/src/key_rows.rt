@@ -8,7 +8,7 @@ ghost use lib.ListN.{length};
 ghost use Rattle.answer.specs.Refusal.{answerOf, numberOf};
 ghost use Rattle.keccak.specs.Height.{height, MIN-ROWS};
 ghost use Rattle.is_wh_rows.specs.Calls.{dedupAnswer, loadsAfter, rowsAfter};
-ghost use Rattle.is_wh_trace.specs.Trace.{heightRefusal, traceRefusal, traceAfter};
+ghost use Rattle.is_wh_trace.specs.Trace.{heightRefusal, isWhTraceRefusal, isWhTraceAfter};
 ghost use Rattle.is_wh_counts.specs.Counts.{collectRefusal, collectAfter};
 ghost use Rattle.flat.specs.Flat.{flatAnswer, flatNumber};
 
@@ -36,8 +36,8 @@ pub extern "C" fn keccak_tables_is_wh_height(n: usize) -> FlatNumber
 
 #[no_mangle]
 pub extern "C" fn keccak_tables_generate_is_wh_trace(rows: &[u64], table: &mut [u64]) -> FlatAnswer
-    ensures answer { λ r. ⌜ r ≡ flatAnswer (answerOf (traceRefusal (length (now (table .entry))) (now (rows .entry)))) ⌝ }
-    ensures words { λ _. ⌜ now (table .exit) ≡ traceAfter (now (rows .entry)) (now (table .entry)) ⌝ }
+    ensures answer { λ r. ⌜ r ≡ flatAnswer (answerOf (isWhTraceRefusal (length (now (table .entry))) (now (rows .entry)))) ⌝ }
+    ensures words { λ _. ⌜ now (table .exit) ≡ isWhTraceAfter (now (rows .entry)) (now (table .entry)) ⌝ }
 {
     flat_answer(is_wh_trace::generate_is_wh_trace(rows, table))
 }

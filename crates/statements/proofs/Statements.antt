@@ -30,7 +30,9 @@ use Rattle.answer.specs.declared.Refusal.the-variants.{HighAddress, PastEnd}
 use Rattle.fips202.specs.Fips.{Agree, offset, RHO, rnd, keccakF}
 use Rattle.tuple.specs.Tuple.{busSum}
 use Rattle.tuple.specs.declared.Bus.{Bus}
+use Rattle.tuple.specs.declared.Bus.the-variants.{IsWh}
 use Rattle.tuple.specs.declared.Side.{Side}
+use Rattle.tuple.specs.declared.Side.the-variants.{Sender, Receiver}
 use Rattle.templates.specs.Templates.{isBit}
 use Rattle.bits.specs.Bits.{byteAt}
 use Rattle.fips202.specs.Lanes.{Lanes, bits, roundsL}
@@ -41,13 +43,16 @@ use Rattle.bitwise.specs.Row.{bitwiseRow}
 use Rattle.bitwise.specs.Counters.{bumpNAfter, mergeRefusal, mergeAfter}
 use Rattle.bitwise.specs.Table.{traceAfter, fillAfter}
 use Rattle.bitwise.specs.Lookups.{addOpsRefusal, addOpsAfter, updateAfter}
+use Rattle.bitwise.specs.Charge.{counted, placeCounter}
 use Rattle.bitwise.proofs.Cases.{row-0, row-266804, row-1048575}
 use Rattle.bitwise.proofs.Histogram.{merge-commutes, merge-associates, bump-first, bump-last}
 use Rattle.bitwise.proofs.Counting.{counted-merged, fill-is-update}
 use Rattle.is_wh.specs.Tuples.{isWhTuple}
 use Rattle.keccak.specs.Row.{stateLanes, corePointer}
 use Rattle.keccak.specs.Tuples.{coreTuple}
-use Rattle.keccak.specs.Refusals.{Acceptable, operationsRefusal}
+use Rattle.keccak.specs.Height.{height}
+use Rattle.keccak.specs.Refusals.{Acceptable, operationsRefusal, opCount, keysRefusal, coreTraceRefusal}
+use Rattle.keccak.specs.Calls.{coreTraceAfter}
 use Rattle.keccak.specs.declared.KeccakOperation.{KeccakOperation}
 use Rattle.keccak.proofs.Refusals.{accepted-is, highest-accepted, next-refused}
 use Rattle.keccak_rnd.specs.Columns.{MU, ROUND, START, THETA, rc}
@@ -79,10 +84,18 @@ use Rattle.verdict.proofs.Instances.{exchanged-named, late-unbalanced}
 use Rattle.verdict.proofs.Late.{late-row}
 use Rattle.bus_sums.specs.Buses.{coreLine, roundLine, isWhLine, bitwiseLine, constantLine}
 use Rattle.bus_sums.specs.Sums.{Fillings, bitwiseAt, constantAt, Constrained, SumsHold, Filled, MAX-ROWS}
+use Rattle.bus_sums.specs.Sums.{tableShare, isWhKind}
 use Rattle.bus_sums.proofs.Buses.{core-line, round-line, is-wh-line, bitwise-line, constant-line}
 use Rattle.bus_sums.proofs.Bit.{bit-is}
 use Rattle.bus_sums.proofs.Receipt.{sums-core, sums-answer, sums-verdict, sums-computed, sums-claims, sums-exactly}
 use Rattle.bus_sums.proofs.Receipt.{sums-holds, sums-demand, ours-filled, witness-sums}
+use Rattle.matching.specs.Matching.{Matched}
+use Rattle.is_wh_rows.specs.Lists.{GoodList}
+use Rattle.is_wh_rows.specs.Calls.{dedupRefusal}
+use Rattle.is_wh_trace.specs.Trace.{rowCount, isWhHeight, isWhTable, isWhTraceRefusal, isWhTraceAfter}
+use Rattle.is_wh_counts.specs.Counts.{isWhCharged}
+use Rattle.is_wh_sums.proofs.Sent.{rows-matched}
+use Rattle.is_wh_sums.proofs.Written.{keysOf, rowsWritten, written-balanced, collected-is-sent}
 use Rattle.bus_sums_needs.specs.Cancel.{Slips, twoRows, manyRows}
 use Rattle.bus_sums_needs.specs.Forged.{Forgery, bentCore, bentRound}
 use Rattle.bus_sums_needs.proofs.Cancel.{mu-needed, few-needed}
@@ -360,6 +373,28 @@ module _ (s : Side) (b : Bus) where
 
   pub constant-row-line : (mu : ℕ → ℕ) (r : ℕ) → busSum s b 1 (constantAt mu r) ≡ constantLine s b (mu r)
   constant-row-line = constant-line s b
+
+-- ---- the IS_WH table: what the calls leave, for a list of operations that `is_wh_keys` accepts
+module _ (ops out : List ℕ) (wrote-keys : keysRefusal (length out) ops ≡ accepted) where
+  -- "One row per distinct `(word, half)` pair, with `μ` counting its sends.": of the keys that are left in `out`, the rows
+  -- that `dedup_is_wh_rows` leaves, and their table, each list of values is received on IsWh exactly as often as the
+  -- core table that `generate_keccak_trace` leaves sends it
+  pub pairs-received : (C S R : List ℕ) (wrote-rows : dedupRefusal (length C) (length S) (length R) (keysOf ops out wrote-keys) ≡ accepted) →
+      (T core : List ℕ) → isWhTraceRefusal (length T) (rowsWritten ops out wrote-keys C S R wrote-rows) ≡ accepted → coreTraceRefusal (length core) ops ≡ accepted →
+      (nr : ℕ) (v : List ℕ) →
+      tableShare Receiver IsWh v isWhKind (take (isWhHeight (rowsWritten ops out wrote-keys C S R wrote-rows) * 4) (isWhTraceAfter (rowsWritten ops out wrote-keys C S R wrote-rows) T))
+      ≡ tableShare Sender IsWh v (coreKind nr) (take (height 4 (opCount ops) * 486) (coreTraceAfter ops core))
+  pairs-received C S R wrote-rows T core wrote-table wrote-core = written-balanced ops out wrote-keys C S R wrote-rows T core wrote-table wrote-core
+
+module _ (list : List ℕ) (good : GoodList 3 list) where
+  -- every lookup of its rows is found, for any list of rows that is accepted
+  pub pair-rows-found : (r i : ℕ) → r < isWhHeight list → i < 5 → Matched (isWhTuple (rowAt 4 (isWhTable list) r) i)
+  pair-rows-found = rows-matched list good
+
+-- what `collect_bitwise_from_is_wh` adds to the counter of the values v on a bus is how often the table sends them there
+pub pair-rows-charged : (list : List ℕ) → (rowCount list ≡ 0 → ⊥) → (b : Bus) (v : List ℕ) → counted b v ≡ true →
+    isWhCharged list (placeCounter b v) ≡ tableShare Sender b v isWhKind (isWhTable list)
+pair-rows-charged = collected-is-sent
 
 -- "The written tables of an operation have such fillings."
 pub sums-met : Filled 24 (oneCore witness) (oneRound witness)
