@@ -8,12 +8,21 @@ use Prim.Native.Nat.{ℕ, _≤_, _<_}
 use borrow.Author.Tests.{leb-false, ltb-false, le-leb, lt-leb, lt-ltb, le-ltb}
 use lib.ListN.{length}
 use Rattle.lists.specs.Tab.{word}
+use Rattle.lists.specs.Failure.{FirstAt}
 use Rattle.field.specs.Field.{p}
+use Rattle.field.specs.Elements.{ElementRow}
+use Rattle.field.proofs.NotElement.{all-elements, none-found, first-found}
 use Rattle.answer.specs.Refusal.{accepted}
-use Rattle.answer.proofs.Laws.{refuse-yes, refuse-no, passed-if}
+use Rattle.answer.proofs.Laws.{refuse-yes, refuse-no, at-yes, at-no, passed-if, passed-at}
+use Rattle.answer.proofs.Refusals.{room-accepted, room-refused}
 use Rattle.answer.specs.declared.Refusal.the-variants.{PastEnd, TooShort, NotElement}
 use Rattle.bitwise.specs.Row.{bitwiseRowRefusal, indexRefusal}
-use Rattle.bitwise.specs.Counters.{counterAt, bumpRefusal}
+use Rattle.bitwise.specs.Counters.{counterAt, bumpRefusal, mergeRefusal}
+use Rattle.bitwise.specs.Table.{traceRefusal, fillRefusal}
+
+-- word k is the first of n words that is p or more
+abbrev pub FirstLarge : List ℕ → ℕ → ℕ → Type 0
+FirstLarge words n k = FirstAt (λ i. p ≤ word words i) (λ i. word words i < p) n k
 
 -- `generate_bitwise_row`
 pub row-accepted : (i : ℕ) (row : List ℕ) → (bitwiseRowRefusal i row ≡ accepted) ↔ ((i < 1048576) × (11 ≤ length row))
@@ -43,7 +52,7 @@ pub index-past : (z : ℕ) → 16 ≤ z → indexRefusal z ≡ some (PastEnd 16)
 unfolding indexRefusal
 index-past z h = refuse-yes _ _ (le-leb 16 z h)
 
--- `bump`
+-- `bump` and `bump_n`
 module _ (counters : List ℕ) (kind x y z : ℕ) where
   pub record Chargeable : Type 0 where
     pub kind-below : kind < 10
@@ -96,3 +105,94 @@ module _ (counters : List ℕ) (kind x y z : ℕ) where
           (refuse-no _ (lt-leb 16 z l)
           (refuse-no _ (le-ltb (length counters) 10485760 m)
           (refuse-yes _ _ (le-leb p (word counters (counterAt kind x y z)) h))))
+
+-- `generate_bitwise_trace`
+module _ (table : List ℕ) where
+  pub trace-accepted : (traceRefusal table ≡ accepted) ↔ (22020096 ≤ length table)
+  unfolding traceRefusal
+  trace-accepted = room-accepted (length table) 22020096
+
+  pub trace-short : length table < 22020096 → traceRefusal table ≡ some (TooShort 22020096)
+  unfolding traceRefusal
+  trace-short h = room-refused (length table) 22020096 accepted h
+
+-- `merge`
+module _ (counters other : List ℕ) where
+  pub merge-accepted : (mergeRefusal counters other ≡ accepted) ↔ (ElementRow 10485760 counters × ElementRow 10485760 other)
+  unfolding mergeRefusal
+  merge-accepted = (
+    (λ e.
+        let a = passed-if _ _ _ e in
+        let b = passed-if _ _ _ (a .1) in
+        let c = passed-at _ _ _ (b .1) in
+        let d = passed-at _ _ _ (c .1) in (
+          record { long = ltb-false (length counters) 10485760 (a .0); below = all-elements counters 10485760 (c .0) },
+          record { long = ltb-false (length other) 10485760 (b .0); below = all-elements other 10485760 (d .0) },
+        )),
+    λ h.
+        refuse-no _ (le-ltb (length counters) 10485760 (h .0 .long))
+        (refuse-no _ (le-ltb (length other) 10485760 (h .1 .long))
+        (at-no _ (none-found counters 10485760 (h .0 .below))
+        (at-no _ (none-found other 10485760 (h .1 .below)) refl))),
+  )
+
+  pub merge-short : length counters < 10485760 → mergeRefusal counters other ≡ some (TooShort 10485760)
+  unfolding mergeRefusal
+  merge-short h = refuse-yes _ _ (lt-ltb (length counters) 10485760 h)
+
+  module _ (l : 10485760 ≤ length counters) where
+    pub merge-other-short : length other < 10485760 → mergeRefusal counters other ≡ some (TooShort 10485760)
+    unfolding mergeRefusal
+    merge-other-short h = refuse-no _ (le-ltb (length counters) 10485760 l) (refuse-yes _ _ (lt-ltb (length other) 10485760 h))
+
+    module _ (m : 10485760 ≤ length other) where
+      -- the detail is the place of the first counter that is p or more
+      pub merge-large : (k : ℕ) → FirstLarge counters 10485760 k → mergeRefusal counters other ≡ some (NotElement k)
+      unfolding mergeRefusal
+      merge-large k f =
+          refuse-no _ (le-ltb (length counters) 10485760 l)
+          (refuse-no _ (le-ltb (length other) 10485760 m)
+          (at-yes _ _ (first-found counters 10485760 k (f .there) (f .fails) (f .lower))))
+
+      pub merge-other-large : ((k : ℕ) → k < 10485760 → word counters k < p) → (k : ℕ) → FirstLarge other 10485760 k
+          → mergeRefusal counters other ≡ some (NotElement k)
+      unfolding mergeRefusal
+      merge-other-large e k f =
+          refuse-no _ (le-ltb (length counters) 10485760 l)
+          (refuse-no _ (le-ltb (length other) 10485760 m)
+          (at-no _ (none-found counters 10485760 e)
+          (at-yes _ _ (first-found other 10485760 k (f .there) (f .fails) (f .lower)))))
+
+-- `fill_multiplicities`
+module _ (counters table : List ℕ) where
+  pub fill-accepted : (fillRefusal counters table ≡ accepted) ↔ (ElementRow 10485760 counters × (22020096 ≤ length table))
+  unfolding fillRefusal
+  fill-accepted = (
+    (λ e.
+        let a = passed-if _ _ _ e in
+        let b = passed-if _ _ _ (a .1) in
+        let c = passed-at _ _ _ (b .1) in (
+          record { long = ltb-false (length counters) 10485760 (a .0); below = all-elements counters 10485760 (c .0) },
+          ltb-false (length table) 22020096 (b .0),
+        )),
+    λ h.
+        refuse-no _ (le-ltb (length counters) 10485760 (h .0 .long))
+        (refuse-no _ (le-ltb (length table) 22020096 (h .1))
+        (at-no _ (none-found counters 10485760 (h .0 .below)) refl)),
+  )
+
+  pub fill-counters-short : length counters < 10485760 → fillRefusal counters table ≡ some (TooShort 10485760)
+  unfolding fillRefusal
+  fill-counters-short h = refuse-yes _ _ (lt-ltb (length counters) 10485760 h)
+
+  module _ (l : 10485760 ≤ length counters) where
+    pub fill-table-short : length table < 22020096 → fillRefusal counters table ≡ some (TooShort 22020096)
+    unfolding fillRefusal
+    fill-table-short h = refuse-no _ (le-ltb (length counters) 10485760 l) (refuse-yes _ _ (lt-ltb (length table) 22020096 h))
+
+    pub fill-large : 22020096 ≤ length table → (k : ℕ) → FirstLarge counters 10485760 k → fillRefusal counters table ≡ some (NotElement k)
+    unfolding fillRefusal
+    fill-large m k f =
+        refuse-no _ (le-ltb (length counters) 10485760 l)
+        (refuse-no _ (le-ltb (length table) 22020096 m)
+        (at-yes _ _ (first-found counters 10485760 k (f .there) (f .fails) (f .lower))))

@@ -81,6 +81,10 @@ MU-BYTE-ALU-XOR = 20
 abbrev pub NUM-COLUMNS : ℕ
 NUM-COLUMNS = 21
 
+-- The words of the table: 2^20 rows of 21.
+abbrev pub TABLE-WORDS : ℕ
+TABLE-WORDS = 22020096
+
 -- The kinds of lookup.
 abbrev pub NUM-LOOKUP-TYPES : ℕ
 NUM-LOOKUP-TYPES = 10

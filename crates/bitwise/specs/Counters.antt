@@ -1,12 +1,13 @@
--- The counters of the lookups, ten to a row, and `bump`, which adds one to one of them.
+-- The counters of the lookups, ten to a row: `bump` and `bump_n`, which add to one of them, and `merge`.
 use Prim.Native.Nat.{ℕ, _+_, _*_}
 use mathlib.Core.List.{List}
 use mathlib.Core.Option.{Option}
 use lib.Dec.{leb}
 use lib.ListN.{length, getD, set}
-use Rattle.lists.specs.Tab.{word}
+use Rattle.lists.specs.Tab.{tab, word}
 use Rattle.field.specs.Field.{p, fadd}
-use Rattle.answer.specs.Refusal.{refuseIf, accepted, afterwards, pastEnd, tooShort}
+use Rattle.field.specs.Elements.{firstNotElement}
+use Rattle.answer.specs.Refusal.{refuseIf, refuseAt, accepted, overwrite, afterwards, pastEnd, tooShort}
 use Rattle.answer.specs.declared.Refusal.{Refusal}
 use Rattle.answer.specs.declared.Refusal.the-variants.{NotElement}
 use Rattle.bitwise.specs.Columns.{NUM-LOOKUP-TYPES, NUM-COUNTERS, Z-END}
@@ -17,11 +18,11 @@ use Rattle.bitwise.specs.Row.{row-index}
 abbrev pub counterAt : ℕ → ℕ → ℕ → ℕ → ℕ
 counterAt kind x y z = row-index x y z * NUM-LOOKUP-TYPES + kind
 
--- "One call adds one to one counter mod p." Every other is as it was.
-unfoldable pub charge : List ℕ → ℕ → List ℕ
-charge counters at = set counters at (fadd (getD counters at 0) 1)
+-- n more on one word, mod p. Every other is as it was.
+unfoldable pub charge : List ℕ → ℕ → ℕ → List ℕ
+charge words at n = set words at (fadd (getD words at 0) n)
 
--- What `bump` refuses: 1 the kind, then Z; 3 too few counters; 5 the counter charged is p or more.
+-- What `bump` and `bump_n` refuse: 1 the kind, then Z; 3 too few counters; 5 the counter charged is p or more.
 unfoldable pub bumpRefusal : List ℕ → ℕ → ℕ → ℕ → ℕ → Option Refusal
 bumpRefusal counters kind x y z =
     pastEnd NUM-LOOKUP-TYPES kind
@@ -30,7 +31,29 @@ bumpRefusal counters kind x y z =
     (refuseIf (leb p (word counters (counterAt kind x y z))) (NotElement (counterAt kind x y z))
     accepted)))
 
--- What it leaves: the counter charged, or the old counters where it is refused.
+-- What `bump_n` leaves: "Add `n` occurrences of one lookup in a single step", or the old counters where it is refused.
+abbrev pub bumpNAfter : List ℕ → ℕ → ℕ → ℕ → ℕ → ℕ → List ℕ
+bumpNAfter counters kind x y z n =
+    afterwards (bumpRefusal counters kind x y z) (charge counters (counterAt kind x y z) n) counters
+
+-- What `bump` leaves: "One call adds one to one counter mod p."
 abbrev pub bumpAfter : List ℕ → ℕ → ℕ → ℕ → ℕ → List ℕ
-bumpAfter counters kind x y z =
-    afterwards (bumpRefusal counters kind x y z) (charge counters (counterAt kind x y z)) counters
+bumpAfter counters kind x y z = bumpNAfter counters kind x y z 1
+
+-- "Merge another histogram into this one": each of the counters is the sum of the two, mod p.
+unfoldable pub merged : List ℕ → List ℕ → List ℕ
+merged counters other = overwrite (tab NUM-COUNTERS (λ k. fadd (word counters k) (word other k))) counters
+
+-- What `merge` refuses: 3 too few counters, in the first slice, then in the other; 5 the first of the counters that is p
+-- or more, then the first of the other's.
+unfoldable pub mergeRefusal : List ℕ → List ℕ → Option Refusal
+mergeRefusal counters other =
+    tooShort (length counters) NUM-COUNTERS
+    (tooShort (length other) NUM-COUNTERS
+    (refuseAt (firstNotElement counters NUM-COUNTERS) NotElement
+    (refuseAt (firstNotElement other NUM-COUNTERS) NotElement
+    accepted)))
+
+-- What it leaves: the sums, or the old counters where it is refused.
+abbrev pub mergeAfter : List ℕ → List ℕ → List ℕ
+mergeAfter counters other = afterwards (mergeRefusal counters other) (merged counters other) counters

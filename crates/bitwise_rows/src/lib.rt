@@ -14,6 +14,8 @@ ghost use Rattle.lists.specs.Tab.{pick};
 ghost use Rattle.answer.specs.Refusal.{answerOf, numberOf};
 ghost use Rattle.bitwise.specs.Row.{rowOfXYZ, row-index, bitwiseRowRefusal, indexRefusal, bitwiseRowAfter};
 
+pub mod trace;
+
 // The halfword shifted left, nothing lost.
 fn shifted(half: u64, z: u64) -> u64
     requires { ⌜ (half < 65536) × (z < 16) ⌝ }

@@ -21,6 +21,7 @@ use lib.Dec.{ltb}
 use lib.ListN.{length, take, drop, replicate}
 use Rattle.lists.specs.Tab.{word, rowAt}
 use Rattle.lists.specs.First.{countBelow}
+use Rattle.lists.proofs.Reading.{Alike}
 use Rattle.field.specs.Field.{p, INV-SHIFT-32}
 use Rattle.field.proofs.Field.{inv-shift-32}
 use Rattle.answer.specs.Limits.{MAX-OPS}
@@ -39,8 +40,13 @@ use Rattle.fips202.specs.Tables.{roundConstant}
 use Rattle.fips202.proofs.Tables.{constant-past}
 use Rattle.bitwise.specs.Columns.{SLL, SLLC}
 use Rattle.bitwise.specs.Row.{bitwiseRow}
+use Rattle.bitwise.specs.Counters.{bumpNAfter, mergeRefusal, mergeAfter}
+use Rattle.bitwise.specs.Table.{traceAfter, fillAfter}
+use Rattle.bitwise.specs.Lookups.{addOpsRefusal, addOpsAfter, updateAfter}
 use Rattle.bitwise.specs.Charge.{counted, placeCounter}
 use Rattle.bitwise.proofs.Cases.{row-0, row-266804, row-1048575}
+use Rattle.bitwise.proofs.Histogram.{merge-commutes, merge-associates, bump-first, bump-last}
+use Rattle.bitwise.proofs.Counting.{counted-merged, fill-is-update}
 use Rattle.is_wh.specs.Tuples.{isWhTuple}
 use Rattle.keccak.specs.Row.{stateLanes, corePointer}
 use Rattle.keccak.specs.Tuples.{coreTuple}
@@ -410,6 +416,38 @@ without-bit = mu-needed
 -- "With p rows or more": p core rows that cancel on every bus, all values 0
 pub without-few : Slips manyRows × Values (coreKind 24) manyRows
 without-few = few-needed
+
+-- ---- beyond the demands: the counters of the bitwise lookups
+-- "The histogram is a commutative monoid: increments and [`merge`](Self::merge) are order-independent" (tables/bitwise.rs):
+-- of counters that `merge` accepts; the words past the 10,485,760 counters are those of the first slice
+module _ (a b : List ℕ) (passed : mergeRefusal a b ≡ accepted) where
+  pub merging-commutes : Alike 10485760 (mergeAfter a b) (mergeAfter b a)
+  merging-commutes = merge-commutes a b passed
+
+  pub merging-associates : (c : List ℕ) → mergeRefusal b c ≡ accepted →
+      mergeAfter (mergeAfter a b) c ≡ mergeAfter a (mergeAfter b c)
+  merging-associates c = merge-associates a b c passed
+
+  -- a bump into either is a bump into what they are merged into
+  module _ (kind x y z n : ℕ) (hk : kind < 10) (hx : x < 256) (hy : y < 256) (hz : z < 16) where
+    pub bump-then-merge :
+        (mergeAfter (bumpNAfter a kind x y z n) b ≡ bumpNAfter (mergeAfter a b) kind x y z n)
+        × (mergeAfter a (bumpNAfter b kind x y z n) ≡ bumpNAfter (mergeAfter a b) kind x y z n)
+    bump-then-merge = (bump-first a b passed kind x y z n hk hx hy hz, bump-last a b passed kind x y z n hk hx hy hz)
+
+-- ".. so per-thread histograms can be tree-reduced": two lists of lookups counted into two histograms that are then merged
+-- are counted into one
+pub lists-then-merge : (a b ops more : List ℕ) → addOpsRefusal a ops ≡ accepted → addOpsRefusal b more ≡ accepted →
+    mergeAfter (addOpsAfter a ops) (addOpsAfter b more) ≡ addOpsAfter (addOpsAfter (mergeAfter a b) ops) more
+lists-then-merge = counted-merged
+
+-- ".. where it produces exactly the same MU columns as calling [`update_multiplicities`] with the full op vector": from
+-- counters that are 0, into a table as `generate_bitwise_trace` leaves it
+pub filling-updates : (counters table : List ℕ) → 10485760 ≤ length counters →
+    ((k : ℕ) → k < 10485760 → word counters k ≡ 0) → 22020096 ≤ length table →
+    (ops : List ℕ) → addOpsRefusal counters ops ≡ accepted →
+    fillAfter (addOpsAfter counters ops) (traceAfter table) ≡ updateAfter (traceAfter table) ops
+filling-updates = fill-is-update
 
 -- ---- the code's tie to demand 3 (judge/proofs/Tied.antt): `Answered` and `Wrote` are calls, known by their contracts
 -- "Exactly for such a round table the verdict on both tables is 'holds' with the number of active core rows": of what
