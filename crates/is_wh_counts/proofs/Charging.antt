@@ -25,12 +25,12 @@ use Rattle.is_wh.proofs.Tuples.{mu-sent, half-sent, pair-received}
 use Rattle.is_wh_rows.specs.Lists.{limitOf, GoodList}
 use Rattle.is_wh_trace.specs.Trace.{rowCount, traceRow, isWhHeight, isWhTable}
 use Rattle.is_wh_trace.proofs.Rows.{row-before, row-behind, written-row}
-use Rattle.is_wh_counts.specs.Counts.{addTo}
+use Rattle.bitwise.specs.Counters.{charge}
 
 -- ---- one counter
 -- the counters stay below p
-pub elements-add : {C : List ℕ} (at n : ℕ) → ElementRow NUM-COUNTERS C → at < NUM-COUNTERS → ElementRow NUM-COUNTERS (addTo C at n)
-unfolding addTo
+pub elements-add : {C : List ℕ} (at n : ℕ) → ElementRow NUM-COUNTERS C → at < NUM-COUNTERS → ElementRow NUM-COUNTERS (charge C at n)
+unfolding charge
 elements-add {C} at n e l =
     record {
       long = subst (λ (k : ℕ). NUM-COUNTERS ≤ k) (sym (length-set C at (fadd (word C at) n))) (e .long);
@@ -38,8 +38,8 @@ elements-add {C} at n e l =
     }
 
 -- what adding asks for
-pub may-add : {C : List ℕ} (at n : ℕ) → ElementRow NUM-COUNTERS C → at < NUM-COUNTERS → n < p → (at < length C) × (word C at < p) × (n < p)
-may-add at n e l b = let k = e .long in (omega arith, e .below at l, b)
+pub may-add : {C : List ℕ} (at : ℕ) → ElementRow NUM-COUNTERS C → at < NUM-COUNTERS → (at < length C) × (word C at < p)
+may-add at e l = let k = e .long in (omega arith, e .below at l)
 
 pub charged-elements : (C₀ : List ℕ) (f : ℕ → ℕ) → NUM-COUNTERS ≤ length C₀ → ElementRow NUM-COUNTERS (chargedCounters C₀ f)
 charged-elements C₀ f h =
@@ -121,9 +121,9 @@ module _ (rows : List ℕ) where
 
   module _ (C₀ : List ℕ) (long : NUM-COUNTERS ≤ length C₀) (g : GoodList 3 rows) where
     pub list-more : {C C′ : List ℕ} {i : ℕ} → ListAdded C₀ C i → i < length rows / 3
-        → C′ ≡ addTo (addTo (addTo (addTo C (word rows (3 * i + 2) * 10 + 5) 1) (word rows (3 * i + 1) * 10 + 4) (word rows (3 * i + 2))) (word rows (3 * i) % 65536 * 10 + 4) (word rows (3 * i + 2))) (word rows (3 * i) / 65536 * 10 + 4) (word rows (3 * i + 2))
+        → C′ ≡ charge (charge (charge (charge C (word rows (3 * i + 2) * 10 + 5) 1) (word rows (3 * i + 1) * 10 + 4) (word rows (3 * i + 2))) (word rows (3 * i) % 65536 * 10 + 4) (word rows (3 * i + 2))) (word rows (3 * i) / 65536 * 10 + 4) (word rows (3 * i + 2))
         → ListAdded C₀ C′ (i + 1)
-    unfolding addTo traceRow
+    unfolding charge traceRow
     list-more {C} {C′} {i} s l e =
         let w = word rows (3 * i) in
         let h = word rows (3 * i + 1) in

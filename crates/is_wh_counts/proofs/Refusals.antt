@@ -19,6 +19,7 @@ use Rattle.answer.specs.declared.Refusal.{Refusal}
 use Rattle.answer.specs.declared.Refusal.the-variants.{NotElement}
 use Rattle.answer.proofs.Laws.{at-yes, at-no, passed-at, refused, done, still-if, still-at}
 use Rattle.bitwise.specs.Columns.{NUM-COUNTERS}
+use Rattle.bitwise.specs.Counters.{charge}
 use Rattle.bitwise.specs.Charge.{charged, chargedCounters}
 use Rattle.bitwise.proofs.Charge.{Added, added-none, added-same, added-all, added-one, charged-added}
 use Rattle.is_wh.specs.Tuples.{isWhTuple}
@@ -26,7 +27,7 @@ use Rattle.keccak.proofs.Height.{height-ge}
 use Rattle.is_wh_rows.specs.Lists.{GoodList, rowsRefusal}
 use Rattle.is_wh_rows.proofs.Lists.{rows-pass, rows-passed, none-bad}
 use Rattle.is_wh_trace.specs.Trace.{rowCount, traceRow, isWhHeight, isWhTable}
-use Rattle.is_wh_counts.specs.Counts.{sendingRows, isWhCharged, collectRefusal, collectAfter, addTo}
+use Rattle.is_wh_counts.specs.Counts.{sendingRows, isWhCharged, collectRefusal, collectAfter}
 use Rattle.is_wh_counts.proofs.Charging.{table-added}
 
 module _ (rows counters : List ℕ) where
@@ -77,9 +78,9 @@ module _ (rows counters : List ℕ) where
         done counters ok (added-all a (collect-passed rows counters ok .1 .long))
 
     pub rows-done : {C C′ : List ℕ} {h : ℕ} → (rowCount rows ≡ 0 → ⊥) → h ≡ isWhHeight rows
-        → C ≡ chargedCounters counters (charged (rowCount rows) 5 (λ r. isWhTuple (traceRow rows r))) → C′ ≡ addTo C 5 (h - rowCount rows)
+        → C ≡ chargedCounters counters (charged (rowCount rows) 5 (λ r. isWhTuple (traceRow rows r))) → C′ ≡ charge C 5 (h - rowCount rows)
         → (Done ≡ answerOf (collectRefusal rows counters)) × (C′ ≡ collectAfter rows counters)
-    unfolding collectAfter isWhCharged sendingRows addTo
+    unfolding collectAfter isWhCharged sendingRows charge
     rows-done {C} {C′} {h} has eh ec e =
         let F : ℕ → ℕ = charged (rowCount rows) 5 (λ r. isWhTuple (traceRow rows r)) in
         let a : Added counters F C = subst (Added counters F) (sym ec) (charged-added counters F long) in

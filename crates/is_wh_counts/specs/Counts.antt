@@ -5,9 +5,8 @@ use Prim.Native.Nat.{ℕ}
 use mathlib.Core.Option.{Option}
 use mathlib.Core.List.{List}
 use lib.Dec.{eqb}
-use lib.ListN.{length, set}
-use Rattle.lists.specs.Tab.{pick, word, rowAt}
-use Rattle.field.specs.Field.{fadd}
+use lib.ListN.{length}
+use Rattle.lists.specs.Tab.{pick, rowAt}
 use Rattle.field.specs.Elements.{firstNotElement}
 use Rattle.answer.specs.Refusal.{refuseAt, accepted, afterwards}
 use Rattle.answer.specs.declared.Refusal.{Refusal}
@@ -37,7 +36,3 @@ collectRefusal rows counters =
 unfoldable pub collectAfter : List ℕ → List ℕ → List ℕ
 collectAfter rows counters =
     afterwards (collectRefusal rows counters) (chargedCounters counters (isWhCharged rows)) counters
-
--- n more on one counter, mod p (this helps contracts between functions)
-unfoldable pub addTo : List ℕ → ℕ → ℕ → List ℕ
-addTo counters at n = set counters at (fadd (word counters at) n)

@@ -3,7 +3,7 @@ use answer::Answer;
 use answer::Refusal;
 use bitwise::NUM_COUNTERS;
 use bitwise::NUM_LOOKUP_TYPES;
-use field::Fe;
+use bitwise_counts::charge_word;
 use field::elements::first_not_element;
 use is_wh_rows::checks::ROW_SIZE;
 use is_wh_rows::checks::check_rows;
@@ -13,45 +13,34 @@ use operations::table_height;
 ghost use mathlib.Core.Path.{_≡_};
 ghost use Prim.Native.Nat.{_+_, _*_, _/_, _%_, _^_, _<_};
 ghost use lib.ListN.{length};
-ghost use Rattle.lists.specs.Tab.{word};
-ghost use Rattle.field.specs.Field.{p};
 ghost use Rattle.field.specs.Elements.{ElementRow};
 ghost use Rattle.answer.specs.Refusal.{answerOf};
 ghost use Rattle.bitwise.specs.Columns.{NUM-COUNTERS};
+ghost use Rattle.bitwise.specs.Counters.{charge};
 ghost use Rattle.bitwise.specs.Charge.{charged, chargedCounters};
 ghost use Rattle.is_wh.specs.Tuples.{isWhTuple};
 ghost use Rattle.is_wh_rows.specs.Lists.{GoodList};
 ghost use Rattle.is_wh_trace.specs.Trace.{traceRow};
-ghost use Rattle.is_wh_counts.specs.Counts.{addTo, collectRefusal, collectAfter};
+ghost use Rattle.is_wh_counts.specs.Counts.{collectRefusal, collectAfter};
 
 // The numbers of the kinds IS_HALF and IS_B20.
 const IS_HALF: usize = 4;
 
 const IS_B20: usize = 5;
 
-// n more, mod P, on one counter.
-fn add_to(counters: &mut [u64], at: usize, n: u64)
-    requires { ⌜ (at < length (now counters)) × (word (now counters) at < p) × (n < p) ⌝ }
-    ensures { λ _. ⌜ now (counters .exit) ≡ addTo (now (counters .entry)) at n ⌝ }
-{
-    let old = counters[at];
-    let new = Fe { value: old }.add(Fe { value: n });
-    counters[at] = new.value;
-}
-
 // The lookups of a row: its three halves mu times, and mu once.
 fn charge_row(counters: &mut [u64], word: u64, half: u64, mu: u64)
     requires { ⌜ ElementRow NUM-COUNTERS (now counters) × (word < 2 ^ 32) × (half < 2 ^ 16) × (mu < 2 ^ 20) ⌝ }
-    ensures { λ _. ⌜ now (counters .exit) ≡ addTo (addTo (addTo (addTo (now (counters .entry)) (mu * 10 + 5) 1) (half * 10 + 4) mu) (word % 65536 * 10 + 4) mu) (word / 65536 * 10 + 4) mu ⌝ }
+    ensures { λ _. ⌜ now (counters .exit) ≡ charge (charge (charge (charge (now (counters .entry)) (mu * 10 + 5) 1) (half * 10 + 4) mu) (word % 65536 * 10 + 4) mu) (word / 65536 * 10 + 4) mu ⌝ }
 {
-    add_to(counters, mu as usize * NUM_LOOKUP_TYPES + IS_B20, 1);
-    add_to(counters, half as usize * NUM_LOOKUP_TYPES + IS_HALF, mu);
-    add_to(
+    charge_word(counters, mu as usize * NUM_LOOKUP_TYPES + IS_B20, 1);
+    charge_word(counters, half as usize * NUM_LOOKUP_TYPES + IS_HALF, mu);
+    charge_word(
         counters,
         (word % 65536) as usize * NUM_LOOKUP_TYPES + IS_HALF,
         mu,
     );
-    add_to(
+    charge_word(
         counters,
         (word / 65536) as usize * NUM_LOOKUP_TYPES + IS_HALF,
         mu,
@@ -97,6 +86,6 @@ pub fn collect_bitwise_from_is_wh(rows: &[u64], counters: &mut [u64]) -> Answer
     }
     let h = table_height(MIN_ROWS, n);
     charge_rows(rows, n, counters);
-    add_to(counters, IS_B20, (h - n) as u64);
+    charge_word(counters, IS_B20, (h - n) as u64);
     Answer::Done
 }

@@ -8,7 +8,7 @@ use lib.ListN.{length}
 use Rattle.field.specs.Elements.{ElementRow}
 use Rattle.answer.proofs.Laws.{is-refused, is-done}
 use Rattle.bitwise.specs.Columns.{NUM-COUNTERS}
-use Rattle.keccak.proofs.Height.{height-ge, height-le}
+use Rattle.keccak.proofs.Height.{height-ge}
 use Rattle.is_wh_counts.specs.Counts.{collectRefusal}
 use Rattle.is_wh_counts.proofs.Charging.{may-add, charged-elements}
 use Rattle.is_wh_counts.proofs.Refusals.{collect-passed, collect-refused, none-done, rows-done}
@@ -57,22 +57,19 @@ charge-rows-requires c κs =
     let a = collect-passed (start t .args .rows .now) (start t .args .counters .now) (passed t) in
     (a .1, a .0, refl)
 
-sub-add-to : tie.Need-sub-add-to
-sub-add-to c =
+sub-charge-word : tie.Need-sub-charge-word
+sub-charge-word c =
     let h = c .before .before .before .before .before in
     let s = start (h .before .before) in
     omega (arith, h .table-height .ensures, height-ge 4 (length (s .args .rows .now) / 3))
 
-add-to-requires : tie.Need-add-to-requires
-add-to-requires c κs =
+charge-word-requires : tie.Need-charge-word-requires
+charge-word-requires c κs =
     let r = c .before .before .before in
-    let h = r .before .before in
-    let t = h .before .before in
+    let t = r .before .before .before .before in
     let s = start t in
     let a = collect-passed (s .args .rows .now) (s .args .counters .now) (passed t) in
-    may-add 5 (h .table-height .result - length (s .args .rows .now) / 3)
-    (subst (ElementRow NUM-COUNTERS) (sym (r .charge-rows .ensures)) (charged-elements (s .args .counters .now) _ (a .1 .long)))
-    (omega arith) (omega (arith, h .table-height .ensures, height-le 4 (length (s .args .rows .now) / 3), a .0 .few))
+    may-add 5 (subst (ElementRow NUM-COUNTERS) (sym (r .charge-rows .ensures)) (charged-elements (s .args .counters .now) _ (a .1 .long))) (omega arith)
 
 same-length-3 : tie.Need-same-length-3
 same-length-3 c = search needs
@@ -83,7 +80,7 @@ returns-3 c =
     let r = a .before .before .before .before in
     let h = r .before .before in
     let t = h .before .before in
-    rows-done (start t .args .rows .now) (start t .args .counters .now) (passed t) (h .before .if1 .left) (h .table-height .ensures) (r .charge-rows .ensures) (a .add-to .ensures)
+    rows-done (start t .args .rows .now) (start t .args .counters .now) (passed t) (h .before .if1 .left) (h .table-height .ensures) (r .charge-rows .ensures) (a .charge-word .ensures)
 
 pub collect-bitwise-from-is-wh-spec : {M : Type 1} → statement M
 collect-bitwise-from-is-wh-spec =
@@ -98,7 +95,7 @@ collect-bitwise-from-is-wh-spec =
     returns-2
     table-height-requires
     charge-rows-requires
-    sub-add-to
-    add-to-requires
+    sub-charge-word
+    charge-word-requires
     same-length-3
     returns-3)
