@@ -20,11 +20,13 @@ pub length-bitwiseRow : (i : ℕ) → length (bitwiseRow i) ≡ NUM-PRECOMPUTED-
 unfolding bitwiseRow rowOfXYZ
 length-bitwiseRow i = refl
 
+-- words, and n more behind them
+length-behind : (front : List ℕ) (n : ℕ) (f : ℕ → ℕ) (m : ℕ) → length front ≡ m → length (front ++ tab n f) ≡ m + n
+length-behind front n f m e = length-append front (tab n f) ∙ omega (arith, e, length-tab n f)
+
 pub length-traceRow : (i : ℕ) → length (traceRow i) ≡ NUM-COLUMNS
 unfolding traceRow
-length-traceRow i =
-    length-append (bitwiseRow i) (tab NUM-LOOKUP-TYPES (λ k. 0))
-    ∙ omega (arith, length-bitwiseRow i, length-tab {A = ℕ} NUM-LOOKUP-TYPES (λ k. 0))
+length-traceRow i = length-behind (bitwiseRow i) NUM-LOOKUP-TYPES _ NUM-PRECOMPUTED-COLS (length-bitwiseRow i)
 
 pub length-bitwiseTable : length bitwiseTable ≡ TABLE-WORDS
 unfolding bitwiseTable
@@ -53,13 +55,13 @@ module _ (counters table : List ℕ) where
   pub length-filledRow : (r : ℕ) → length (filledRow counters table r) ≡ NUM-COLUMNS
   unfolding filledRow
   length-filledRow r =
-      length-append (tab NUM-PRECOMPUTED-COLS (λ k. word table (r * NUM-COLUMNS + k))) (tab NUM-LOOKUP-TYPES (λ k. word counters (r * NUM-LOOKUP-TYPES + k)))
-      ∙ omega (arith, length-tab NUM-PRECOMPUTED-COLS (λ k. word table (r * NUM-COLUMNS + k)), length-tab NUM-LOOKUP-TYPES (λ k. word counters (r * NUM-LOOKUP-TYPES + k)))
+      let fixed = tab NUM-PRECOMPUTED-COLS (λ k. word table (r * NUM-COLUMNS + k)) in
+      length-behind fixed NUM-LOOKUP-TYPES _ NUM-PRECOMPUTED-COLS (length-tab NUM-PRECOMPUTED-COLS (λ k. word table (r * NUM-COLUMNS + k)))
 
   fixed-word : (r k : ℕ) → k < NUM-PRECOMPUTED-COLS → word (filledRow counters table r) k ≡ word table (r * NUM-COLUMNS + k)
   unfolding filledRow
   fixed-word r k h =
-      List·getD-append (tab NUM-PRECOMPUTED-COLS (λ j. word table (r * NUM-COLUMNS + j))) (tab NUM-LOOKUP-TYPES (λ j. word counters (r * NUM-LOOKUP-TYPES + j))) 0 k
+      List·getD-append (tab NUM-PRECOMPUTED-COLS (λ j. word table (r * NUM-COLUMNS + j))) _ 0 k
       (omega (arith, length-tab NUM-PRECOMPUTED-COLS (λ j. word table (r * NUM-COLUMNS + j)), h))
       ∙ getD-tab NUM-PRECOMPUTED-COLS (λ j. word table (r * NUM-COLUMNS + j)) k 0 h
 

@@ -2,11 +2,11 @@
 //!
 //! `bitwise-table` writes the table of 2^20 rows, 176 megabytes: as in `rows.rs` with an allocation of ours too, and `-lent` into memory
 //! that is kept; so large a table is of memory that the system hands out anew, and that is in the Rust's time and in ours. `fill` puts
-//! counters into the multiplicities of a table that is kept: all of them 1 or more; `fill-few` after the lookups of some 40,000 rows, most
-//! counters being 0, where the Rust writes nothing and we write the zeros. `merge` adds counters to counters, ours mod p and with the
-//! checks. `dedup` makes the rows of the keys of 2,730 operations at drawn addresses, and of operations whose addresses rise; ours into
-//! memory that is kept, from words, the Rust's into a vector of its own, from keys. `is-wh-table` and `is-wh-lookups` are of the rows of
-//! `dedup`.
+//! counters into the multiplicities of a table that is kept, none of them being 0; in `fill-few` 26 of 27 are 0, where the Rust writes
+//! nothing and ours the zeros. `merge` adds counters to counters, ours mod p and with the checks. `dedup` makes the rows of the keys of
+//! 2,730 operations at drawn addresses, `dedup-in-order` of as many whose addresses rise; ours into memory that is kept, from words, the
+//! Rust's into a vector of its own, from keys. `is-wh-table` and `is-wh-lookups` are of the rows of `dedup`; the latter's time is that of
+//! checking every counter.
 
 use compare::say;
 use std::hint::black_box;
