@@ -21,7 +21,7 @@ use Rattle.tuple.specs.Tuple.{sender, receiver}
 use Rattle.tuple.specs.declared.Bus.{Bus}
 use Rattle.tuple.specs.declared.Bus.the-variants.{ByteAlu, AreBytes, IsHalfword, IsWh, KeccakRc, Keccak, IsB20, Memw, Ecall, Msb8, Msb16, Zero, Hwsl}
 use Rattle.bitwise.specs.Columns.{NUM-COUNTERS}
-use Rattle.bitwise.specs.Row.{bitwiseRow, row-index}
+use Rattle.bitwise.specs.Row.{bitwiseRow}
 use Rattle.bitwise.specs.Tuples.{bitwiseTuple}
 use Rattle.bitwise.specs.Found.{BitwiseFound, aluOp, AluFound, AreBytesFound, HalfFound, halfFound}
 use Rattle.bitwise.specs.Charge.{placeRow, placeKind, twentyFound, counted, placeCounter, fallsOn, chargedCounters}

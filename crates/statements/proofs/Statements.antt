@@ -47,6 +47,7 @@ use Rattle.bitwise.specs.Charge.{counted, placeCounter}
 use Rattle.bitwise.proofs.Cases.{row-0, row-266804, row-1048575}
 use Rattle.bitwise.proofs.Histogram.{merge-commutes, merge-associates, bump-first, bump-last}
 use Rattle.bitwise.proofs.Counting.{counted-merged, fill-is-update}
+use Rattle.bitwise.proofs.Charge.{Placed, counted-placed}
 use Rattle.is_wh.specs.Tuples.{isWhTuple}
 use Rattle.keccak.specs.Row.{stateLanes, corePointer}
 use Rattle.keccak.specs.Tuples.{coreTuple}
@@ -94,7 +95,7 @@ use Rattle.is_wh_rows.specs.Lists.{GoodList}
 use Rattle.is_wh_rows.specs.Calls.{dedupRefusal}
 use Rattle.is_wh_trace.specs.Trace.{rowCount, isWhHeight, isWhTable, isWhTraceRefusal, isWhTraceAfter}
 use Rattle.is_wh_counts.specs.Counts.{isWhCharged}
-use Rattle.is_wh_sums.proofs.Sent.{rows-matched}
+use Rattle.is_wh_sums.proofs.Sent.{rows-matched, rows-sent}
 use Rattle.is_wh_sums.proofs.Written.{keysOf, rowsWritten, written-balanced, collected-is-sent}
 use Rattle.bus_sums_needs.specs.Cancel.{Slips, twoRows, manyRows}
 use Rattle.bus_sums_needs.specs.Forged.{Forgery, bentCore, bentRound}
@@ -387,9 +388,14 @@ module _ (ops out : List ℕ) (wrote-keys : keysRefusal (length out) ops ≡ acc
   pairs-received C S R wrote-rows T core wrote-table wrote-core = written-balanced ops out wrote-keys C S R wrote-rows T core wrote-table wrote-core
 
 module _ (list : List ℕ) (good : GoodList 3 list) where
-  -- every lookup of its rows is found, for any list of rows that is accepted
+  -- every lookup of its rows is found, for any list of rows that is accepted ..
   pub pair-rows-found : (r i : ℕ) → r < isWhHeight list → i < 5 → Matched (isWhTuple (rowAt 4 (isWhTable list) r) i)
   pair-rows-found = rows-matched list good
+
+  -- .. and the bitwise row that is charged for it has what is sent, IS_B20 of μ included, of which `Matched` does not speak
+  pub pair-rows-placed : (r i : ℕ) → r < isWhHeight list → i < 5 → isWhTuple (rowAt 4 (isWhTable list) r) i .side ≡ Sender →
+      Placed (isWhTuple (rowAt 4 (isWhTable list) r) i .bus) (isWhTuple (rowAt 4 (isWhTable list) r) i .values)
+  pair-rows-placed r i below index sent = counted-placed _ _ (rows-sent list good r i below index sent)
 
 -- what `collect_bitwise_from_is_wh` adds to the counter of the values v on a bus is how often the table sends them there
 pub pair-rows-charged : (list : List ℕ) → (rowCount list ≡ 0 → ⊥) → (b : Bus) (v : List ℕ) → counted b v ≡ true →
