@@ -107,6 +107,12 @@ const SPOILT_COUNTERS: [Spoilt; 7] = [
     &[(NUM_COUNTERS, u64::MAX)],
 ];
 
+/// One of them that is drawn; or nothing, so that a call which is to be accepted is among the tried.
+fn drawn_or_none(words: &mut Words, none: bool) -> Spoilt<'static> {
+    let drawn = words.below(7) as usize;
+    SPOILT_COUNTERS[if none { 0 } else { drawn }]
+}
+
 fn short(length: usize, needed: usize) -> (bool, u64, u64) {
     (length < needed, 3, needed as u64)
 }
@@ -254,7 +260,7 @@ fn lists(comparison: &mut Comparison, words: &mut Words, long: &mut Long) {
                 whole: ops.len(),
             };
             for which in 0..6 {
-                let spoilt = SPOILT_COUNTERS[words.below(7) as usize];
+                let spoilt = drawn_or_none(words, which == 2);
                 on.counters(comparison, words, long, which, spoilt);
                 on.table(comparison, words, long, which, spoilt);
             }
@@ -418,7 +424,7 @@ fn rows(comparison: &mut Comparison, words: &mut Words, long: &mut Long) {
                 }
             }
             for length in [0, NUM_COUNTERS - 1, NUM_COUNTERS, NUM_COUNTERS + 1] {
-                let spoilt = SPOILT_COUNTERS[words.below(7) as usize];
+                let spoilt = drawn_or_none(words, length == NUM_COUNTERS);
                 let counter = not_element(first_not_element(spoilt, NUM_COUNTERS));
                 let expected = first(&[(past != 0, 2, 2), short(length, NUM_COUNTERS), bad, counter]);
                 if expected.is_none() && !rows.is_empty() {
