@@ -7,6 +7,7 @@ use std::path::{Path, PathBuf};
 /// What is passed: by C linkage, a slice counts as two.
 #[derive(Debug, Clone, PartialEq, Eq)]
 pub enum Passed {
+    Flag,
     Byte,
     Word,
     Size,
@@ -106,6 +107,7 @@ fn word(text: &str) -> &str {
 /// A type of the archive's source or of Rust, by C linkage.
 fn of_rust_type(name: &str) -> Vec<Passed> {
     match name {
+        "bool" => vec![Passed::Flag],
         "u8" => vec![Passed::Byte],
         "u64" => vec![Passed::Word],
         "usize" => vec![Passed::Size],
@@ -195,6 +197,7 @@ fn c_declaration(declaration: &str) -> (String, Passed) {
         + 1;
     let (kind, name) = declaration.split_at(at);
     let passed = match kind.trim() {
+        "bool" => Passed::Flag,
         "uint8_t" => Passed::Byte,
         "uint64_t" => Passed::Word,
         "size_t" => Passed::Size,
