@@ -38,6 +38,7 @@
 #ifndef KECCAK_TABLES_H
 #define KECCAK_TABLES_H
 
+#include <stdbool.h>
 #include <stddef.h>
 #include <stdint.h>
 
@@ -537,10 +538,11 @@ keccak_tables_cursor keccak_tables_tally_feed(keccak_tables_cursor cursor, const
 
 /*
  * What the file says at its end: the reader's fault; 1 more than 89,478,485 records, or bytes after the last of them (only a reader
- * that no call made); 6 a cut record; or the sums.
+ * that no call made); 6 a cut record; or the sums over the rows of both tables. Where the tables of an empty file are not shipped its
+ * sums are 0; where they are, its four zero round rows send 880 on AreBytes. Of a file with records `shipped` changes nothing.
  */
 KECCAK_TABLES_MUST_USE
-keccak_tables_sums keccak_tables_tally_finish(keccak_tables_cursor cursor);
+keccak_tables_sums keccak_tables_tally_finish(bool shipped, keccak_tables_cursor cursor);
 
 /* Writes the operations of a whole file. 1, 4 and 6 as a reader gives them, for the first faulty record; then 3 ops < 52 n. */
 KECCAK_TABLES_MUST_USE

@@ -208,7 +208,7 @@ bind! {
 
     tally_start = keccak_tables_tally_start() -> FlatCursor;
     tally_feed = keccak_tables_tally_feed(cursor: FlatCursor, bytes: &[u8]) -> FlatCursor;
-    tally_finish = keccak_tables_tally_finish(cursor: FlatCursor) -> FlatTally;
+    tally_finish = keccak_tables_tally_finish(shipped: bool, cursor: FlatCursor) -> FlatTally;
     read_operations = keccak_tables_read_operations(file: &[u8], ops: &mut [u64]) -> FlatAnswer;
     write_operations = keccak_tables_write_operations(ops: &[u64], file: &mut [u8]) -> FlatAnswer;
 }

@@ -41,10 +41,12 @@ mod all_cores;
 #[allow(unsafe_code)]
 mod ffi;
 mod operation;
+mod parameters;
 mod refusal;
 mod tuple;
 
 pub use operation::{MAX_OPS, OP_WORDS, Operation};
+pub use parameters::Parameters;
 pub use refusal::{Lent, Refusal};
 pub use tuple::{Bus, BusInteraction, Side, transposed, tuples};
 

@@ -2,7 +2,7 @@
 //!
 //! ```
 //! use keccak_tables::operation_file::{RECORD_BYTES, Tally, read_operations, write_operations};
-//! use keccak_tables::{OP_WORDS, Operation, Refusal};
+//! use keccak_tables::{OP_WORDS, Operation, Parameters, Refusal};
 //!
 //! let list = Operation { timestamp: 5, address: 4096, input: [0; 25], output: [0; 25] }.words();
 //! let mut file = [0; RECORD_BYTES];
@@ -11,6 +11,7 @@
 //! let mut tally = Tally::new();
 //! file.chunks(100).for_each(|piece| tally.feed(piece));
 //! assert_eq!(tally.finish()?.byte_alu, 19_393);
+//! assert_eq!(Tally::new().finish_with(Parameters::default().shipped())?.are_bytes, 880);
 //!
 //! let mut read = [0; OP_WORDS];
 //! read_operations(&file, &mut read)?;
@@ -20,6 +21,7 @@
 //! ```
 
 use crate::ffi::{self, FlatCursor};
+use crate::parameters::Parameters;
 use crate::refusal::{Refusal, TOO_SHORT};
 
 /// The bytes of a record.
@@ -92,7 +94,7 @@ impl Tally {
         Refusal::from_flat(self.0.number, self.0.detail, |_, _| "bytes").err()
     }
 
-    /// What the whole file says, now that it has ended.
+    /// What the whole file says, now that it has ended, where the tables of an empty one are not shipped: its sums are 0.
     ///
     /// # Errors
     ///
@@ -100,7 +102,16 @@ impl Tally {
     /// address is above [`LAST_ADDRESS`](crate::keccak::LAST_ADDRESS); [`BadRecord`](Refusal::BadRecord): a wrong mark
     /// or a cut record. The first faulty record is told, and of it the mark before the address.
     pub fn finish(self) -> Result<Sums, Refusal> {
-        ffi::tally_finish(self.0).named(|_, _| "bytes")
+        self.finish_with(Parameters::default())
+    }
+
+    /// The same by these parameters: [`shipped`](Parameters::shipped) counts the rows of an empty file's tables too.
+    ///
+    /// # Errors
+    ///
+    /// Those of [`finish`](Self::finish).
+    pub fn finish_with(self, parameters: Parameters) -> Result<Sums, Refusal> {
+        ffi::tally_finish(parameters.shipped, self.0).named(|_, _| "bytes")
     }
 }
 

@@ -534,13 +534,20 @@ static void file_lists(void) {
 static void file_sums(void) {
     keccak_tables_cursor cursor = CALL(keccak_tables_tally_start)();
     DONE(cursor);
+    keccak_tables_sums empty = keccak_tables_tally_finish(false, cursor);
+    DONE(empty);
+    CHECK(empty.ops == 0 && empty.core_rows == 4 && empty.round_rows == 4 && empty.byte_alu == 0 && empty.are_bytes == 0);
+    empty = keccak_tables_tally_finish(true, cursor);
+    DONE(empty);
+    CHECK(empty.ops == 0 && empty.core_rows == 4 && empty.round_rows == 4 && empty.byte_alu == 0 && empty.are_bytes == 880);
+    CHECK(empty.keccak_rc == 0 && empty.is_halfword == 0 && empty.is_wh == 0 && empty.memw == 0 && empty.ecall == 0);
     cursor = CALL(keccak_tables_tally_feed)(cursor, file, 13);
     DONE(cursor);
     CHECK(cursor.records == 0 && cursor.at == 13);
-    keccak_tables_sums sums = CALL(keccak_tables_tally_finish)(cursor);
+    keccak_tables_sums sums = CALL(keccak_tables_tally_finish)(false, cursor);
     REFUSED(sums, 6, 0);
     cursor = keccak_tables_tally_feed(cursor, file + 13, 405);
-    sums = keccak_tables_tally_finish(cursor);
+    sums = keccak_tables_tally_finish(false, cursor);
     DONE(sums);
     CHECK(sums.ops == 1 && sums.core_rows == 4 && sums.round_rows == 32 && sums.byte_alu == 19393 && sums.are_bytes == 7044);
     CHECK(sums.keccak_rc == 24 && sums.is_halfword == 25 && sums.is_wh == 25 && sums.memw == 26 && sums.ecall == 1);
@@ -549,7 +556,7 @@ static void file_sums(void) {
 
     /* A reader that has read as many records as a file may have: its end is no fault, a byte more is. */
     keccak_tables_cursor full = {0, 0, KECCAK_TABLES_MAX_OPS, 0, 0};
-    sums = keccak_tables_tally_finish(full);
+    sums = keccak_tables_tally_finish(true, full);
     DONE(sums);
     CHECK(sums.ops == KECCAK_TABLES_MAX_OPS);
     cursor = keccak_tables_tally_feed(full, file, 0);

@@ -8,8 +8,8 @@ use keccak_tables::is_wh::{IsWhKey, IsWhRows};
 use keccak_tables::operation_file::Tally;
 use keccak_tables::verdict::{Table, Verdict};
 use keccak_tables::{
-    Bus, BusInteraction, Lent, MAX_OPS, OP_WORDS, Operation, P, Refusal, Side, bitwise, is_wh, keccak, keccak_rc,
-    keccak_rnd, operation_file, tuples, verdict,
+    Bus, BusInteraction, Lent, MAX_OPS, OP_WORDS, Operation, P, Parameters, Refusal, Side, bitwise, is_wh, keccak,
+    keccak_rc, keccak_rnd, operation_file, tuples, verdict,
 };
 
 const GUARD: u64 = 0xA5A5_A5A5_A5A5_A5A5;
@@ -526,7 +526,13 @@ fn file_calls() {
     assert_eq!((sums.lines()[4], sums.lines()[9]), (("AreBytes", 7_044), ("Ecall", 1)));
     tally.feed(&[0]);
     assert_eq!(tally.fault(), Some(Refusal::BadRecord { start: 418 }));
-    assert_eq!(Tally::new().finish().map(|sums| sums.core_rows), Ok(4));
+    let empty = |parameters| {
+        Tally::new()
+            .finish_with(parameters)
+            .map(|sums| (sums.core_rows, sums.are_bytes))
+    };
+    assert_eq!(empty(Parameters::default()), Ok((4, 0)));
+    assert_eq!(empty(Parameters::default().shipped()), Ok((4, 880)));
 }
 
 /// Each public function of the modules on tables stands in this file by its module's name, each method by its own.
@@ -559,7 +565,7 @@ fn none_is_left_out() {
             }
         }
     }
-    // Those of the archive; two more that allocate a table, a verdict's `holds`, a reader's fault and the lines of its sums, a counter
-    // by its kind, once or n times, a kind's number, a lookup's words and a list of them, and the five of rows of keys.
-    assert_eq!(functions, interface::exports().len() + 15);
+    // Those of the archive; two more that allocate a table, a verdict's `holds`, a reader's fault, its sums by parameters and their
+    // lines, a counter by its kind, once or n times, a kind's number, a lookup's words and a list of them, and the five of rows of keys.
+    assert_eq!(functions, interface::exports().len() + 16);
 }

@@ -1,4 +1,5 @@
-//! The program `tally` that the kit compiles: how it meets files that can't be read or written, and one of several reads.
+//! The program `tally` that the kit compiles: how it meets files that can't be read or written, one of several reads, and
+//! arguments.
 //! What it prints of files that can is compared by the gate.
 
 use std::fs::File;
@@ -23,7 +24,12 @@ static PROGRAM: LazyLock<PathBuf> = LazyLock::new(|| {
 });
 
 fn ran(input: impl Into<Stdio>, output: impl Into<Stdio>) -> Output {
+    ran_with(&[], input, output)
+}
+
+fn ran_with(arguments: &[&str], input: impl Into<Stdio>, output: impl Into<Stdio>) -> Output {
     let program = Command::new(&*PROGRAM)
+        .args(arguments)
         .stdin(input)
         .stdout(output)
         .stderr(Stdio::piped())
@@ -93,4 +99,44 @@ fn a_file_of_several_reads_is_read_whole() {
         (String::from_utf8(stdout).expect("text").as_str(), stderr.len()),
         (lines, 0)
     );
+}
+
+/// Of an empty file; an argument may stand twice, and no other word or part of it is taken for it.
+#[test]
+fn the_argument_shipped_counts_the_rows_of_empty_tables() {
+    for (arguments, bytes) in [(&[][..], 0), (&["shipped"], 880), (&["shipped", "shipped"], 880)] {
+        let Output { stdout, stderr, .. } = ran_with(arguments, records("none", 0), Stdio::piped());
+        let lines = format!(
+            "ops 0\ncore-rows 4\nround-rows 4\nByteAlu 0\nAreBytes {bytes}\nKeccakRc 0\nIsHalfword 0\nIsWh 0\nMemw 0\nEcall 0\n"
+        );
+        assert_eq!(
+            (String::from_utf8(stdout).expect("text"), stderr.len()),
+            (lines, 0),
+            "{arguments:?}"
+        );
+    }
+}
+
+/// Whatever the file is: it is not read, as a folder shows, which can't be.
+#[test]
+fn another_argument_is_told_on_standard_error_alone() {
+    for arguments in [
+        &[""][..],
+        &["ship"],
+        &["shipped "],
+        &["shipped, and more"],
+        &["Shipped"],
+        &["--shipped"],
+        &["shipped", "4"],
+        &["4", "shipped"],
+    ] {
+        let folder = File::open(env!("CARGO_MANIFEST_DIR")).expect("a folder can be opened");
+        let Output { stdout, stderr, .. } = ran_with(arguments, folder, Stdio::piped());
+        let line = "tally takes the argument shipped, or none\n";
+        assert_eq!(
+            (stdout.len(), String::from_utf8(stderr).expect("text").as_str()),
+            (0, line),
+            "{arguments:?}"
+        );
+    }
 }

@@ -30,7 +30,7 @@ pub use answers::is_wh::{IS_WH_COLUMNS, is_wh_key, is_wh_rows, is_wh_table, is_w
 pub use answers::keccak::{CORE_COLUMNS, core_sums, core_table, core_tuples, core_values, is_wh_keys};
 pub use answers::keccak_rc::{KECCAK_RC_COLUMNS, keccak_rc_row, keccak_rc_table, keccak_rc_tuples};
 pub use answers::keccak_rnd::{ROUND_COLUMNS, padding_are_bytes, round_sums, round_table, round_tuples, round_values};
-pub use answers::tally::tally;
+pub use answers::tally::{shipped_tally, tally};
 pub use executor::vm::instruction::execution::KECCAK_RHO;
 pub use operation::OPERATION_WORDS;
 pub use row::{P, RowConstraints, evaluate_constraints};

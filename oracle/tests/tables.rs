@@ -280,8 +280,14 @@ fn the_tally_of_any_number_of_operations() {
         oracle::tally(&[]).map(|(_, count)| count),
         [0, 4, 4, 0, 0, 0, 0, 0, 0, 0]
     );
+    assert_eq!(
+        oracle::shipped_tally(&[]).map(|(_, count)| count),
+        [0, 4, 4, 0, 880, 0, 0, 0, 0, 0]
+    );
     for n in 1..6u64 {
-        let tally = oracle::tally(&operations(16, n as usize)).map(|(_, count)| count as u64);
+        let list = operations(16, n as usize);
+        assert_eq!(oracle::shipped_tally(&list), oracle::tally(&list));
+        let tally = oracle::tally(&list).map(|(_, count)| count as u64);
         let are_bytes = 5_284 * n + oracle::padding_are_bytes(n as usize);
         assert_eq!(tally[3..], [19_393 * n, are_bytes, 24 * n, 25 * n, 25 * n, 26 * n, n]);
     }

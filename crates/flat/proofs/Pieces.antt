@@ -1,6 +1,7 @@
 -- Feeding a file's pieces through the calls gives what `tally` says of the whole file.
 use Prim.Native.Nat.{ℕ}
 use mathlib.Core.Path.{_≡_, refl, sym, ap, _∙_}
+use mathlib.Core.Bool.{Bool}
 use mathlib.Core.List.{List, [], _∷_, _++_}
 use Rattle.answer.specs.Refusal.{refusalNumber, refusalDetail}
 use Rattle.answer.specs.declared.Refusal.{Refusal}
@@ -50,5 +51,5 @@ fed-stands c (s ∷ ss) =
     ∙ fed-stands (feedOf c s) ss
     ∙ sym (feed-append c s (joined ss))
 
-pub calls-tally : (syscall : ℕ) (ss : List (List ℕ)) → flatTally (finishOf (cursorOf (fed (flatCursor fileStart) ss))) ≡ flatTally (tallyOf syscall (joined ss))
-calls-tally syscall ss = ap (λ (d : Cursor). flatTally (finishOf d)) (fed-stands fileStart ss) ∙ ap flatTally (reads-file syscall (joined ss))
+pub calls-tally : (shipped : Bool) (syscall : ℕ) (ss : List (List ℕ)) → flatTally (finishOf shipped (cursorOf (fed (flatCursor fileStart) ss))) ≡ flatTally (tallyOf shipped syscall (joined ss))
+calls-tally shipped syscall ss = ap (λ (d : Cursor). flatTally (finishOf shipped d)) (fed-stands fileStart ss) ∙ ap flatTally (reads-file shipped syscall (joined ss))

@@ -31,11 +31,11 @@ pub extern "C" fn keccak_tables_tally_feed(cursor: FlatCursor, bytes: &[u8]) -> 
 }
 
 #[no_mangle]
-pub extern "C" fn keccak_tables_tally_finish(cursor: FlatCursor) -> FlatTally
-    ensures { λ r. ⌜ r ≡ flatTally (finishOf (cursorOf cursor)) ⌝ }
+pub extern "C" fn keccak_tables_tally_finish(shipped: bool, cursor: FlatCursor) -> FlatTally
+    ensures { λ r. ⌜ r ≡ flatTally (finishOf shipped (cursorOf cursor)) ⌝ }
 {
     let c = cursor_of(cursor);
-    flat_tally(op_sums::finish(c))
+    flat_tally(op_sums::finish(shipped, c))
 }
 
 #[no_mangle]

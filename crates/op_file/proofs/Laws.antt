@@ -228,19 +228,6 @@ next n r e =
     (λ (m : MAX-OPS ≤ n). over n 0 r m (omega arith) ∙ ap (λ (f : Option Refusal). after f (n + 1)) (sym (over-fault n (418 * n) r m)))
     (λ (m : n < MAX-OPS). whole n m 0 (omega arith) r e)
 
--- the end of the file within record n
-ends : (n : ℕ) (r : List ℕ) (a : Sums) (f : Option Refusal) → 0 < length r → length r < 418 → finishOf (feedOf (Reading n 0 0) r) ≡ unless (orElse (faultOf n (418 * n) r) f) a
-unfolding finishOf orElse
-ends n r a f l h =
-    by-le MAX-OPS n
-    (λ (m : MAX-OPS ≤ n). ap finishOf (over n 0 r m l) ∙ ap (λ (g : Option Refusal). unless (orElse g f) a) (sym (over-fault n (418 * n) r m)))
-    (λ (m : n < MAX-OPS).
-    ⊎-elim
-    (λ e. ap finishOf e)
-    (λ e. ap finishOf (e .1) ∙ simp (le-ltb MAX-OPS n (omega arith), lt-leb MAX-OPS n m, ne-eqb (0 + length r) 0 (λ z. omega arith)))
-    (cut n m 0 0 r (omega arith))
-    ∙ ap (λ (g : Option Refusal). unless (orElse g f) a) (sym (short-fault n (418 * n) r m h)))
-
 -- where a record has no fault, there was room for it
 room : (n at : ℕ) (r : List ℕ) → faultOf n at r ≡ none → n < MAX-OPS
 room n at r e =
@@ -253,60 +240,74 @@ unfolding split
 split-none zero = refl
 split-none (suc k) = refl
 
--- what the records from the i-th on say, where k of them hold the rest of the file
-abbrev From : ℕ → ℕ → List ℕ → Type 0
-From k i s = finishOf (feedOf (Reading i 0 0) s) ≡ unless (firstFault i (418 * i) (split k s)) (countsOf (i + length (split k s)))
+module _ (shipped : Bool) where
+  -- the end of the file within record n
+  ends : (n : ℕ) (r : List ℕ) (a : Sums) (f : Option Refusal) → 0 < length r → length r < 418 → finishOf shipped (feedOf (Reading n 0 0) r) ≡ unless (orElse (faultOf n (418 * n) r) f) a
+  unfolding finishOf orElse
+  ends n r a f l h =
+      by-le MAX-OPS n
+      (λ (m : MAX-OPS ≤ n). ap (finishOf shipped) (over n 0 r m l) ∙ ap (λ (g : Option Refusal). unless (orElse g f) a) (sym (over-fault n (418 * n) r m)))
+      (λ (m : n < MAX-OPS).
+      ⊎-elim
+      (λ e. ap (finishOf shipped) e)
+      (λ e. ap (finishOf shipped) (e .1) ∙ simp (le-ltb MAX-OPS n (omega arith), lt-leb MAX-OPS n m, ne-eqb (0 + length r) 0 (λ z. omega arith)))
+      (cut n m 0 0 r (omega arith))
+      ∙ ap (λ (g : Option Refusal). unless (orElse g f) a) (sym (short-fault n (418 * n) r m h)))
 
--- the rest of the file is one record, cut
-from-cut : (k i b : ℕ) (s : List ℕ) → suc (length s) < 418 → From (suc k) i (b ∷ s)
-unfolding split firstFault
-from-cut k i b s h =
-    let e : take 418 (b ∷ s) ≡ b ∷ s = take-all 418 (b ∷ s) (omega arith) in
-    let g : length (b ∷ s) ≤ 418 = omega arith in
-    let d : drop 418 (b ∷ s) ≡ [] = drop-of-length-le (b ∷ s) g in
-    rw (e, d, split-none k) (ends i (b ∷ s) (countsOf (i + 1)) none (omega arith) h)
+  -- what the records from the i-th on say, where k of them hold the rest of the file
+  abbrev From : ℕ → ℕ → List ℕ → Type 0
+  From k i s = finishOf shipped (feedOf (Reading i 0 0) s) ≡ unless (firstFault i (418 * i) (split k s)) (countsOf shipped (i + length (split k s)))
 
--- a whole record, and the rest after it
-from-whole : (f : Option Refusal) (k i : ℕ) (r rest : List ℕ) → length r ≡ 418 → faultOf i (418 * i) r ≡ f → (i < MAX-OPS → From k (i + 1) rest)
-    → finishOf (feedOf (after f (i + 1)) rest) ≡ unless (orElse f (firstFault (i + 1) (418 * i + length r) (split k rest))) (countsOf (i + suc (length (split k rest))))
-unfolding finishOf orElse
-from-whole (some x) k i r rest l e g = ap finishOf (feed-refused x rest)
-from-whole none k i r rest l e g =
-    let at : 418 * (i + 1) ≡ 418 * i + length r = omega arith in
-    let c : i + 1 + length (split k rest) ≡ i + suc (length (split k rest)) = omega arith in
-    g (room i (418 * i) r e)
-    ∙ ap (λ (m : ℕ). unless (firstFault (i + 1) m (split k rest)) (countsOf (i + 1 + length (split k rest)))) at
-    ∙ ap (λ (m : ℕ). unless (firstFault (i + 1) (418 * i + length r) (split k rest)) (countsOf m)) c
+  -- the rest of the file is one record, cut
+  from-cut : (k i b : ℕ) (s : List ℕ) → suc (length s) < 418 → From (suc k) i (b ∷ s)
+  unfolding split firstFault
+  from-cut k i b s h =
+      let e : take 418 (b ∷ s) ≡ b ∷ s = take-all 418 (b ∷ s) (omega arith) in
+      let g : length (b ∷ s) ≤ 418 = omega arith in
+      let d : drop 418 (b ∷ s) ≡ [] = drop-of-length-le (b ∷ s) g in
+      rw (e, d, split-none k) (ends i (b ∷ s) (countsOf shipped (i + 1)) none (omega arith) h)
 
-reads-from : (k i : ℕ) (s : List ℕ) → length s ≤ k → i ≤ MAX-OPS → From k i s
-unfolding split firstFault feedOf finishOf
-reads-from zero i [] l m = simp (le-ltb MAX-OPS i m, add-zero)
-reads-from zero i (b ∷ s) l m = absurd (omega arith)
-reads-from (suc k) i [] l m = simp (le-ltb MAX-OPS i m, add-zero)
-reads-from (suc k) i (b ∷ s) l m =
-    by-le 418 (suc (length s))
-    (λ (h : 418 ≤ suc (length s)).
-    let r = take 418 (b ∷ s) in
-    let rest = drop 418 (b ∷ s) in
-    let e : length r ≡ 418 = simp length-take (omega arith) in
-    let d : length rest ≤ k = simp length-drop (omega arith) in
-    ap finishOf (feed-split (Reading i 0 0) 418 (b ∷ s) ∙ ap (λ (c : Cursor). feedOf c rest) (next i r e))
-    ∙ from-whole (faultOf i (418 * i) r) k i r rest e refl (λ (few : i < MAX-OPS). reads-from k (i + 1) rest d (omega arith)))
-    (λ (h : suc (length s) < 418). from-cut k i b s h)
+  -- a whole record, and the rest after it
+  from-whole : (f : Option Refusal) (k i : ℕ) (r rest : List ℕ) → length r ≡ 418 → faultOf i (418 * i) r ≡ f → (i < MAX-OPS → From k (i + 1) rest)
+      → finishOf shipped (feedOf (after f (i + 1)) rest) ≡ unless (orElse f (firstFault (i + 1) (418 * i + length r) (split k rest))) (countsOf shipped (i + suc (length (split k rest))))
+  unfolding finishOf orElse
+  from-whole (some x) k i r rest l e g = ap (finishOf shipped) (feed-refused x rest)
+  from-whole none k i r rest l e g =
+      let at : 418 * (i + 1) ≡ 418 * i + length r = omega arith in
+      let c : i + 1 + length (split k rest) ≡ i + suc (length (split k rest)) = omega arith in
+      g (room i (418 * i) r e)
+      ∙ ap (λ (m : ℕ). unless (firstFault (i + 1) m (split k rest)) (countsOf shipped (i + 1 + length (split k rest)))) at
+      ∙ ap (λ (m : ℕ). unless (firstFault (i + 1) (418 * i + length r) (split k rest)) (countsOf shipped m)) c
 
--- what a reader says after the whole file is what the file's records say
-pub reads-file : (syscall : ℕ) (file : List ℕ) → finishOf (feedOf fileStart file) ≡ tallyOf syscall file
-unfolding tallyOf recordsOf
-reads-file syscall file =
-    let n = length (split (length file) file) in
-    let e : 0 + n ≡ n = omega arith in
-    reads-from (length file) 0 file (omega arith) (omega arith)
-    ∙ ap (λ (m : ℕ). unless (firstFault 0 0 (split (length file) file)) (countsOf m)) e
-    ∙ ap (unless (firstFault 0 0 (split (length file) file))) (counts-are-sums syscall n (opAt (fileWords file)))
+  reads-from : (k i : ℕ) (s : List ℕ) → length s ≤ k → i ≤ MAX-OPS → From k i s
+  unfolding split firstFault feedOf finishOf
+  reads-from zero i [] l m = simp (le-ltb MAX-OPS i m, add-zero)
+  reads-from zero i (b ∷ s) l m = absurd (omega arith)
+  reads-from (suc k) i [] l m = simp (le-ltb MAX-OPS i m, add-zero)
+  reads-from (suc k) i (b ∷ s) l m =
+      by-le 418 (suc (length s))
+      (λ (h : 418 ≤ suc (length s)).
+      let r = take 418 (b ∷ s) in
+      let rest = drop 418 (b ∷ s) in
+      let e : length r ≡ 418 = simp length-take (omega arith) in
+      let d : length rest ≤ k = simp length-drop (omega arith) in
+      ap (finishOf shipped) (feed-split (Reading i 0 0) 418 (b ∷ s) ∙ ap (λ (c : Cursor). feedOf c rest) (next i r e))
+      ∙ from-whole (faultOf i (418 * i) r) k i r rest e refl (λ (few : i < MAX-OPS). reads-from k (i + 1) rest d (omega arith)))
+      (λ (h : suc (length s) < 418). from-cut k i b s h)
 
--- the same of a file that is read in two pieces, wherever it is cut
-pub reads-pieces : (syscall : ℕ) (a b : List ℕ) → finishOf (feedOf (feedOf fileStart a) b) ≡ tallyOf syscall (a ++ b)
-reads-pieces syscall a b = ap finishOf (sym (feed-append fileStart a b)) ∙ reads-file syscall (a ++ b)
+  -- what a reader says after the whole file is what the file's records say
+  pub reads-file : (syscall : ℕ) (file : List ℕ) → finishOf shipped (feedOf fileStart file) ≡ tallyOf shipped syscall file
+  unfolding tallyOf recordsOf
+  reads-file syscall file =
+      let n = length (split (length file) file) in
+      let e : 0 + n ≡ n = omega arith in
+      reads-from (length file) 0 file (omega arith) (omega arith)
+      ∙ ap (λ (m : ℕ). unless (firstFault 0 0 (split (length file) file)) (countsOf shipped m)) e
+      ∙ ap (unless (firstFault 0 0 (split (length file) file))) (counts-are-sums shipped syscall n (opAt (fileWords file)))
+
+  -- the same of a file that is read in two pieces, wherever it is cut
+  pub reads-pieces : (syscall : ℕ) (a b : List ℕ) → finishOf shipped (feedOf (feedOf fileStart a) b) ≡ tallyOf shipped syscall (a ++ b)
+  reads-pieces syscall a b = ap (finishOf shipped) (sym (feed-append fileStart a b)) ∙ reads-file syscall (a ++ b)
 
 pub feed-one : (c : Cursor) (s : List ℕ) → 0 < length s → feedOf c (take 1 s) ≡ stepOf c (getD s 0 0)
 unfolding feedOf

@@ -1,6 +1,6 @@
 -- The operation file: records of 418 bytes, the first faulty one, the operations, and what `tally` says of a file.
 use Prim.Native.Nat.{ℕ, zero, suc, _+_, _*_}
-use mathlib.Core.Bool.{Bool, false, not}
+use mathlib.Core.Bool.{Bool, true, false, not}
 use mathlib.Core.List.{List, [], _∷_}
 use mathlib.Core.Option.{Option, none, some, orElse}
 use lib.ListN.{length, take, drop, getD}
@@ -76,26 +76,30 @@ unfoldable pub fileWords : List ℕ → List ℕ
 fileWords file = tableOf (length (recordsOf file)) OP-WORDS (λ i. operationWords (drop (i * RECORD-BYTES) file))
 
 -- ---- the sums
--- "the sum of multiplicities that both tables send (Ecall: receive)" on a bus, of the tables of n operations as they
--- are written. "An empty file counts as one whose tables are not shipped: it gives 0, 4, 4, then zeros." No
--- multiplicity depends on the syscall number.
-unfoldable pub busTotal : ℕ → Side → Bus → ℕ → (ℕ → KeccakOperation) → ℕ
-busTotal syscall s b n op =
-    pick (eqb n 0) 0 (coreTableSum s b 24 syscall MIN-ROWS n op + roundTableSum s b 24 MIN-ROWS n op)
+-- "the sum of multiplicities that both tables send (Ecall: receive)" on a bus, over the rows of the tables of n
+-- operations as they are written. No multiplicity depends on the syscall number.
+unfoldable pub writtenSum : ℕ → Side → Bus → ℕ → (ℕ → KeccakOperation) → ℕ
+writtenSum syscall s b n op = coreTableSum s b 24 syscall MIN-ROWS n op + roundTableSum s b 24 MIN-ROWS n op
 
-unfoldable pub sumsOf : ℕ → ℕ → (ℕ → KeccakOperation) → Sums
-sumsOf syscall n op =
+-- what `tally` says of a bus. "In shipped mode AreBytes equals the sum over the rows as written, for every n.": so does
+-- every bus. Otherwise: "An empty file counts as one whose tables are not shipped: it gives 0, 4, 4, then zeros."
+unfoldable pub busTotal : Bool → ℕ → Side → Bus → ℕ → (ℕ → KeccakOperation) → ℕ
+busTotal true syscall s b n op = writtenSum syscall s b n op
+busTotal false syscall s b n op = pick (eqb n 0) 0 (writtenSum syscall s b n op)
+
+unfoldable pub sumsOf : Bool → ℕ → ℕ → (ℕ → KeccakOperation) → Sums
+sumsOf shipped syscall n op =
     record {
       ops = n;
       «core_rows» = height MIN-ROWS n;
       «round_rows» = roundHeight 24 MIN-ROWS n;
-      «byte_alu» = busTotal syscall Sender ByteAlu n op;
-      «are_bytes» = busTotal syscall Sender AreBytes n op;
-      «keccak_rc» = busTotal syscall Sender KeccakRc n op;
-      «is_halfword» = busTotal syscall Sender IsHalfword n op;
-      «is_wh» = busTotal syscall Sender IsWh n op;
-      memw = busTotal syscall Sender Memw n op;
-      ecall = busTotal syscall Receiver Ecall n op;
+      «byte_alu» = busTotal shipped syscall Sender ByteAlu n op;
+      «are_bytes» = busTotal shipped syscall Sender AreBytes n op;
+      «keccak_rc» = busTotal shipped syscall Sender KeccakRc n op;
+      «is_halfword» = busTotal shipped syscall Sender IsHalfword n op;
+      «is_wh» = busTotal shipped syscall Sender IsWh n op;
+      memw = busTotal shipped syscall Sender Memw n op;
+      ecall = busTotal shipped syscall Receiver Ecall n op;
     }
 
 -- the first fault, or the sums
@@ -103,6 +107,6 @@ abbrev pub unless : Option Refusal → Sums → Tally
 unless none s = Counted s
 unless (some r) s = Refused r
 
-unfoldable pub tallyOf : ℕ → List ℕ → Tally
-tallyOf syscall file =
-    unless (firstFault 0 0 (recordsOf file)) (sumsOf syscall (length (recordsOf file)) (opAt (fileWords file)))
+unfoldable pub tallyOf : Bool → ℕ → List ℕ → Tally
+tallyOf shipped syscall file =
+    unless (firstFault 0 0 (recordsOf file)) (sumsOf shipped syscall (length (recordsOf file)) (opAt (fileWords file)))

@@ -1,5 +1,5 @@
 -- Reading a file in pieces: where a reader stands after each byte, and what the end of the file makes of it.
-use Prim.Native.Nat.{ℕ, _+_, _*_, _/_, _<_, _≤_}
+use Prim.Native.Nat.{ℕ, _+_, _-_, _*_, _/_, _<_, _≤_}
 use mathlib.Core.Path.{_≡_}
 use mathlib.Core.Bool.{Bool, true, false, not}
 use mathlib.Core.List.{List, [], _∷_}
@@ -12,7 +12,7 @@ use Rattle.answer.specs.declared.Refusal.{Refusal}
 use Rattle.answer.specs.declared.Refusal.the-variants.{PastEnd, HighAddress, BadRecord}
 use Rattle.keccak.specs.Height.{MIN-ROWS, height}
 use Rattle.keccak.specs.Row.{LAST-ADDRESS}
-use Rattle.keccak_rnd.specs.Row.{roundHeight, padding-are-bytes}
+use Rattle.keccak_rnd.specs.Row.{ARE-BYTES-PER-ROW, roundHeight, padding-are-bytes}
 use Rattle.op_file.specs.File.{RECORD-BYTES}
 use Rattle.op_file.specs.declared.Cursor.{Cursor}
 use Rattle.op_file.specs.declared.Cursor.the-variants as cursor
@@ -59,15 +59,21 @@ abbrev pub isRefused : Cursor → Bool
 isRefused (cursor.Refused r) = true
 isRefused (cursor.Reading n at addr) = false
 
+-- what the padding rows of the round table of n operations send on AreBytes: in shipped mode those of an empty table
+-- too, "The four zero round rows then each send 220 AreBytes tuples."
+unfoldable pub paddingSum : Bool → ℕ → ℕ
+paddingSum true n = (roundHeight 24 MIN-ROWS n - n * 24) * ARE-BYTES-PER-ROW
+paddingSum false n = padding-are-bytes 24 MIN-ROWS n
+
 -- the sums as they are computed (proofs/Totals.antt: `counts-are-sums`)
-unfoldable pub countsOf : ℕ → Sums
-countsOf n =
+unfoldable pub countsOf : Bool → ℕ → Sums
+countsOf shipped n =
     record {
       ops = n;
       «core_rows» = height MIN-ROWS n;
       «round_rows» = roundHeight 24 MIN-ROWS n;
       «byte_alu» = 19393 * n;
-      «are_bytes» = 5284 * n + padding-are-bytes 24 MIN-ROWS n;
+      «are_bytes» = 5284 * n + paddingSum shipped n;
       «keccak_rc» = 24 * n;
       «is_halfword» = 25 * n;
       «is_wh» = 25 * n;
@@ -77,13 +83,13 @@ countsOf n =
 
 -- what the end of the file makes of a reader: a record that it breaks off is cut, and one too many where the file has
 -- all the records that it may have
-unfoldable pub finishOf : Cursor → Tally
-finishOf (cursor.Refused r) = tally.Refused r
-finishOf (cursor.Reading n at addr) =
+unfoldable pub finishOf : Bool → Cursor → Tally
+finishOf shipped (cursor.Refused r) = tally.Refused r
+finishOf shipped (cursor.Reading n at addr) =
     pick (ltb MAX-OPS n)
     (tally.Refused (PastEnd (MAX-OPS + 1)))
     (pick (eqb at 0)
-    (tally.Counted (countsOf n))
+    (tally.Counted (countsOf shipped n))
     (pick (leb MAX-OPS n)
     (tally.Refused (PastEnd (MAX-OPS + 1)))
     (tally.Refused (BadRecord (RECORD-BYTES * n)))))

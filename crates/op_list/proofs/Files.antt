@@ -1,5 +1,5 @@
 -- A file without a fault is whole records; the lengths of lists and files.
-use mathlib.Core.Bool.{true}
+use mathlib.Core.Bool.{true, false}
 use Prim.Native.Nat.{ℕ, zero, suc, _+_, _*_, _≤_, _<_}
 use mathlib.Core.Path.{_≡_, refl, sym, ap, subst, _∙_}
 use mathlib.Core.Logic.{_↔_}
@@ -72,12 +72,12 @@ told-counted : {t : Sums} (o : Option Refusal) (s : Sums) → tally.Counted t �
 told-counted none s e = (refl, cc)
 told-counted (some x) s e = (cc, cc)
 
-pub told-file : (file : List ℕ) {t : Sums} → tally.Counted t ≡ tallyOf 0 file
+pub told-file : (file : List ℕ) {t : Sums} → tally.Counted t ≡ tallyOf false 0 file
     → (firstFault 0 0 (recordsOf file) ≡ none) × (t .ops ≡ length (recordsOf file))
 unfolding tallyOf sumsOf
 told-file file e =
     let n = length (recordsOf file) in
-    let q = told-counted (firstFault 0 0 (recordsOf file)) (sumsOf 0 n (opAt (fileWords file))) e in
+    let q = told-counted (firstFault 0 0 (recordsOf file)) (sumsOf false 0 n (opAt (fileWords file))) e in
     (q .0, ap (λ (s : Sums). s .ops) (q .1))
 
 -- ---- the clauses of `read_operations`

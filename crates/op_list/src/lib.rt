@@ -41,7 +41,7 @@ pub fn read_operations(file: &[u8], ops: &mut [u64]) -> Answer
     ensures words { λ r. ⌜ now (ops .exit) ≡ readAfter (now (file .entry)) (now (ops .entry)) ⌝ }
 {
     let read = feed(start(), file);
-    match finish(read) {
+    match finish(false, read) {
         Tally::Refused(refusal) => Answer::Refused(refusal),
         Tally::Counted(sums) => {
             let n = sums.ops as usize;

@@ -11,24 +11,28 @@ use op_file::Tally;
 use operations::table_height;
 ghost use mathlib.Core.Path.{_≡_};
 ghost use Prim.Native.Nat.{_^_, _<_, _≤_};
-ghost use Rattle.keccak_rnd.specs.Row.{roundHeight, padding-are-bytes};
-ghost use Rattle.op_file.specs.Reader.{countsOf, finishOf};
+ghost use Rattle.keccak_rnd.specs.Row.{roundHeight};
+ghost use Rattle.op_file.specs.Reader.{paddingSum, countsOf, finishOf};
 
-// What the padding rows of a round table of `rows` rows send.
-fn padding(n: u64, rows: u64) -> u64
+// What the padding rows of a round table of `rows` rows send; those of an empty one only where it is shipped.
+fn padding(shipped: bool, n: u64, rows: u64) -> u64
     requires { ⌜ (n ≤ 89478485) × (rows ≡ roundHeight 24 4 n) ⌝ }
-    ensures { λ r. ⌜ (r ≡ padding-are-bytes 24 4 n) × (r < 2 ^ 40) ⌝ }
+    ensures { λ r. ⌜ (r ≡ paddingSum shipped n) × (r < 2 ^ 40) ⌝ }
 {
+    let sent = (rows - n * (ROUNDS as u64)) * (ARE_BYTES_PER_ROW as u64);
+    if shipped {
+        return sent;
+    }
     if n == 0 {
         return 0;
     }
-    (rows - n * (ROUNDS as u64)) * (ARE_BYTES_PER_ROW as u64)
+    sent
 }
 
 // The sums of n operations.
-fn sum_up(n: u64) -> Sums
+fn sum_up(shipped: bool, n: u64) -> Sums
     requires { ⌜ n ≤ 89478485 ⌝ }
-    ensures { λ r. ⌜ r ≡ countsOf n ⌝ }
+    ensures { λ r. ⌜ r ≡ countsOf shipped n ⌝ }
 {
     let core_rows = table_height(MIN_ROWS, n as usize);
     let round_rows = table_height(MIN_ROWS, n as usize * ROUNDS) as u64;
@@ -37,7 +41,7 @@ fn sum_up(n: u64) -> Sums
         core_rows: core_rows as u64,
         round_rows,
         byte_alu: 19393 * n,
-        are_bytes: 5284 * n + padding(n, round_rows),
+        are_bytes: 5284 * n + padding(shipped, n, round_rows),
         keccak_rc: (ROUNDS as u64) * n,
         is_halfword: 25 * n,
         is_wh: 25 * n,
@@ -46,9 +50,9 @@ fn sum_up(n: u64) -> Sums
     }
 }
 
-// What the end of the file makes of a reader.
-pub fn finish(c: Cursor) -> Tally
-    ensures { λ r. ⌜ r ≡ finishOf c ⌝ }
+// What the end of the file makes of a reader, where the tables of an empty file are shipped or not.
+pub fn finish(shipped: bool, c: Cursor) -> Tally
+    ensures { λ r. ⌜ r ≡ finishOf shipped c ⌝ }
 {
     match c {
         Cursor::Refused(refusal) => Tally::Refused(refusal),
@@ -57,7 +61,7 @@ pub fn finish(c: Cursor) -> Tally
                 return Tally::Refused(Refusal::PastEnd(MAX_OPS + 1));
             }
             if at == 0 {
-                return Tally::Counted(sum_up(n));
+                return Tally::Counted(sum_up(shipped, n));
             }
             if n >= MAX_OPS {
                 return Tally::Refused(Refusal::PastEnd(MAX_OPS + 1));

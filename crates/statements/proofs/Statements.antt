@@ -10,7 +10,7 @@
 --     outLanes row       the 25 lanes that a round row sends on
 --     RoundPasses row    its 141 values are 0 and its lookups are matched
 use mathlib.Core.Path.{_≡_, refl, sym, ap, subst, _∙_}
-use mathlib.Core.Bool.{true}
+use mathlib.Core.Bool.{Bool, true, false}
 use mathlib.Core.Option.{some}
 use mathlib.Core.Logic.{_⊎_, _↔_}
 use mathlib.Core.List.{List, [], _∷_, _++_}
@@ -30,7 +30,7 @@ use Rattle.answer.specs.declared.Refusal.the-variants.{HighAddress, PastEnd}
 use Rattle.fips202.specs.Fips.{Agree, offset, RHO, rnd, keccakF}
 use Rattle.tuple.specs.Tuple.{busSum}
 use Rattle.tuple.specs.declared.Bus.{Bus}
-use Rattle.tuple.specs.declared.Bus.the-variants.{IsWh}
+use Rattle.tuple.specs.declared.Bus.the-variants.{AreBytes, IsWh}
 use Rattle.tuple.specs.declared.Side.{Side}
 use Rattle.tuple.specs.declared.Side.the-variants.{Sender, Receiver}
 use Rattle.templates.specs.Templates.{isBit}
@@ -50,7 +50,7 @@ use Rattle.bitwise.proofs.Counting.{counted-merged, fill-is-update}
 use Rattle.bitwise.proofs.Charge.{Placed, counted-placed}
 use Rattle.is_wh.specs.Tuples.{isWhTuple}
 use Rattle.keccak.specs.Row.{stateLanes, corePointer}
-use Rattle.keccak.specs.Tuples.{coreTuple}
+use Rattle.keccak.specs.Tuples.{coreTuple, coreTableSum}
 use Rattle.keccak.specs.Height.{height}
 use Rattle.keccak.specs.Refusals.{Acceptable, operationsRefusal, opCount, keysRefusal, coreTraceRefusal}
 use Rattle.keccak.specs.Calls.{coreTraceAfter}
@@ -58,7 +58,7 @@ use Rattle.keccak.specs.declared.KeccakOperation.{KeccakOperation}
 use Rattle.keccak.proofs.Refusals.{accepted-is, highest-accepted, next-refused}
 use Rattle.keccak_rnd.specs.Columns.{MU, ROUND, START, THETA, rc}
 use Rattle.keccak_rnd.specs.Row.{roundRow, roundTable, roundHeight, padding-are-bytes}
-use Rattle.keccak_rnd.specs.Tuples.{outLanes, roundTuple}
+use Rattle.keccak_rnd.specs.Tuples.{outLanes, roundTuple, roundTableSum}
 use Rattle.keccak_rnd.specs.Passes.{RoundPasses}
 use Rattle.keccak_rnd.specs.Carries.{Carries, RhoCarries}
 use Rattle.keccak_rnd.proofs.Carries.{carries, rho-carries}
@@ -101,8 +101,10 @@ use Rattle.bus_sums_needs.specs.Cancel.{Slips, twoRows, manyRows}
 use Rattle.bus_sums_needs.specs.Forged.{Forgery, bentCore, bentRound}
 use Rattle.bus_sums_needs.proofs.Cancel.{mu-needed, few-needed}
 use Rattle.bus_sums_needs.proofs.ForgedSegment.{twenty-needed}
-use Rattle.op_file.specs.File.{isWhole, addressOf, faultOf, sumsOf, tallyOf}
-use Rattle.op_file.specs.Reader.{fileStart, feedOf, finishOf}
+use Rattle.op_file.specs.File.{isWhole, addressOf, faultOf, busTotal, sumsOf, tallyOf}
+use Rattle.op_file.specs.Reader.{fileStart, feedOf, countsOf, finishOf}
+use Rattle.op_file.specs.declared.Sums.{Sums}
+use Rattle.op_file.specs.declared.Tally.the-variants.{Counted}
 use Rattle.op_file.proofs.Cases as file
 use Rattle.op_file.proofs.Laws.{reads-pieces}
 use Rattle.judge.proofs.Tied.{Answered, Wrote, answered, holds-answered, ours-written, written-answers}
@@ -166,7 +168,8 @@ module _ (n : ℕ) (op : ℕ → KeccakOperation) (i : ℕ) (below : i < n)
 
 -- "the sum of multiplicities that both tables send (Ecall: receive)": what `tally` answers when a file is fed to it in
 -- two pieces, cut anywhere, and finished (more pieces: `feed-append`, op_file/proofs/Laws.antt) is the first fault, or these sums over the tables as written (`tallyOf`, op_file/specs/File.antt)
-pub tally-sums : (syscall : ℕ) (a b : List ℕ) → finishOf (feedOf (feedOf fileStart a) b) ≡ tallyOf syscall (a ++ b)
+pub tally-sums : (shipped : Bool) (syscall : ℕ) (a b : List ℕ) →
+    finishOf shipped (feedOf (feedOf fileStart a) b) ≡ tallyOf shipped syscall (a ++ b)
 tally-sums = reads-pieces
 
 -- "Each refusal comes on its listed condition only": a call that takes a list and needs so many words is refused by none
@@ -269,7 +272,7 @@ pub case-by-4 : refusalNumber (HighAddress 18446744073709551424) ≡ 4
 case-by-4 = refl
 
 -- "For one record with address 4096 it prints all of": its ten numbers, whatever the record's other words are
-pub case-one-record : (syscall : ℕ) (op : ℕ → KeccakOperation) →
+pub case-one-record : (shipped : Bool) (syscall : ℕ) (op : ℕ → KeccakOperation) →
     record {
       ops = 1;
       «core_rows» = 4;
@@ -282,12 +285,31 @@ pub case-one-record : (syscall : ℕ) (op : ℕ → KeccakOperation) →
       memw = 26;
       ecall = 1;
     }
-    ≡ sumsOf syscall 1 op
+    ≡ sumsOf shipped syscall 1 op
 case-one-record = file.one-record
 
 -- "`tally` gives 1 as soon as any byte follows record 89,478,485"
 pub case-too-many : (at : ℕ) (r : List ℕ) → faultOf 89478485 at r ≡ some (PastEnd 89478486)
 case-too-many = file.one-too-many
+
+-- "An empty file counts as one whose tables are not shipped: it gives 0, 4, 4, then zeros.": AreBytes is 0
+abbrev empty-sums : ℕ → Sums
+empty-sums bytes =
+    record {
+      ops = 0;
+      «core_rows» = 4;
+      «round_rows» = 4;
+      «byte_alu» = 0;
+      «are_bytes» = bytes;
+      «keccak_rc» = 0;
+      «is_halfword» = 0;
+      «is_wh» = 0;
+      memw = 0;
+      ecall = 0;
+    }
+
+pub case-empty : (syscall : ℕ) → tallyOf false syscall [] ≡ Counted (empty-sums 0)
+case-empty = file.empty-file
 
 -- "Two core rows share a timestamp, outputs exchanged, otherwise honest: the verdict names the timestamp.": a row that
 -- repeats one
@@ -328,6 +350,35 @@ pub case-late-row :
     × ((verdictOf (oneCore witness) lateRound ≡ Unbalanced Core r i)
     ⊎ (verdictOf (oneCore witness) lateRound ≡ Unbalanced Round r i))
 case-late-row = late-unbalanced
+
+-- ---- the change requests
+-- Item 1: "In shipped mode AreBytes equals the sum over the rows as written, for every n.": of what `finish` computes, and
+-- of the definition, which says it of every bus
+module _ (syscall n : ℕ) (op : ℕ → KeccakOperation) where
+  pub shipped-are-bytes :
+      (countsOf true n) .«are_bytes»
+      ≡ coreTableSum Sender AreBytes 24 syscall 4 n op + roundTableSum Sender AreBytes 24 4 n op
+  shipped-are-bytes = file.shipped-are-bytes syscall n op
+
+  pub shipped-buses : (s : Side) (b : Bus) →
+      busTotal true syscall s b n op ≡ coreTableSum s b 24 syscall 4 n op + roundTableSum s b 24 4 n op
+  shipped-buses = file.shipped-buses syscall n op
+
+  -- both modes agree where there is an operation ..
+  pub modes-agree : 1 ≤ n → sumsOf true syscall n op ≡ sumsOf false syscall n op
+  modes-agree = file.modes-agree syscall n op
+
+-- .. and on every file that has a byte, refused or not
+pub modes-agree-on : (syscall b : ℕ) (file : List ℕ) → tallyOf true syscall (b ∷ file) ≡ tallyOf false syscall (b ∷ file)
+modes-agree-on = file.modes-agree-on
+
+-- "an empty file's AreBytes is 880 in place of 0": its ten numbers are 0, 4, 4, 0, 880, 0, 0, 0, 0, 0
+pub case-empty-shipped : (syscall : ℕ) → tallyOf true syscall [] ≡ Counted (empty-sums 880)
+case-empty-shipped = file.empty-shipped
+
+-- "`padding_are_bytes` keeps the Rust's 0"
+pub padding-kept : padding-are-bytes 24 4 0 ≡ 0
+padding-kept = paddings .0
 
 -- ---- beyond the demands: the buses as a prover checks them, by sums of multiplicities mod p (bus_sums/specs/Sums.antt).
 -- The sentences are those of docs/WHY.md, 'As a prover checks it'; nr is any number of rounds from 1 to 24.

@@ -1,8 +1,9 @@
-// Reads an operation file on standard input and writes the sums of its lookups, or the first fault.
+// Reads an operation file on standard input and writes the sums of its lookups, or the first fault. With the argument
+// `shipped` the tables of an empty file are shipped.
+use libc::STDERR_FILENO;
 use libc::STDIN_FILENO;
 use libc::STDOUT_FILENO;
 use op_file::Cursor;
-use op_file::Tally;
 use tally_text::put_tally;
 ghost use Prim.Native.Nat.{ℕ, _<_, _≤_};
 ghost use mathlib.Core.Bool.{true};
@@ -10,8 +11,39 @@ ghost use mathlib.Core.Path.{_≡_};
 ghost use mathlib.Core.List.{List};
 ghost use lib.ListN.{length, take};
 ghost use lib.Seq.{sets};
-ghost use Rattle.op_file.specs.Reader.{feedOf, fileStart, isRefused};
+ghost use Rattle.op_file.specs.Reader.{feedOf, fileStart, isRefused, finishOf};
 ghost use Rattle.tally_text.specs.Output.{textOf};
+
+// How the program was called: whether the tables of an empty file are shipped, and whether each argument is known.
+struct Call {
+    shipped: bool,
+    known: bool,
+}
+
+// Whether argument i is the word `shipped`. One that is longer than the lent bytes counts as no word.
+fn is_shipped(i: usize) -> bool {
+    let mut word = [0u8; 8];
+    let n = os::arg(i, &mut word);
+    check::same(&word[..n], b"shipped")
+}
+
+// The arguments one by one; the first is the program's own name.
+fn read_arguments() -> Call {
+    let mut shipped = false;
+    for i in 1..os::arg_count() {
+        if !is_shipped(i) {
+            return Call {
+                shipped,
+                known: false,
+            };
+        }
+        shipped = true;
+    }
+    Call {
+        shipped,
+        known: true,
+    }
+}
 
 // Where the reader stands after a read, how many bytes came, and whether the read failed.
 struct Turn {
@@ -54,27 +86,36 @@ fn read_all() -> Turn
     }
 }
 
-// Writes the lines, which it first puts in the lent bytes, and answers whether all were taken; what reaches the file no
-// contract says.
-fn write_tally(tally: Tally, out: &mut [u8]) -> bool
+// Writes the lines of a reader at the end of its file, which it first puts in the lent bytes, and answers whether all were
+// taken; what reaches the file no contract says.
+fn write_tally(shipped: bool, c: Cursor, out: &mut [u8]) -> bool
     requires { ⌜ 512 ≤ length (now out) ⌝ }
-    ensures { λ _. ⌜ now (out .exit) ≡ sets (now (out .entry)) 0 (textOf tally) ⌝ }
+    ensures { λ _. ⌜ now (out .exit) ≡ sets (now (out .entry)) 0 (textOf (finishOf shipped c)) ⌝ }
 {
-    let n = put_tally(tally, out);
+    let n = put_tally(op_sums::finish(shipped, c), out);
     io::write_all(STDOUT_FILENO, &out[..n])
 }
 
-// Without an `ensures`: it takes and answers nothing, and of the two files no contract speaks. A failed read is told on
-// standard error, and no line is written; a failed write is told there too.
+// Without an `ensures`: it takes and answers nothing, and of arguments and files no contract speaks. An unknown argument is
+// told on standard error before anything is read, a failed read likewise, and no line is written; a failed write is told
+// there too.
 fn main() {
     let mut space = [0u8; 512];
+    let call = read_arguments();
+    if !call.known {
+        io::write_all(
+            STDERR_FILENO,
+            b"tally takes the argument shipped, or none\n",
+        );
+        return;
+    }
     let t = read_all();
     if t.failed {
         os::fail(b"standard input");
         return;
     }
     let c = t.cursor;
-    if !write_tally(op_sums::finish(c), &mut space) {
+    if !write_tally(call.shipped, c, &mut space) {
         os::fail(b"standard output");
     }
 }

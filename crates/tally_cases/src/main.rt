@@ -42,11 +42,15 @@ fn changed(file: [u8; 836], at: usize, b: u8) -> [u8; 836]
     other
 }
 
-// The lines of a reader at the end of its file.
-fn print_tally(c: Cursor) {
+// The lines of a reader at the end of its file, where the tables of an empty one are shipped or not.
+fn print_mode(shipped: bool, c: Cursor) {
     let mut space = [0u8; 512];
-    let n = put_tally(finish(c), &mut space);
+    let n = put_tally(finish(shipped, c), &mut space);
     io::write_all(STDOUT_FILENO, &space[..n]);
+}
+
+fn print_tally(c: Cursor) {
+    print_mode(false, c);
 }
 
 // The first n bytes of a file, read at once after so many good records.
@@ -70,7 +74,15 @@ fn print_first(name: &[u8], file: &[u8], n: usize) {
     }
 }
 
-// The same byte by byte.
+// The same, where the tables are shipped.
+fn print_shipped(name: &[u8], file: &[u8], n: usize) {
+    io::write_all(STDOUT_FILENO, name);
+    if n <= file.len() {
+        print_mode(true, feed(start(), &file[0..n]));
+    }
+}
+
+// The same as `print_first`, byte by byte.
 fn print_bytes(name: &[u8], file: &[u8]) {
     io::write_all(STDOUT_FILENO, name);
     let mut c = start();
@@ -95,6 +107,13 @@ fn good_files() {
     print_first(b"two records\n", &file, 836);
     print_bytes(b"two records, byte by byte\n", &file);
     print_pieces(b"two records, cut in an address\n", &file, 432);
+}
+
+fn shipped_files() {
+    let file = records(4096, 8192);
+    print_shipped(b"empty, shipped\n", &file, 0);
+    print_shipped(b"one record, shipped\n", &file, 418);
+    print_shipped(b"one byte too few, shipped\n", &file, 417);
 }
 
 fn cut_files() {
@@ -154,6 +173,7 @@ fn last_records() {
 
 fn main() {
     good_files();
+    shipped_files();
     cut_files();
     wrong_marks();
     high_addresses();

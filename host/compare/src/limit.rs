@@ -1,7 +1,7 @@
 //! Operation files about the most records that one may have: 37 GB, which repeat a piece of 55 MB.
 
 use keccak_tables::operation_file::{RECORD_BYTES, Tally, read_operations};
-use keccak_tables::{MAX_OPS, OP_WORDS};
+use keccak_tables::{MAX_OPS, OP_WORDS, Parameters};
 
 use crate::comparison::Comparison;
 use crate::inputs::Words;
@@ -48,8 +48,11 @@ fn reader(comparison: &mut Comparison, file: &[u8]) {
     tally.feed(file);
     let fault = |tally: &Tally| tally.fault().map_or(Ok(()), Err);
     comparison.answered("tally_feed", || "the longest file".into(), fault(&tally), None);
-    if let Some(sums) = comparison.done(|| "the longest file".into(), tally.clone().finish()) {
-        comparison.equal(|_| "the longest file".into(), &numbers(&sums), &expected());
+    for mode in [Parameters::default(), Parameters::default().shipped()] {
+        let input = || format!("{mode:?}, the longest file");
+        if let Some(sums) = comparison.done(input, tally.clone().finish_with(mode)) {
+            comparison.equal(|_| input(), &numbers(&sums), &expected());
+        }
     }
     for byte in *b"KO" {
         let mut tally = tally.clone();

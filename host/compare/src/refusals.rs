@@ -15,7 +15,7 @@ use crate::judge;
 use crate::lent::{Lent, LentBytes};
 use crate::list_calls::{LIST_CALLS, TOO_MANY};
 use crate::refused::on_slice;
-use crate::tally::{file_of, first_fault, operations_of, read};
+use crate::tally::{drawn_mode, file_of, first_fault, operations_of, read};
 use crate::untouched::Untouched;
 use crate::{looked_up, rows, tuples, values, verdicts};
 
@@ -339,7 +339,8 @@ fn one_file(comparison: &mut Comparison, words: &mut Words, file: &[u8]) {
     let fault = first_fault(file);
     let input = || format!("the file {file:?}");
     let mut lent = LentBytes::new(file, words);
-    comparison.answered("tally_finish", input, read(words, lent.slice()), fault);
+    let mode = drawn_mode(words);
+    comparison.answered("tally_finish", input, read(words, mode, lent.slice()), fault);
     // A cut is a fault only at the end of the file.
     let cut = file.len() / RECORD_BYTES * RECORD_BYTES;
     let marked = file[cut..].iter().zip(b"KO").all(|(byte, mark)| byte == mark);

@@ -3,25 +3,30 @@
 
 use keccak_tables::keccak::LAST_ADDRESS;
 use keccak_tables::operation_file::{RECORD_BYTES, Sums, Tally, read_operations, write_operations};
-use keccak_tables::{OP_WORDS, Refusal};
+use keccak_tables::{OP_WORDS, Parameters, Refusal};
 
 use crate::comparison::Comparison;
 use crate::inputs::Words;
 use crate::lent::{Lent, LentBytes};
 
-/// The whole area: files of 0 to 40 records, some longer ones, and `n` damaged ones.
+/// The whole area: files of 0 to 40 records, some longer ones, those of 0 to 90 whose tables are shipped, and `n` damaged ones.
 pub fn compare(comparison: &mut Comparison, seed: u64, n: usize) {
     let mut words = Words::new(seed);
     let lists: Vec<Vec<u64>> = (0..=40).map(|n| words.operations(n)).collect();
     comparison.group("sums of 0 to 40 operations");
     for ops in &lists {
-        sums(comparison, &mut words, ops);
+        sums(comparison, &mut words, Parameters::default(), ops);
     }
     comparison.group("sums of 41 to 300 operations");
     for _ in 0..8 {
         let n = 41 + words.below(260) as usize;
         let ops = words.operations(n);
-        sums(comparison, &mut words, &ops);
+        sums(comparison, &mut words, Parameters::default(), &ops);
+    }
+    comparison.group("sums over the rows as written of 0 to 90 operations, shipped");
+    for n in 0..=90 {
+        let ops = words.operations(n);
+        sums(comparison, &mut words, Parameters::default().shipped(), &ops);
     }
     comparison.group("operations of a file, both ways");
     for ops in &lists {
@@ -54,7 +59,7 @@ pub fn operations_of(file: &[u8]) -> Vec<u64> {
 }
 
 /// What our reader says of a file that is cut at drawn places.
-pub fn read(words: &mut Words, file: &[u8]) -> Result<Sums, Refusal> {
+pub fn read(words: &mut Words, parameters: Parameters, file: &[u8]) -> Result<Sums, Refusal> {
     let most = [1, 20, 500, 5_000][words.below(4) as usize];
     let mut tally = Tally::new();
     let mut rest = file;
@@ -63,7 +68,13 @@ pub fn read(words: &mut Words, file: &[u8]) -> Result<Sums, Refusal> {
         tally.feed(piece);
         rest = later;
     }
-    tally.finish()
+    tally.finish_with(parameters)
+}
+
+/// The parameters of either mode.
+pub fn drawn_mode(words: &mut Words) -> Parameters {
+    let modes = [Parameters::default(), Parameters::default().shipped()];
+    modes[words.below(2) as usize]
 }
 
 /// The ten sums, in the order of the program's lines.
@@ -71,10 +82,15 @@ pub fn numbers(sums: &Sums) -> [u64; 10] {
     sums.lines().map(|(_, number)| number)
 }
 
-fn sums(comparison: &mut Comparison, words: &mut Words, ops: &[u64]) {
-    let input = || format!("a file of the operations {ops:?}");
-    let expected = oracle::tally(ops).map(|(_, sum)| u64::try_from(sum).expect("a sum is a word"));
-    if let Some(ours) = comparison.done(input, read(words, &file_of(ops))) {
+fn sums(comparison: &mut Comparison, words: &mut Words, parameters: Parameters, ops: &[u64]) {
+    let input = || format!("{parameters:?}, a file of the operations {ops:?}");
+    let published = if parameters.shipped {
+        oracle::shipped_tally
+    } else {
+        oracle::tally
+    };
+    let expected = published(ops).map(|(_, sum)| u64::try_from(sum).expect("a sum is a word"));
+    if let Some(ours) = comparison.done(input, read(words, parameters, &file_of(ops))) {
         comparison.equal(|_| input(), &numbers(&ours), &expected);
     }
 }
@@ -110,7 +126,8 @@ fn damaged(comparison: &mut Comparison, words: &mut Words) {
         }
     }
     let input = || format!("the file {file:?}");
-    let answer = read(words, &file);
+    let mode = drawn_mode(words);
+    let answer = read(words, mode, &file);
     let mut list = Lent::drawn(ops.len() + OP_WORDS, words);
     let listed = read_operations(&file, list.slice());
     match first_fault(&file) {

@@ -50,11 +50,12 @@ Exit status: 0 the tables hold; 1 they don't, or refused; 2 a file can't be read
     },
     Command {
         name: "tally",
-        arguments: "[OPS]",
+        arguments: "[--shipped] [OPS]",
         short: "counts the lookups of an operation file, or of standard input",
         long: "\
 Prints ten lines: the operations, the heights of the two tables, and per bus the sum of multiplicities that both tables send
-(Ecall: receive).
+(Ecall: receive). The tables of an empty file count as not shipped, and send nothing; with --shipped they are, and their four
+zero round rows send 880 on AreBytes. Of a file with records both give the same.
 Exit status: 0; 1 refused; 2 the file can't be read.
 ",
     },

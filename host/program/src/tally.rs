@@ -1,4 +1,4 @@
-//! `tally [OPS]`: ten lines on an operation file, or its first fault.
+//! `tally [--shipped] [OPS]`: ten lines on an operation file, or its first fault.
 
 use std::ffi::OsString;
 use std::fs::File;
@@ -7,19 +7,26 @@ use std::path::Path;
 
 use super::progress::Progress;
 use super::{Failure, Outcome, Streams, file_refused, files};
-use keccak_tables::Refusal;
 use keccak_tables::operation_file::{Sums, Tally};
+use keccak_tables::{Parameters, Refusal};
 
 pub fn tally(arguments: &[OsString], streams: &mut Streams) -> Result<Outcome, Failure> {
-    let answer = match arguments {
-        [] => sums_of(streams.input, 0)?,
+    let (parameters, files) = match arguments {
+        [option, files @ ..] if option == "--shipped" => (Parameters::default().shipped(), files),
+        files => (Parameters::default(), files),
+    };
+    let answer = match files {
+        [] => sums_of(streams.input, 0, parameters)?,
         [path] => {
             let path = Path::new(path);
             let file = File::open(path);
-            file.and_then(|mut file| sums_of_file(&mut file))
+            file.and_then(|mut file| sums_of_file(&mut file, parameters))
                 .map_err(Failure::file(path))?
         }
-        _ => return Err(Failure::Usage("tally takes one file or none: [OPS]".into())),
+        _ => {
+            let usage = "tally takes one file or none, and before it --shipped or nothing: [--shipped] [OPS]";
+            return Err(Failure::Usage(usage.into()));
+        }
     };
     match answer {
         Ok(sums) => print(&sums.lines(), streams),
@@ -36,12 +43,12 @@ pub fn print(lines: &[(&str, u64)], streams: &mut Streams) -> Result<Outcome, Fa
 }
 
 /// The sums of a file that is read to its end or its first fault.
-pub fn sums_of_file(file: &mut File) -> io::Result<Result<Sums, Refusal>> {
+pub fn sums_of_file(file: &mut File, parameters: Parameters) -> io::Result<Result<Sums, Refusal>> {
     let bytes = file.metadata()?.len();
-    sums_of(file, bytes)
+    sums_of(file, bytes, parameters)
 }
 
-fn sums_of(input: &mut dyn Read, bytes: u64) -> io::Result<Result<Sums, Refusal>> {
+fn sums_of(input: &mut dyn Read, bytes: u64, parameters: Parameters) -> io::Result<Result<Sums, Refusal>> {
     let mut progress = Progress::new("bytes read", bytes);
     let mut reader = Tally::new();
     let mut buffer = [0; files::PIECE_BYTES];
@@ -54,5 +61,5 @@ fn sums_of(input: &mut dyn Read, bytes: u64) -> io::Result<Result<Sums, Refusal>
             }
         }
     }
-    Ok(reader.finish())
+    Ok(reader.finish_with(parameters))
 }

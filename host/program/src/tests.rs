@@ -298,10 +298,20 @@ fn tallied_files() {
     let folder = Folder::new("tallied");
     let path = folder.put("ops", &record);
     assert_eq!(ran(run, &["tally", &path], &[]).1, lines);
-    let empty = ran(run, &["tally"], &[]).1;
-    assert!(empty.starts_with("ops 0\ncore-rows 4\nround-rows 4\nByteAlu 0\n"));
-    let (status, output, _) = ran(run, &["tally"], &[0x4B, 0x4E]);
-    assert_eq!((status, output.as_str()), (1, "refused 6 0\n"));
+    assert_eq!(
+        ran(run, &["tally", "--shipped", &path], &[]),
+        (0, lines.into(), String::new())
+    );
+    let none = folder.put("none", &[]);
+    for (options, bytes) in [(&["tally"][..], 0), (&["tally", "--shipped"], 880)] {
+        let empty = format!(
+            "ops 0\ncore-rows 4\nround-rows 4\nByteAlu 0\nAreBytes {bytes}\nKeccakRc 0\nIsHalfword 0\nIsWh 0\nMemw 0\nEcall 0\n"
+        );
+        assert_eq!(ran(run, options, &[]), (0, empty.clone(), String::new()));
+        assert_eq!(ran(run, &[options, &[&none]].concat(), &[]).1, empty);
+        let (status, output, _) = ran(run, options, &[0x4B, 0x4E]);
+        assert_eq!((status, output.as_str()), (1, "refused 6 0\n"));
+    }
 }
 
 /// Bytes one at a time, each after an interruption.
@@ -421,7 +431,7 @@ fn explanations_say_operands() {
 
 #[test]
 fn wrong_usage_has_status_2() {
-    let cases: [&[&str]; 9] = [
+    let cases: [&[&str]; 11] = [
         &[],
         &["undo"],
         &["demo", "1"],
@@ -429,6 +439,8 @@ fn wrong_usage_has_status_2() {
         &["write", "a", "b", "b"],
         &["judge", "core"],
         &["tally", "a", "b"],
+        &["tally", "a", "--shipped"],
+        &["tally", "--shipped", "a", "b"],
         &["explain", "core", "row", "1"],
         &["explain", "middle", "column", "1"],
     ];

@@ -15,7 +15,7 @@ use super::files::{self, Target, WordFile};
 use super::progress::Progress;
 use super::{Failure, Outcome, Streams, file_refused, tally};
 use keccak_tables::operation_file::{RECORD_BYTES, Sums, read_operations};
-use keccak_tables::{OP_WORDS, Refusal, keccak, keccak_rnd};
+use keccak_tables::{OP_WORDS, Parameters, Refusal, keccak, keccak_rnd};
 
 /// How many records are read at once: 24 rows each, 18 megabytes.
 const PIECE_RECORDS: usize = 64;
@@ -32,7 +32,7 @@ pub fn write(arguments: &[OsString], streams: &mut Streams) -> Result<Outcome, F
         return Err(not_three_files());
     }
     let mut ops = File::open(path).map_err(Failure::file(path))?;
-    match tally::sums_of_file(&mut ops).map_err(Failure::file(path))? {
+    match tally::sums_of_file(&mut ops, Parameters::default()).map_err(Failure::file(path))? {
         Ok(sums) => {
             ops.rewind().map_err(Failure::file(path))?;
             let [core, round] = opened(&ops, core, round)?;

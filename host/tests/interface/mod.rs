@@ -7,6 +7,7 @@ use std::path::{Path, PathBuf};
 /// What is passed: by C linkage, a slice counts as two.
 #[derive(Debug, Clone, PartialEq, Eq)]
 pub enum Passed {
+    Flag,
     Byte,
     Half,
     Word,
@@ -108,6 +109,7 @@ fn word(text: &str) -> &str {
 /// A type of the archive's source or of Rust, by C linkage.
 fn of_rust_type(name: &str) -> Vec<Passed> {
     match name {
+        "bool" => vec![Passed::Flag],
         "u8" => vec![Passed::Byte],
         "u32" => vec![Passed::Half],
         "u64" => vec![Passed::Word],
@@ -198,6 +200,7 @@ fn c_declaration(declaration: &str) -> (String, Passed) {
         + 1;
     let (kind, name) = declaration.split_at(at);
     let passed = match kind.trim() {
+        "bool" => Passed::Flag,
         "uint8_t" => Passed::Byte,
         "uint32_t" => Passed::Half,
         "uint64_t" => Passed::Word,

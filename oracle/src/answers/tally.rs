@@ -9,13 +9,23 @@ use crate::{CORE_COLUMNS, ROUND_COLUMNS, core_sums, core_table, round_sums, roun
 ///
 /// The sums of an empty list are 0, as `padding_are_bytes` has it: its tables are not shipped.
 pub fn tally(operations: &[u64]) -> [(&'static str, u128); 10] {
-    let core = core_table(operations);
-    let round = round_table(operations);
+    let [core, round] = [core_table(operations), round_table(operations)];
     let sums = if operations.is_empty() {
         [BusSums::default(); 2]
     } else {
         [core_sums(&core), round_sums(&round)]
     };
+    counts(operations, [&core, &round], sums)
+}
+
+/// The same over the rows as they are written, of an empty list too: its tables are shipped.
+pub fn shipped_tally(operations: &[u64]) -> [(&'static str, u128); 10] {
+    let [core, round] = [core_table(operations), round_table(operations)];
+    let sums = [core_sums(&core), round_sums(&round)];
+    counts(operations, [&core, &round], sums)
+}
+
+fn counts(operations: &[u64], [core, round]: [&[u64]; 2], sums: [BusSums; 2]) -> [(&'static str, u128); 10] {
     let sent = |bus| sums.iter().map(|table| table.sent(bus)).sum();
     [
         ("ops", (operations.len() / OPERATION_WORDS) as u128),

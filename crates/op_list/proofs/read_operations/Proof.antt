@@ -1,6 +1,7 @@
 -- `op_list::read_operations` meets its contract: the file is read through once for its faults and its count, then its words
 -- are stored.
 use mathlib.Core.Path.{_≡_, sym, ap, _∙_}
+use mathlib.Core.Bool.{false}
 use mathlib.Core.List.{List}
 use Prim.Native.Nat.{ℕ}
 use native.Mathlib.Omega.{arith}
@@ -18,11 +19,11 @@ use Rattle.op_list.proofs.read_operations.Tie as tie
 abbrev File : tie.After-finish → List ℕ
 File k = k .before .before .before .before .before .args .file .now
 
-said : (k : tie.After-finish) → k .finish .result ≡ tallyOf 0 (File k)
+said : (k : tie.After-finish) → k .finish .result ≡ tallyOf false 0 (File k)
 said k =
     k .finish .ensures
-    ∙ ap finishOf (k .before .feed .ensures ∙ ap (λ (c : Cursor). feedOf c (File k)) (k .before .before .start .ensures))
-    ∙ reads-file 0 (File k)
+    ∙ ap (finishOf false) (k .before .feed .ensures ∙ ap (λ (c : Cursor). feedOf c (File k)) (k .before .before .start .ensures))
+    ∙ reads-file false 0 (File k)
 
 start-requires : tie.Need-start-requires
 start-requires c κs = search needs

@@ -13,20 +13,17 @@ mul-table-height c = search needs
 table-height-requires-2 : tie.Need-table-height-requires-2
 table-height-requires-2 c κs = search needs
 
-mul-t8 : tie.Need-mul-t8
-mul-t8 c = search needs
-
 mul-t9 : tie.Need-mul-t9
 mul-t9 c = search needs
+
+mul-t10 : tie.Need-mul-t10
+mul-t10 c = search needs
 
 padding-requires : tie.Need-padding-requires
 padding-requires c κs = search needs
 
-add-t11 : tie.Need-add-t11
-add-t11 c = search needs
-
-mul-t13 : tie.Need-mul-t13
-mul-t13 c = search needs
+add-t12 : tie.Need-add-t12
+add-t12 c = search needs
 
 mul-t14 : tie.Need-mul-t14
 mul-t14 c = search needs
@@ -36,6 +33,9 @@ mul-t15 c = search needs
 
 mul-t16 : tie.Need-mul-t16
 mul-t16 c = search needs
+
+mul-t17 : tie.Need-mul-t17
+mul-t17 c = search needs
 
 returns : tie.Need-returns
 unfolding countsOf
@@ -48,12 +48,12 @@ sum-up-spec =
     table-height-requires
     mul-table-height
     table-height-requires-2
-    mul-t8
     mul-t9
+    mul-t10
     padding-requires
-    add-t11
-    mul-t13
+    add-t12
     mul-t14
     mul-t15
     mul-t16
+    mul-t17
     returns)

@@ -1,4 +1,4 @@
--- `print_tally` is safe: the lines fit the 512 bytes.
+-- `print_mode` is safe: the lines fit the 512 bytes.
 use mathlib.Core.Path.{sym}
 use Prim.Native.Nat.{_≤_}
 use native.Mathlib.Omega.{arith}
@@ -6,8 +6,8 @@ use lib.ListN.{length}
 use lib.Seq.{length-take-le}
 use borrow.Author.Needs.{needs}
 use Rattle.text.proofs.Laws.{puts-long}
-use Rattle.tally_cases.proofs.print_tally.Statement.{statement}
-use Rattle.tally_cases.proofs.print_tally.Tie as tie
+use Rattle.tally_cases.proofs.print_mode.Statement.{statement}
+use Rattle.tally_cases.proofs.print_mode.Tie as tie
 
 finish-requires : tie.Need-finish-requires
 finish-requires c κs = search needs
@@ -33,8 +33,8 @@ write-all-requires c κs = search needs
 returns : tie.Need-returns
 returns c = search needs
 
-pub print-tally-spec : {M : Type 1} → statement M
-print-tally-spec =
+pub print-mode-spec : {M : Type 1} → statement M
+print-mode-spec =
     tie.close
     (tie.spec
     finish-requires
