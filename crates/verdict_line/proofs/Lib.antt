@@ -1,0 +1,7 @@
+pub mod Tuples
+pub mod Tells
+pub mod Most
+pub mod Asked
+pub mod Refusals
+pub mod Shows
+pub mod Cases
