@@ -340,6 +340,20 @@ fn verdict_calls() {
     assert_eq!(verdict::verdict(&core, &round), Ok(Verdict::Holds { active: 1 }));
     let refused = verdict::verdict(&core, &round[1..]);
     assert_eq!(refused, Err(Refusal::NotWhole { which: Lent::Round }));
+
+    let mut line = [0xA5; verdict::LINE_MOST];
+    assert_eq!(verdict::verdict_line(&core, &round, &mut line), Ok(7));
+    assert_eq!((&line[..7], line[7]), (&b"holds 1"[..], 0xA5));
+    let refused = verdict::verdict_line(&core, &round, &mut line[..6]);
+    assert_eq!(refused, Err(Refusal::TooShort { needed: 7 }));
+    core[210] ^= 1;
+    let text = verdict::verdict_text(&core, &round).expect("a line");
+    let words: Vec<&str> = text.split(' ').collect();
+    assert_eq!(
+        words[..9],
+        ["core", "row", "0", "balance", "3", "Keccak", "5", "0", "24"]
+    );
+    assert_eq!((words.len(), words[9]), (6 + 203, core[210].to_string().as_str()));
 }
 
 #[test]
@@ -400,7 +414,7 @@ fn none_is_left_out() {
             }
         }
     }
-    // Those of the archive; two more that allocate a table, a verdict's `holds`, a reader's fault and the lines of its sums, a counter
+    // Those of the archive; two more that allocate a table, a verdict's `holds` and its text, a reader's fault and the lines of its sums, a counter
     // by its kind, and a kind's number.
-    assert_eq!(functions, interface::exports().len() + 7);
+    assert_eq!(functions, interface::exports().len() + 8);
 }
