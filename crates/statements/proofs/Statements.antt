@@ -26,6 +26,7 @@ use Rattle.field.proofs.Field.{inv-shift-32}
 use Rattle.answer.specs.Limits.{MAX-OPS}
 use Rattle.answer.specs.Refusal.{accepted, refusalNumber}
 use Rattle.answer.specs.declared.Refusal.the-variants.{HighAddress, PastEnd}
+use Rattle.answer.specs.declared.Number.the-variants.{Is}
 use Rattle.fips202.specs.Fips.{Agree, offset, RHO, rnd, keccakF}
 use Rattle.tuple.specs.Tuple.{busSum}
 use Rattle.tuple.specs.declared.Bus.{Bus}
@@ -89,6 +90,7 @@ use Rattle.verdict_line.specs.Line.{Judged, shownAt, lineAt, lineRefusal}
 use Rattle.verdict_line.proofs.Tells.{lines-tell}
 use Rattle.verdict_line.proofs.Most.{line-most}
 use Rattle.verdict_line.proofs.Refusals.{line-accepted}
+use Rattle.verdict_line.proofs.Tied.{Lined, lines-written}
 use Rattle.judge.proofs.Tied.{Answered, Wrote, answered, holds-answered, ours-written, written-answers}
 
 -- ---- demand 3: "Suppose a core table, whoever filled it, passes its constraints and lookups .."
@@ -124,6 +126,13 @@ pub equal-lines : (core round core′ round′ : List ℕ) → Judged (verdictOf
     (lineAt 24 core round ≡ lineAt 24 core′ round′)
     ↔ ((verdictOf core round ≡ verdictOf core′ round′) × (shownAt 24 core round ≡ shownAt 24 core′ round′))
 equal-lines = lines-tell 24 24
+
+-- and so it is of the bytes that two calls leave, each of which answered a length (`Lined`, verdict_line/proofs/Tied.antt)
+pub equal-lines-written : {core round before after core′ round′ before′ after′ : List ℕ} {n m : ℕ} →
+    Lined core round before after (Is n) → Lined core′ round′ before′ after′ (Is m) →
+    (take n after ≡ take m after′)
+    ↔ ((verdictOf core round ≡ verdictOf core′ round′) × (shownAt 24 core round ≡ shownAt 24 core′ round′))
+equal-lines-written = lines-written
 
 -- "A line that doesn't fit the lent bytes is a short slice, refused after 5": the call is accepted exactly where the
 -- verdict is no refusal and the line fits

@@ -5,3 +5,4 @@ pub mod Asked
 pub mod Refusals
 pub mod Shows
 pub mod Cases
+pub mod Tied

@@ -80,7 +80,7 @@ module _ (core round : List ℕ) where
       (number-refused _ (refused-first v accepted x told), (sym (ap (sets out 0) q), omega (arith, ap length q)))
 
 -- ---- from `put_line` to the call
-is-number : (m n : ℕ) (o : Option Refusal) → number.Is n ≡ numberOf m o → (o ≡ none) × (n ≡ m)
+pub is-number : (m n : ℕ) (o : Option Refusal) → number.Is n ≡ numberOf m o → (o ≡ none) × (n ≡ m)
 unfolding numberOf
 is-number m n none e = (refl, cc)
 is-number m n (some r) e = (cc, cc)
