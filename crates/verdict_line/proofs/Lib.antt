@@ -6,3 +6,4 @@ pub mod Refusals
 pub mod Shows
 pub mod Cases
 pub mod Tied
+pub mod NoEcall
