@@ -184,8 +184,9 @@ extern "C" {
 #define KECCAK_TABLES_ROUND_IOTA 1471
 #define KECCAK_TABLES_ROUND_MU 1479
 
-/* The most values that a tuple of any row has. */
+/* The most values that a tuple of any row has, and the most bytes that the line of a verdict has. */
 #define KECCAK_TABLES_MAX_TUPLE_LENGTH 203
+#define KECCAK_TABLES_LINE_MOST 4335
 
 /* The answer of a call that only writes. */
 typedef struct keccak_tables_answer {
@@ -521,6 +522,16 @@ keccak_tables_answer keccak_tables_keccak_rnd_bus_interactions(const uint64_t *r
 KECCAK_TABLES_MUST_USE
 keccak_tables_judgement keccak_tables_verdict(const uint64_t *core, size_t core_length, const uint64_t *round,
                                               size_t round_length);
+
+/*
+ * The same verdict as one line of text, and the line's length: `holds N`; or `core` or `round`, `row R`, then `value I`, `timestamp 0`,
+ * `lookup I` or `balance I`, of the last two the bus's name and the tuple's values. Decimals, single spaces, no line end and no zero
+ * behind it. Two lines are equal exactly where the verdicts and the shown tuples are. 2 and 5 as above; then 3 line < the line's length,
+ * never where KECCAK_TABLES_LINE_MOST bytes are lent.
+ */
+KECCAK_TABLES_MUST_USE
+keccak_tables_number keccak_tables_verdict_line(const uint64_t *core, size_t core_length, const uint64_t *round,
+                                                size_t round_length, uint8_t *line, size_t line_length);
 
 /* ---- operation files: records of 418 bytes, 4B 4F and then an operation's 52 words, lowest byte first ---- */
 

@@ -205,6 +205,7 @@ bind! {
         keccak_tables_keccak_rnd_bus_interactions(row: &[u64], out: &mut [u64]) -> FlatAnswer;
 
     verdict = keccak_tables_verdict(core: &[u64], round: &[u64]) -> FlatVerdict;
+    verdict_line = keccak_tables_verdict_line(core: &[u64], round: &[u64], line: &mut [u8]) -> FlatNumber;
 
     tally_start = keccak_tables_tally_start() -> FlatCursor;
     tally_feed = keccak_tables_tally_feed(cursor: FlatCursor, bytes: &[u8]) -> FlatCursor;

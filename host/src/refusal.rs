@@ -158,7 +158,7 @@ impl fmt::Display for Refusal {
             Self::NotWhole { argument, .. } => write!(f, "the last entry of the list {argument} is not whole"),
             Self::TooShort { argument, needed } => {
                 // No other slice of bytes is written to.
-                let unit = if argument == "file" { "bytes" } else { "words" };
+                let unit = if matches!(argument, "file" | "line") { "bytes" } else { "words" };
                 write!(f, "{argument} is shorter than the {needed} {unit} that are needed")
             }
             Self::HighAddress { address } => write!(

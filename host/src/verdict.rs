@@ -3,7 +3,7 @@
 use std::fmt;
 
 use crate::ffi::{self, FlatVerdict};
-use crate::refusal::{NOT_WHOLE, Refusal, is_large_at};
+use crate::refusal::{NOT_WHOLE, Refusal, TOO_SHORT, is_large_at};
 
 /// One of the two tables.
 #[derive(Debug, Clone, Copy, PartialEq, Eq, Hash)]
@@ -95,6 +95,57 @@ pub fn verdict(core: &[u64], round: &[u64]) -> Result<Verdict, Refusal> {
     from_flat(ffi::verdict(core, round), core)
 }
 
+/// The most bytes that a line of [`verdict_line`] has.
+pub const LINE_MOST: usize = 4335;
+
+/// Judges two tables as [`verdict`] does and writes the verdict into `line` as text: `holds N`; or `core` or `round`, `row R`, then
+/// `value I`, `timestamp 0`, `lookup I` or `balance I`, for the last two the bus's name and the tuple's values in order. Answers the
+/// line's length. Numbers are decimal, words have a single space between them, and no line end follows. Two lines are equal exactly
+/// where the verdicts and the shown tuples are.
+///
+/// ```
+/// use keccak_tables::verdict::{LINE_MOST, verdict_line};
+/// use keccak_tables::Refusal;
+///
+/// let mut line = [0; LINE_MOST];
+/// let length = verdict_line(&[], &[], &mut line)?;
+/// assert_eq!(&line[..length], b"holds 0");
+/// assert_eq!(verdict_line(&[], &[], &mut line[..6]), Err(Refusal::TooShort { argument: "line", needed: 7 }));
+/// # Ok::<(), Refusal>(())
+/// ```
+///
+/// # Errors
+///
+/// Those of [`verdict`]; then [`TooShort`](Refusal::TooShort): the line does not fit into `line`, which never happens where
+/// [`LINE_MOST`] bytes are lent.
+pub fn verdict_line(core: &[u64], round: &[u64], line: &mut [u8]) -> Result<usize, Refusal> {
+    let name = |number, detail| if number == TOO_SHORT { "line" } else { of_verdict(number, detail, core) };
+    ffi::verdict_line(core, round, line).named(name).map(|length| length as usize)
+}
+
+/// The line of [`verdict_line`].
+///
+/// ```
+/// use keccak_tables::verdict::verdict_text;
+/// use keccak_tables::{Refusal, keccak};
+///
+/// let mut row = [0; keccak::NUM_COLUMNS];
+/// row[keccak::cols::MU] = 1;
+/// row[keccak::cols::ADDR + 2] = 256;
+/// assert_eq!(verdict_text(&row, &[])?, "core row 0 value 0");
+/// # Ok::<(), Refusal>(())
+/// ```
+///
+/// # Errors
+///
+/// Those of [`verdict`].
+pub fn verdict_text(core: &[u64], round: &[u64]) -> Result<String, Refusal> {
+    let mut line = vec![0; LINE_MOST];
+    let length = verdict_line(core, round, &mut line)?;
+    line.truncate(length);
+    Ok(String::from_utf8(line).expect("a line has letters, digits and spaces"))
+}
+
 /// What was said of this core table and a round table.
 fn from_flat(flat: FlatVerdict, core: &[u64]) -> Result<Verdict, Refusal> {
     let FlatVerdict {
@@ -127,7 +178,8 @@ fn of_verdict(number: u64, detail: u64, core: &[u64]) -> &'static str {
     if is_core { "core" } else { "round" }
 }
 
-/// One line: `holds N`; or `core` or `round`, `row R`, then `value I`, `lookup I`, `timestamp 0` or `balance I`.
+/// One line: `holds N`; or `core` or `round`, `row R`, then `value I`, `lookup I`, `timestamp 0` or `balance I`: that of
+/// [`verdict_text`] without its tuple.
 impl fmt::Display for Verdict {
     fn fmt(&self, f: &mut fmt::Formatter<'_>) -> fmt::Result {
         match *self {

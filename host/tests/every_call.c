@@ -503,6 +503,15 @@ static void verdict_calls(void) {
     memcpy(core + 218, last + 1271, 192 * sizeof *core);
     verdict = keccak_tables_verdict(core, CORE, rounds, ROUND);
     CHECK(verdict.kind == KECCAK_TABLES_VERDICT_HOLDS && verdict.active == 1 && verdict.row == 0 && verdict.index == 0);
+    uint8_t line[KECCAK_TABLES_LINE_MOST];
+    memset(line, 0xA5, sizeof line);
+    keccak_tables_number length = CALL(keccak_tables_verdict_line)(core, CORE, rounds, ROUND, line, sizeof line);
+    DONE(length);
+    CHECK(length.value == 7 && memcmp(line, "holds 1", 7) == 0 && line[7] == 0xA5);
+    length = keccak_tables_verdict_line(core, CORE, rounds, ROUND, line, 6);
+    CHECK(length.refusal == 3 && length.detail == 7 && length.value == 0);
+    length = keccak_tables_verdict_line(core, CORE, rounds, ROUND - 1, line, 0);
+    CHECK(length.refusal == 2 && length.detail == 1);
     verdict = keccak_tables_verdict(core, CORE - 1, rounds, ROUND - 1);
     CHECK(verdict.kind == KECCAK_TABLES_VERDICT_REFUSED && verdict.refusal == 2 && verdict.detail == 0 && verdict.index == 0);
     verdict = keccak_tables_verdict(core, CORE, rounds, ROUND - 1);

@@ -499,6 +499,20 @@ fn verdict_calls() {
             which: Lent::Round
         })
     );
+
+    let mut line = [0xA5; verdict::LINE_MOST];
+    assert_eq!(verdict::verdict_line(&core, &round, &mut line), Ok(7));
+    assert_eq!((&line[..7], line[7]), (&b"holds 1"[..], 0xA5));
+    let refused = verdict::verdict_line(&core, &round, &mut line[..6]);
+    assert_eq!(refused, Err(Refusal::TooShort { argument: "line", needed: 7 }));
+    core[210] ^= 1;
+    let text = verdict::verdict_text(&core, &round).expect("a line");
+    let words: Vec<&str> = text.split(' ').collect();
+    assert_eq!(
+        words[..9],
+        ["core", "row", "0", "balance", "3", "Keccak", "5", "0", "24"]
+    );
+    assert_eq!((words.len(), words[9]), (6 + 203, core[210].to_string().as_str()));
 }
 
 #[test]
@@ -565,7 +579,7 @@ fn none_is_left_out() {
             }
         }
     }
-    // Those of the archive; two more that allocate a table, a verdict's `holds`, a reader's fault, its sums by parameters and their
+    // Those of the archive; two more that allocate a table, a verdict's `holds` and its text, a reader's fault, its sums by parameters and their
     // lines, a counter by its kind, once or n times, a kind's number, a lookup's words and a list of them, and the five of rows of keys.
-    assert_eq!(functions, interface::exports().len() + 16);
+    assert_eq!(functions, interface::exports().len() + 17);
 }

@@ -9,6 +9,7 @@ use std::process::Command;
 
 use keccak_tables::{
     Bus, Lent, MAX_OPS, OP_WORDS, P, Refusal, Side, bitwise, is_wh, keccak, keccak_rc, keccak_rnd, operation_file,
+    verdict,
 };
 
 #[test]
@@ -71,6 +72,7 @@ fn sizes() -> BTreeMap<String, u64> {
         ("ROUND_TUPLES", keccak_rnd::NUM_TUPLES as u64),
         ("ROUND_TUPLE_WORDS", keccak_rnd::TUPLE_WORDS as u64),
         ("MAX_TUPLE_LENGTH", keccak_rnd::MAX_TUPLE_LENGTH as u64),
+        ("LINE_MOST", verdict::LINE_MOST as u64),
     ];
     sizes.map(|(name, number)| (name.to_string(), number)).into()
 }

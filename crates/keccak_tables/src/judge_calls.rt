@@ -1,10 +1,15 @@
-// The verdict on two tables.
+// The verdict on two tables, in words of 64 bits and as a line of text.
+use flat::FlatNumber;
+use flat::flat_number;
 use judge::verdict;
 use judge_words::verdict_words;
+use verdict_line;
 ghost use mathlib.Core.Path.{_≡_};
 ghost use mathlib.Core.List.{[], _∷_};
 ghost use Rattle.verdict.specs.Verdict.{verdictWords};
 ghost use Rattle.verdict.specs.CoreAndRound.{verdictOf};
+ghost use Rattle.flat.specs.Flat.{flatNumber};
+ghost use Rattle.verdict_line.specs.Line.{lineAnswer, lineAfter};
 
 // The four words of `verdictWords`: the kind; then the count where the tables hold, or the failure's table, row and
 // index, or a refusal's number and detail.
@@ -27,4 +32,16 @@ pub extern "C" fn keccak_tables_verdict(core: &[u64], round: &[u64]) -> FlatVerd
         second: words[2],
         third: words[3],
     }
+}
+
+#[no_mangle]
+pub extern "C" fn keccak_tables_verdict_line(
+    core: &[u64],
+    round: &[u64],
+    line: &mut [u8],
+) -> FlatNumber
+    ensures answer { λ r. ⌜ r ≡ flatNumber (lineAnswer 24 (now (core .entry)) (now (round .entry)) (now (line .entry))) ⌝ }
+    ensures bytes { λ _. ⌜ now (line .exit) ≡ lineAfter 24 (now (core .entry)) (now (round .entry)) (now (line .entry)) ⌝ }
+{
+    flat_number(verdict_line::verdict_line(core, round, line))
 }

@@ -27,6 +27,7 @@ use Rattle.field.proofs.Field.{inv-shift-32}
 use Rattle.answer.specs.Limits.{MAX-OPS}
 use Rattle.answer.specs.Refusal.{accepted, refusalNumber}
 use Rattle.answer.specs.declared.Refusal.the-variants.{HighAddress, PastEnd}
+use Rattle.answer.specs.declared.Number.the-variants.{Is}
 use Rattle.fips202.specs.Fips.{Agree, offset, RHO, rnd, keccakF}
 use Rattle.tuple.specs.Tuple.{busSum}
 use Rattle.tuple.specs.declared.Bus.{Bus}
@@ -107,6 +108,11 @@ use Rattle.op_file.specs.declared.Sums.{Sums}
 use Rattle.op_file.specs.declared.Tally.the-variants.{Counted}
 use Rattle.op_file.proofs.Cases as file
 use Rattle.op_file.proofs.Laws.{reads-pieces}
+use Rattle.verdict_line.specs.Line.{Judged, shownAt, lineAt, lineRefusal}
+use Rattle.verdict_line.proofs.Tells.{lines-tell}
+use Rattle.verdict_line.proofs.Most.{line-most}
+use Rattle.verdict_line.proofs.Refusals.{line-accepted}
+use Rattle.verdict_line.proofs.Tied.{Lined, lines-written}
 use Rattle.judge.proofs.Tied.{Answered, Wrote, answered, holds-answered, ours-written, written-answers}
 
 -- ---- demand 3: "Suppose a core table, whoever filled it, passes its constraints and lookups .."
@@ -135,6 +141,32 @@ lanes-below = lane-below
 pub each-answer : (core round : List ℕ) (v : Verdict) →
     (verdictOf core round ≡ v) ↔ Says (coreKind 24) roundKind core round v
 each-answer = verdict-says 24
+
+-- ---- the verdict as a line (verdict_line/specs/Line.antt)
+-- "Two lines are equal exactly when the verdicts and the shown tuples are equal."
+pub equal-lines : (core round core′ round′ : List ℕ) → Judged (verdictOf core round) → Judged (verdictOf core′ round′) →
+    (lineAt 24 core round ≡ lineAt 24 core′ round′)
+    ↔ ((verdictOf core round ≡ verdictOf core′ round′) × (shownAt 24 core round ≡ shownAt 24 core′ round′))
+equal-lines = lines-tell 24 24
+
+-- and so it is of the bytes that two calls leave, each of which answered a length (`Lined`, verdict_line/proofs/Tied.antt)
+pub equal-lines-written : {core round before after core′ round′ before′ after′ : List ℕ} {n m : ℕ} →
+    Lined core round before after (Is n) → Lined core′ round′ before′ after′ (Is m) →
+    (take n after ≡ take m after′)
+    ↔ ((verdictOf core round ≡ verdictOf core′ round′) × (shownAt 24 core round ≡ shownAt 24 core′ round′))
+equal-lines-written = lines-written
+
+-- "A line that doesn't fit the lent bytes is a short slice, refused after 5": the call is accepted exactly where the
+-- verdict is no refusal and the line fits
+pub line-taken : (core round : List ℕ) (room : ℕ) →
+    (lineRefusal 24 core round room ≡ accepted)
+    ↔ (Judged (verdictOf core round) × (length (lineAt 24 core round) ≤ room))
+line-taken = line-accepted 24
+
+-- and 4,335 bytes are always enough, for tables that fit in memory
+pub enough-for-a-line : (core round : List ℕ) → length core < 18446744073709551616 → length round < 18446744073709551616 →
+    length (lineAt 24 core round) ≤ 4335
+enough-for-a-line = line-most 24
 
 -- ---- demand 2
 -- "a written round row takes START through that round of FIPS 202": the lanes that it was written for are its START,

@@ -12,13 +12,22 @@ unfoldable pub digitsOf : ℕ → ℕ → List ℕ
 digitsOf zero n = []
 digitsOf (suc k) n = pick (ltb n 10) ((48 + n) ∷ []) (digitsOf k (n / 10) ++ ((48 + n % 10) ∷ []))
 
--- a word in decimal, with no leading zeros
+-- a whole number in decimal, with no leading zeros: n + 1 digits are always enough
 unfoldable pub decimalOf : ℕ → List ℕ
-decimalOf n = digitsOf 20 n
+decimalOf n = digitsOf (suc n) n
 
 -- a name, which ends in a space, and a number, on a line
-unfoldable pub lineOf : List ℕ → ℕ → List ℕ
-lineOf name n = name ++ decimalOf n ++ (10 ∷ [])
+unfoldable pub namedNumber : List ℕ → ℕ → List ℕ
+namedNumber name n = name ++ decimalOf n ++ (10 ∷ [])
+
+-- words, a single space between one and the next: after the first, each has a space before it
+unfoldable pub spaced : List (List ℕ) → List ℕ
+spaced [] = []
+spaced (w ∷ ws) = 32 ∷ (w ++ spaced ws)
+
+unfoldable pub joined : List (List ℕ) → List ℕ
+joined [] = []
+joined (w ∷ ws) = w ++ spaced ws
 
 -- b is a with text s stored from `at` on, and r is where the text ends
 pub record Puts (a : List ℕ) (at : ℕ) (s b : List ℕ) (r : ℕ) : Type 0 where

@@ -2,7 +2,7 @@
 ghost use mathlib.Core.Path.{_≡_};
 ghost use Prim.Native.Nat.{_+_, _<_, _≤_};
 ghost use lib.ListN.{length, drop};
-ghost use Rattle.text.specs.Text.{decimalOf, lineOf, Puts};
+ghost use Rattle.text.specs.Text.{decimalOf, namedNumber, Puts};
 
 // The bytes s, from `at` on; answers where they end.
 pub fn put(out: &mut [u8], at: usize, s: &[u8]) -> usize
@@ -61,7 +61,7 @@ pub fn put_decimal(out: &mut [u8], at: usize, n: u64) -> usize
 // A name, a number, and the line's end.
 pub fn put_line(out: &mut [u8], at: usize, name: &[u8], n: u64) -> usize
     requires { ⌜ at + length (now name) + 21 ≤ length (now out) ⌝ }
-    ensures { λ r. ⌜ Puts (now (out .entry)) at (lineOf (now (name .entry)) n) (now (out .exit)) r × (r ≤ at + length (now (name .entry)) + 21) ⌝ }
+    ensures { λ r. ⌜ Puts (now (out .entry)) at (namedNumber (now (name .entry)) n) (now (out .exit)) r × (r ≤ at + length (now (name .entry)) + 21) ⌝ }
 {
     let a = put(out, at, name);
     let b = put_decimal(out, a, n);

@@ -1,7 +1,8 @@
 //! The proved tables held against the published Rust: what is compared, and how a comparison is counted and told.
 //!
 //! `rows` compares rows, tables, keys, counters and refusals, `values` the constraint values of core and round rows and
-//! `tuples` their tuples. `looked_up` has the two tables that are looked up, whole. `verdicts` holds the verdict against `judge`, a judge of its own, on the tables of `dishonest`. `tally`
+//! `tuples` their tuples. `looked_up` has the two tables that are looked up, whole. `verdicts` holds the verdict against `judge`, a judge
+//! of its own, on the tables of `dishonest`, `lines` its line of text. `tally`
 //! reads operation files, `limit` the longest ones, and `refusals` has the table of what each call refuses. A further area is a
 //! module beside them and a name in `bin/differential.rs`. `cases` has the small tables of the program `verdict_cases`.
 
@@ -16,6 +17,7 @@ pub mod inputs;
 pub mod judge;
 pub mod lent;
 pub mod limit;
+pub mod lines;
 pub mod list_calls;
 pub mod looked_up;
 pub mod refusals;

@@ -5,7 +5,7 @@
 use keccak_tables::is_wh::IsWhKey;
 use keccak_tables::keccak::LAST_ADDRESS;
 use keccak_tables::operation_file::{RECORD_BYTES, Tally, read_operations, write_operations};
-use keccak_tables::verdict::verdict;
+use keccak_tables::verdict::{verdict, verdict_line, verdict_text};
 use keccak_tables::{MAX_OPS, OP_WORDS, P, Refusal, bitwise, keccak, keccak_rnd};
 
 use crate::comparison::Comparison;
@@ -17,7 +17,7 @@ use crate::list_calls::{LIST_CALLS, TOO_MANY};
 use crate::refused::on_slice;
 use crate::tally::{drawn_mode, file_of, first_fault, operations_of, read};
 use crate::untouched::Untouched;
-use crate::{looked_up, rows, tuples, values, verdicts};
+use crate::{lines, looked_up, rows, tuples, values, verdicts};
 
 /// The numbers with which each call is tried, 0 being that it does its work. What only a file of 37 GB can cause is in
 /// `limit.rs`: 1 in `tally_feed`, `tally_finish` and `read_operations`. The bindings' lookups have no kind past the last; the tests of
@@ -39,9 +39,10 @@ use crate::{looked_up, rows, tuples, values, verdicts};
 /// | values, all tuples | | | row, slice | | column | |
 /// | a tuple | index | | row, slice | | column | |
 /// | `verdict` | | core, round | | | core, round | |
+/// | `verdict_line` | | core, round | line | | core, round | |
 /// | a file's reader | n | | | address | | mark, cut |
 /// | `read_operations` | n | | list | address | | mark, cut |
-pub const MATRIX: [(&str, &[u64]); 49] = [
+pub const MATRIX: [(&str, &[u64]); 50] = [
     ("generate_bitwise_row", &[0, 1, 3]),
     ("bitwise_row_index", &[0, 1]),
     ("bitwise_bump", &[0, 1, 3, 5]),
@@ -86,6 +87,7 @@ pub const MATRIX: [(&str, &[u64]); 49] = [
     ("keccak_rnd_bus_interaction", &[0, 1, 3, 5]),
     ("keccak_rnd_bus_interactions", &[0, 3, 5]),
     ("verdict", &[0, 2, 5]),
+    ("verdict_line", &[0, 2, 3, 5]),
     ("tally_start", &[0]),
     ("tally_feed", &[0, 4, 6]),
     ("tally_finish", &[0, 4, 6]),
@@ -424,6 +426,12 @@ fn one_verdict(comparison: &mut Comparison, words: &mut Words, core: &[u64], rou
     let input = || format!("core {core:?}, round {round:?}");
     comparison.answered("verdict", input, answer, refused);
     comparison.equal(|_| input(), &verdicts::words(answer), &expected.words());
+    // Lent no byte, the line is refused as the verdict is, and else by its length.
+    let line = lines::line(core, round, expected).map(|line| (3, line.len() as u64));
+    let short = verdict_line(lent_core.slice(), lent_round.slice(), &mut []);
+    comparison.answered("verdict_line", input, short, refused.or(line));
+    let whole = verdict_text(lent_core.slice(), lent_round.slice());
+    comparison.answered("verdict_line", input, whole, refused);
     lent_core.kept(comparison, |_| input());
     lent_round.kept(comparison, |_| input());
 }

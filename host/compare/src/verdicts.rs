@@ -46,7 +46,7 @@ pub fn compare(comparison: &mut Comparison, seed: u64, n: usize) {
 }
 
 /// Moves rows, one to four times, and now and then changes a word; says what was done.
-fn moved_and_changed(tables: &mut Tables, words: &mut Words) -> String {
+pub(crate) fn moved_and_changed(tables: &mut Tables, words: &mut Words) -> String {
     let mut changes = String::new();
     for _ in 0..=words.below(4) {
         changes += &moved(tables, words);
@@ -162,7 +162,7 @@ fn moved(tables: &mut Tables, words: &mut Words) -> String {
 }
 
 /// Changes a word, most often one of an active row, and says which.
-fn changed(tables: &mut Tables, words: &mut Words) -> String {
+pub(crate) fn changed(tables: &mut Tables, words: &mut Words) -> String {
     let (name, table, width) = one_of(tables, words);
     if table.is_empty() {
         return String::new();

@@ -171,7 +171,7 @@ fn show_high_address(ops: &[u64], out: &mut dyn Write) -> io::Result<bool> {
     Ok(line == format!("refused 4 {}", LAST_ADDRESS + 1))
 }
 
-/// The answer as `judge` prints it.
+/// The answer as `judge` prints it, but for the tuple's values.
 fn line(answer: Result<Verdict, Refusal>) -> String {
     match answer {
         Ok(verdict) => verdict.to_string(),

@@ -1,4 +1,4 @@
-//! `explain core|round column|value|tuple INDEX`: what stands at an index, in words.
+//! `explain core|round column|value|tuple INDEX`: what stands at an index, in words; `explain LINE`: what the line of a verdict says.
 
 use std::ffi::OsString;
 
@@ -7,13 +7,17 @@ use keccak_tables::layout::{self, Operand, Place, Sum, Tuple, Value};
 use keccak_tables::verdict::Table;
 use keccak_tables::{Bus, Side};
 
+mod failed;
+
 pub fn explain(arguments: &[OsString], streams: &mut Streams) -> Result<Outcome, Failure> {
     let words: Option<Vec<&str>> = arguments.iter().map(|argument| argument.to_str()).collect();
+    let words: Option<Vec<&str>> = words.map(|words| words.iter().flat_map(|word| word.split(' ')).collect());
     let text = match words.as_deref() {
+        Some(line @ (["holds", _] | [_, "row", ..])) => failed::text(line).map_err(Failure::Usage)?,
         Some([table, kind, index]) => text(table, kind, index).map_err(Failure::Usage)?,
         _ => {
             return Err(Failure::Usage(
-                "explain takes core or round, then column, value or tuple, then INDEX".into(),
+                "explain takes core or round, then column, value or tuple, then INDEX; or the line of a verdict".into(),
             ));
         }
     };
@@ -21,16 +25,20 @@ pub fn explain(arguments: &[OsString], streams: &mut Streams) -> Result<Outcome,
     Ok(Outcome::Fine)
 }
 
+fn table_named(table: &str) -> Result<Table, String> {
+    match table {
+        "core" => Ok(Table::Core),
+        "round" => Ok(Table::Round),
+        _ => Err(format!("there is no table {table}, but core and round")),
+    }
+}
+
 fn text(table: &str, kind: &str, index: &str) -> Result<String, String> {
-    let table = match table {
-        "core" => Table::Core,
-        "round" => Table::Round,
-        _ => return Err(format!("there is no table {table}, but core and round")),
-    };
+    let table = table_named(table)?;
     let found = match (kind, number(table, kind, index)) {
         ("column", at) => at.and_then(|at| column(table, at)),
         ("value", at) => at.and_then(|at| value(table, at)),
-        ("tuple", at) => at.and_then(|at| tuple(table, at)),
+        ("tuple", at) => at.and_then(|at| tuple(table, at, &[])),
         _ => return Err(format!("there is no kind {kind}, but column, value and tuple")),
     };
     found.ok_or_else(|| {
@@ -122,7 +130,8 @@ fn formula(table: Table, value: &Value) -> String {
     }
 }
 
-fn tuple(table: Table, index: usize) -> Option<String> {
+/// The tuple at an index, with what was found in it where that is known.
+fn tuple(table: Table, index: usize, found: &[u64]) -> Option<String> {
     let (place, tuple) = layout::tuple(table, index)?;
     let done = match tuple.side {
         Side::Sender => "sent",
@@ -146,6 +155,10 @@ fn tuple(table: Table, index: usize) -> Option<String> {
             format!("{from} to {to}")
         };
         text += &format!("  {at:>10}  {words}\n");
+        if let Some(values) = found.get(from..=to) {
+            let values: Vec<String> = values.iter().map(u64::to_string).collect();
+            text += &format!("  {:>10}  found: {}\n", "", values.join(" "));
+        }
     }
     Some(text)
 }

@@ -42,9 +42,10 @@ Exit status: 0 both tables are there; 1 refused; 2 a file can't be read or writt
         short: "says whether two tables hold together, or names the first failure, or with --all every one",
         long: "\
 Prints one line: `holds N`, N the active core rows; or `core` or `round`, `row R`, and `value I`, `lookup I`, `timestamp 0`
-or `balance I`, all from 0. `keccak-tables explain TABLE value I` says what a value is, `explain TABLE tuple I` what the tuple
-of a lookup or a balance is. Both files are held in memory. With --all every failing value, lookup, timestamp and tuple has a
-line, the first being the verdict's; with --most N the first N of them. A failure can bring others with it.
+or `balance I`, all from 0; behind a lookup or a balance the bus's name and the tuple's values. `keccak-tables explain TABLE
+value I` says what a value is, `explain TABLE tuple I` what the tuple of a lookup or a balance is. Both files are held in
+memory. With --all every failing value, lookup, timestamp and tuple has a line, without values, the first being the
+verdict's; with --most N the first N of them. A failure can bring others with it.
 Exit status: 0 the tables hold; 1 they don't, or refused; 2 a file can't be read.
 ",
     },
@@ -61,12 +62,13 @@ Exit status: 0; 1 refused; 2 the file can't be read.
     },
     Command {
         name: "explain",
-        arguments: "core|round column|value|tuple INDEX",
-        short: "says what a column, a constraint value or a tuple of a row is",
+        arguments: "core|round column|value|tuple INDEX, or LINE",
+        short: "says what a column, a constraint value or a tuple of a row is, or what the line of a verdict says",
         long: "\
 Says what stands at an index: group, x, y, byte or halfword; a value's formula; a tuple's bus, side and operands by the
-columns' names. A column's name, as in THETA[1][2][3] (x, y, byte), may stand for its index.
-Exit status: 0; 2 there is no such index.
+columns' names. A column's name, as in THETA[1][2][3] (x, y, byte), may stand for its index. Of a line that `judge` printed, as
+one argument or as many, it says which rule failed, what the columns are and what was found there.
+Exit status: 0; 2 there is no such index, or the line is no verdict.
 ",
     },
 ];

@@ -6,7 +6,7 @@ use std::path::Path;
 use super::failures::{failures, in_writers_order};
 use super::progress::{Progress, Waiting};
 use super::{Failure, Outcome, Streams, files, refused};
-use keccak_tables::verdict::{Table, verdict};
+use keccak_tables::verdict::{Table, verdict_text};
 use keccak_tables::{Lent, Refusal, keccak, keccak_rnd, layout};
 
 pub fn judge(arguments: &[OsString], streams: &mut Streams) -> Result<Outcome, Failure> {
@@ -15,16 +15,17 @@ pub fn judge(arguments: &[OsString], streams: &mut Streams) -> Result<Outcome, F
     let core = files::read_words(Path::new(core))?;
     let round = files::read_words(Path::new(round))?;
     let waiting = Waiting::new(&judging(&core, &round));
-    let answer = verdict(&core, &round);
+    let answer = verdict_text(&core, &round);
     drop(waiting);
+    let holds = |line: &str| line.starts_with("holds ");
     match (answer, most) {
-        (Ok(answer), Some(most)) if !answer.holds() => {
+        (Ok(line), Some(most)) if !holds(&line) => {
             list(&core, &round, most, streams)?;
             Ok(Outcome::DoesNotHold)
         }
-        (Ok(answer), _) => {
-            writeln!(streams.output, "{answer}")?;
-            Ok(Outcome::of(answer.holds()))
+        (Ok(line), _) => {
+            writeln!(streams.output, "{line}")?;
+            Ok(Outcome::of(holds(&line)))
         }
         (Err(refusal), _) => refused(refusal, &words(refusal, &core, &round), streams),
     }

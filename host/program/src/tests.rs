@@ -8,6 +8,7 @@ use std::path::PathBuf;
 
 use super::{Streams, run, run_judge};
 use keccak_tables::operation_file::{RECORD_BYTES, write_operations};
+use keccak_tables::verdict::verdict_text;
 use keccak_tables::{OP_WORDS, Operation, P, keccak, keccak_rnd};
 
 type Run = fn(&[OsString], &mut Streams) -> u8;
@@ -213,7 +214,10 @@ fn judged_files() {
     let row = &keccak::keccak_table(&[]).unwrap()[..keccak::NUM_COLUMNS];
     let honest = folder.put("core", &bytes(row));
     let none = folder.put("none", &[]);
-    let active = folder.put("active", &bytes(&keccak::keccak_table(&operations(1)).unwrap()));
+    let called = keccak::keccak_table(&operations(1)).unwrap();
+    let active = folder.put("active", &bytes(&called));
+    let unbalanced = verdict_text(&called, &[]).unwrap() + "\n";
+    assert!(unbalanced.starts_with("core row 0 balance 2 Keccak "), "{unbalanced}");
     let cut = folder.put("cut", &bytes(&row[1..]));
     let large = folder.put("large", &bytes(&[vec![0; 485], vec![P]].concat()));
     let odd = folder.put("odd", &[0; 9]);
@@ -221,7 +225,7 @@ fn judged_files() {
     let cases = [
         (&honest, &none, 0, "holds 0\n"),
         (&none, &none, 0, "holds 0\n"),
-        (&active, &none, 1, "core row 0 balance 2\n"),
+        (&active, &none, 1, &unbalanced),
         (&cut, &none, 1, "refused 2 0\n"),
         (&none, &cut, 1, "refused 2 1\n"),
         (&large, &none, 1, "refused 5 485\n"),
@@ -266,7 +270,11 @@ fn every_failure_has_a_line() {
     let all = ran(run, &["judge", "--all", &core, &round], &[]);
     assert_eq!(all, (1, lines.into(), String::new()));
     let first = "core row 0 balance 3\n";
-    assert_eq!(ran(run, &["judge", &core, &round], &[]).1, first);
+    assert!(
+        ran(run, &["judge", &core, &round], &[])
+            .1
+            .starts_with("core row 0 balance 3 Keccak ")
+    );
     for options in [["--all", "--most", "1"], ["--most", "1", "--all"]] {
         let most = ran(run, &[&["judge"], &options[..], &[&core, &round]].concat(), &[]);
         assert_eq!(most, (1, first.into(), "3 more are not shown\n".into()));
@@ -427,6 +435,58 @@ fn explanations_say_operands() {
     assert!(register.contains("      2 to 7  0\n"));
     assert!(register.contains("    19 to 20  TIMESTAMP[0] to TIMESTAMP[1], columns 0 to 1\n"));
     assert!(text(["core", "value", "51"]).ends_with("must be 0 mod p: MU * (1 - MU)\n"));
+}
+
+#[test]
+fn lines_of_verdicts_are_explained() {
+    let text = |line: &str| ran(run, &["explain", line], &[]);
+    let theta = text("round row 7 lookup 223 ByteAlu 2 17 5 21");
+    assert_eq!(theta.0, 0);
+    let begins =
+        "round row 7: a lookup fails, the table that is looked up has no such tuple.\n  17 XOR 5 is 20, and not 21\n";
+    assert!(theta.1.starts_with(begins), "{}", theta.1);
+    assert!(
+        theta
+            .1
+            .contains("THETA[0][0][0], column 463\n              found: 21\n"),
+        "{}",
+        theta.1
+    );
+    let parts = [
+        "explain", "round", "row", "7", "lookup", "223", "ByteAlu", "2", "17", "5", "21",
+    ];
+    assert_eq!(ran(run, &parts, &[]), theta);
+    assert!(text("holds 3").1.starts_with("Both tables hold."));
+    assert!(
+        text("core row 0 value 51")
+            .1
+            .ends_with("must be 0 mod p: MU * (1 - MU)\n")
+    );
+    assert!(
+        text("core row 4 timestamp 0")
+            .1
+            .contains("TIMESTAMP[0] and TIMESTAMP[1], columns 0 and 1\n")
+    );
+    let row = keccak::keccak_table(&operations(1)).unwrap();
+    let line = verdict_text(&row, &[]).unwrap();
+    let (status, output, _) = text(&line);
+    assert_eq!(status, 0);
+    assert!(output.starts_with("core row 0: the Keccak bus is out of balance"));
+    assert!(output.contains("found: 0\n"), "{output}");
+    for wrong in [
+        "core row 0 value 52",
+        "core row x value 1",
+        "core row 0 timestamp 1",
+        "round row 0 timestamp 0",
+        "core row 0 lookup 54 ByteAlu 0 1 7",
+        "core row 0 lookup 54 AreBytes 0 1",
+        "core row 0 value 1 ByteAlu",
+        "core row 0",
+        "core row 0 column 1",
+    ] {
+        let (status, output, _) = text(wrong);
+        assert_eq!((status, output.as_str()), (2, ""), "{wrong}");
+    }
 }
 
 #[test]

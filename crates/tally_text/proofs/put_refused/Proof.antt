@@ -1,7 +1,7 @@
 -- `tally_text::put_refused` meets its contract: a word and two numbers.
 use mathlib.Core.Path.{ap}
 use native.Mathlib.Omega.{arith}
-use Rattle.text.specs.Text.{decimalOf, lineOf}
+use Rattle.text.specs.Text.{decimalOf, namedNumber}
 use Rattle.text.proofs.Laws.{puts-as, puts-then}
 use mathlib.Core.List.{[], _∷_}
 use Rattle.tally_text.specs.Output.{textOf}
@@ -41,7 +41,7 @@ returns c =
     let r = c .before .before .put-line .ensures in
     let n = c .before .before .before .before .before .before .before .before .before .before .before .before .before .before .before .number .ensures in
     let d = c .before .before .before .before .before .before .before .before .before .before .before .before .before .before .detail .ensures in
-    (puts-then (puts-then p (puts-as (q .0) (ap decimalOf n))) (puts-as (r .0) (ap (lineOf (32 ∷ [])) d)), omega (arith, p .ends, q .1, r .1))
+    (puts-then (puts-then p (puts-as (q .0) (ap decimalOf n))) (puts-as (r .0) (ap (namedNumber (32 ∷ [])) d)), omega (arith, p .ends, q .1, r .1))
 
 pub put-refused-spec : {M : Type 1} → statement M
 put-refused-spec =

@@ -1,10 +1,11 @@
 -- `text::decimal` meets its contract: after each turn the digits so far stand at the end.
 use Rattle.text.proofs.Laws.{room, digit-more, digit-last}
+use Rattle.text.proofs.Numbers.{decimal-digits}
 use Rattle.text.specs.Text.{digitsOf, decimalOf}
 use lib.ListN.{length, drop, length-set}
 use native.Mathlib.Omega.{arith}
 use mathlib.Core.List.{_++_, append-nil}
-use mathlib.Core.Path.{_≡_, sym, refl}
+use mathlib.Core.Path.{_≡_, sym, refl, _∙_}
 use Prim.Native.Nat.{_+_, _^_, _≤_, _<_}
 use Rattle.text.proofs.decimal.Statement.{statement}
 use Rattle.text.proofs.decimal.Tie as tie
@@ -16,8 +17,7 @@ abbrev μ-loop : tie.MeasureT-loop
 μ-loop n bytes₀ i₀ rest₀ bytes i rest = rest
 
 loop-holds : tie.Need-loop-holds Inv-loop μ-loop
-unfolding decimalOf
-loop-holds c = (omega arith, refl, omega arith, sym (append-nil _))
+loop-holds c = (omega arith, refl, omega arith, decimal-digits 19 (c .args .n) (omega arith) ∙ sym (append-nil _))
 
 low-requires : tie.Need-low-requires Inv-loop μ-loop
 low-requires c κs = omega arith

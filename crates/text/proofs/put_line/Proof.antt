@@ -1,6 +1,6 @@
 -- `text::put_line` meets its contract: the name, the number, a line end.
 use Rattle.text.proofs.Laws.{puts-then, puts-byte, puts-long}
-use Rattle.text.specs.Text.{lineOf}
+use Rattle.text.specs.Text.{namedNumber}
 use lib.ListN.{length-set}
 use native.Mathlib.Omega.{arith}
 use mathlib.Core.Path.{_∙_}
@@ -27,7 +27,7 @@ same-length c =
     length-set (c .before .before .put-decimal .last .0) (c .before .before .put-decimal .result) _ ∙ puts-long q ∙ puts-long p
 
 returns : tie.Need-returns
-unfolding lineOf
+unfolding namedNumber
 returns c =
     let p = c .before .before .before .before .before .before .put .ensures in
     let q = c .before .before .put-decimal .ensures in

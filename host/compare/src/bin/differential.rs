@@ -5,19 +5,20 @@
 use std::process::ExitCode;
 
 use compare::comparison::Comparison;
-use compare::{limit, looked_up, refusals, rows, say, tally, tuples, values, verdicts};
+use compare::{limit, lines, looked_up, refusals, rows, say, tally, tuples, values, verdicts};
 
 /// An area: it compares with a seed and a number of drawn inputs.
 type Area = fn(&mut Comparison, u64, usize);
 
 /// The areas, in the order in which `all` runs them.
-const AREAS: [(&str, Area); 8] = [
+const AREAS: [(&str, Area); 9] = [
     ("rows", rows::compare),
     ("looked_up", looked_up::compare),
     ("values", values::compare),
     ("tuples", tuples::compare),
     ("tally", tally::compare),
     ("verdict", verdicts::compare),
+    ("line", lines::compare),
     ("refusals", refusals::compare),
     ("limit", limit::compare),
 ];
@@ -29,6 +30,7 @@ usage: differential all [SEED [N]]       (each of these in turn)
        differential values [SEED [N]]    (N drawn rows of each kind)
        differential tuples [SEED [N]]    (N drawn rows of each kind)
        differential verdict [SEED [N]]   (N changes of words, N of rows, N / 10 tables of many calls)
+       differential line [SEED [N]]      (N changes of words, N of rows)
        differential tally [SEED [N]]     (N drawn files)
        differential refusals [SEED [N]]  (N / 20 times the drawn lists)
        differential limit [SEED]         (files of 37 GB; N has no part in it)

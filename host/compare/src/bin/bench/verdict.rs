@@ -4,7 +4,7 @@
 //! which puts a row's values and each tuple into vectors of their own, and balances the bus in a hash map; so a ratio below
 //! 1 says nothing of a judge in Rust that allocates less. Written tables of 1, 100 and 2,730 calls, which hold; then the
 //! tables of 100 calls with one OUTPUT byte changed, and with the round rows in the other order: there a judge that
-//! relies on the writer's order has to search.
+//! relies on the writer's order has to search. `line-100` is the line of text over the verdict alone, both ours.
 
 use compare::say;
 use std::hint::black_box;
@@ -13,7 +13,7 @@ use compare::dishonest::Tables;
 use compare::inputs::Words;
 use compare::judge;
 use compare::verdicts::words;
-use keccak_tables::verdict::verdict;
+use keccak_tables::verdict::{LINE_MOST, verdict, verdict_line};
 use keccak_tables::{keccak, keccak_rnd};
 
 use crate::timing::both;
@@ -26,6 +26,8 @@ pub fn run() {
     let mut failing = honest.clone();
     failing.core_row(99)[210] ^= 1;
     judges("verdict-100-output", &failing, 5);
+    lines("line-100", &honest, 9);
+    lines("line-100-output", &failing, 9);
     let mut reversed = honest;
     reversed.round = reversed
         .round
@@ -46,4 +48,16 @@ fn judges(name: &str, tables: &Tables, runs: usize) {
     let ours = || verdict(black_box(core), black_box(round));
     let other = || judge::verdict(black_box(core), black_box(round));
     both(name, runs, rows, ("ours", ours), ("the independent judge", other));
+}
+
+/// The line of a verdict over the verdict alone.
+fn lines(name: &str, tables: &Tables, runs: usize) {
+    let Tables { core, round } = tables;
+    let rows = core.len() / keccak::NUM_COLUMNS + round.len() / keccak_rnd::NUM_COLUMNS;
+    let mut line = [0; LINE_MOST];
+    let length = verdict_line(core, round, &mut line);
+    say!("{name}, {rows} rows, a line of {length:?} bytes: time of a row");
+    let lined = || verdict_line(black_box(core), black_box(round), black_box(&mut [0; LINE_MOST]));
+    let alone = || verdict(black_box(core), black_box(round));
+    both(name, runs, rows, ("the line", lined), ("the verdict", alone));
 }

@@ -1,0 +1,78 @@
+-- The call's refusals: accepted exactly where the verdict is no refusal and the line fits; else 2 or 5, as the verdict is
+-- refused, and after them 3 with the line's length. Where LINE-MOST bytes are lent, never by 3.
+use Prim.Native.Nat.{ℕ, _≤_, _<_}
+use mathlib.Core.Path.{_≡_, refl, subst, _∙_}
+use mathlib.Core.Logic.{_↔_}
+use mathlib.Core.Option.{Option, none, some}
+use mathlib.Core.List.{List}
+use native.Mathlib.Omega.{arith}
+use lib.Dec.{T}
+use lib.ListN.{length, take, drop}
+use Rattle.lists.specs.First.{isSome}
+use Rattle.answer.specs.Refusal.{accepted}
+use Rattle.answer.specs.declared.Refusal.{Refusal}
+use Rattle.answer.specs.declared.Refusal.the-variants.{TooShort}
+use Rattle.answer.proofs.Laws.{new-words, old-words}
+use Rattle.answer.proofs.Refusals.{room-accepted, room-refused}
+use Rattle.verdict.specs.CoreAndRound.{verdictAt}
+use Rattle.verdict.specs.declared.Verdict.{Verdict}
+use Rattle.verdict.specs.declared.Verdict.the-variants.{Refused, Value, Lookup, Repeated, Unbalanced, Holds}
+use Rattle.verdict_line.specs.Line.{LINE-MOST, Judged, refusedBy, lineAt, lineRefusal, lineAfter}
+use Rattle.verdict_line.proofs.Tuples.{Small}
+use Rattle.verdict_line.proofs.Most.{line-most}
+
+-- ---- refused as a verdict is
+pub judged-later : (v : Verdict) (later : Option Refusal) → Judged v → refusedBy v later ≡ later
+unfolding refusedBy
+judged-later (Value t r i) later j = refl
+judged-later (Lookup t r i) later j = refl
+judged-later (Repeated r) later j = refl
+judged-later (Unbalanced t r i) later j = refl
+judged-later (Holds n) later j = refl
+judged-later (Refused r) later j = absurd j
+
+pub refused-first : (v : Verdict) (later : Option Refusal) (r : Refusal) → v ≡ Refused r → refusedBy v later ≡ some r
+unfolding refusedBy
+refused-first v later r e = rw e
+
+passed-judged : (v : Verdict) (later : Option Refusal) → refusedBy v later ≡ none → Judged v × (later ≡ none)
+unfolding refusedBy
+passed-judged (Value t r i) later e = (tt, e)
+passed-judged (Lookup t r i) later e = (tt, e)
+passed-judged (Repeated r) later e = (tt, e)
+passed-judged (Unbalanced t r i) later e = (tt, e)
+passed-judged (Holds n) later e = (tt, e)
+passed-judged (Refused r) later e = absurd (subst (λ (o : Option Refusal). T (isSome o)) e tt)
+
+-- ---- the call
+module _ (nr : ℕ) (core round : List ℕ) (room : ℕ) where
+  pub line-accepted : (lineRefusal nr core round room ≡ accepted) ↔ (Judged (verdictAt nr core round) × (length (lineAt nr core round) ≤ room))
+  unfolding lineRefusal
+  line-accepted = (
+    (λ e. let q = passed-judged (verdictAt nr core round) _ e in (q .0, room-accepted room (length (lineAt nr core round)) .0 (q .1))),
+    λ h. judged-later (verdictAt nr core round) _ (h .0) ∙ room-accepted room (length (lineAt nr core round)) .1 (h .1),
+  )
+
+  -- 2 and 5, whatever is lent
+  pub line-refused : (r : Refusal) → verdictAt nr core round ≡ Refused r → lineRefusal nr core round room ≡ some r
+  unfolding lineRefusal
+  line-refused r e = refused-first (verdictAt nr core round) _ r e
+
+  -- 3 after them, detail the line's length
+  pub line-short : Judged (verdictAt nr core round) → room < length (lineAt nr core round) →
+      lineRefusal nr core round room ≡ some (TooShort (length (lineAt nr core round)))
+  unfolding lineRefusal
+  line-short j l = judged-later (verdictAt nr core round) _ j ∙ room-refused room (length (lineAt nr core round)) accepted l
+
+  -- "a caller who lends that many bytes is never refused by 3": of tables that fit in memory
+  pub line-fits : Small (length core) → Small (length round) → LINE-MOST ≤ room → Judged (verdictAt nr core round) →
+      lineRefusal nr core round room ≡ accepted
+  line-fits c d l j = line-accepted .1 (j, omega (arith, l, line-most nr core round c d))
+
+-- what an accepted call leaves: the line, and past it the old bytes
+module _ (nr : ℕ) (core round bytes : List ℕ) (passed : lineRefusal nr core round (length bytes) ≡ accepted) where
+  pub line-left : take (length (lineAt nr core round)) (lineAfter nr core round bytes) ≡ lineAt nr core round
+  line-left = new-words (lineAt nr core round) bytes passed
+
+  pub line-past : drop (length (lineAt nr core round)) (lineAfter nr core round bytes) ≡ drop (length (lineAt nr core round)) bytes
+  line-past = old-words (lineAt nr core round) bytes passed

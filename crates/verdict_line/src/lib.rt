@@ -1,0 +1,160 @@
+// The verdict as one English line: `holds 3`, `core row 0 value 12`, `round row 7 lookup 223 ByteAlu 2 17 5 20`.
+use answer::Number;
+use answer::Refusal;
+use judge::verdict;
+use judge_scan::row_at;
+use keccak_rnd_tuples;
+use keccak_tuples;
+use text::put;
+use tuple::BusInteraction;
+use verdict::Table;
+use verdict::Verdict;
+use words::put_bus;
+use words::put_number;
+use words::put_place;
+use words::put_values;
+ghost use mathlib.Core.Path.{_≡_};
+ghost use mathlib.Core.Option.{some};
+ghost use mathlib.Core.List.{_++_};
+ghost use Prim.Native.Nat.{_+_, _≤_};
+ghost use lib.ListN.{length, take};
+ghost use lib.Seq.{sets};
+ghost use Rattle.answer.specs.Refusal.{accepted, tooShort, numberOf, overwrite, afterwards};
+ghost use Rattle.text.specs.Text.{Puts, spaced, joined};
+ghost use Rattle.tuple.specs.Call.{interactionOf};
+ghost use Rattle.verdict.specs.CoreAndRound.{verdictOf};
+ghost use Rattle.verdict.specs.declared.Verdict.the-variants.{Holds};
+ghost use Rattle.verdict_line.specs.Line.{LINE-MOST, tupleAt, shownOf, shownBy, placeWords, wordsOf, shownWords};
+ghost use Rattle.verdict_line.specs.Line.{lineOf, refusedBy, lineAnswer, lineAfter};
+ghost use Rattle.verdict_line.specs.Named.{Named};
+
+pub mod words;
+
+// No line is longer.
+pub const LINE_MOST: usize = 4335;
+
+// No tuple has more values.
+const VALUES_MOST: usize = 203;
+
+// Tuple `index` of a row of one of the tables: its values go into `out`. Ecall is not looked up, so no syscall number shows.
+fn tuple_at(
+    core: &[u64],
+    round: &[u64],
+    table: Table,
+    row: usize,
+    index: usize,
+    out: &mut [u64],
+) -> BusInteraction
+    requires { ⌜ Named (now core) (now round) table row index × (203 ≤ length (now out)) ⌝ }
+    ensures answer { λ r. ⌜ r ≡ interactionOf (tupleAt 24 (now (core .entry)) (now (round .entry)) table row index) ⌝ }
+    ensures words { λ _. ⌜ now (out .exit) ≡ overwrite (tupleAt 24 (now (core .entry)) (now (round .entry)) table row index .values) (now (out .entry)) ⌝ }
+{
+    match table {
+        Table::Core => {
+            let words = row_at(core, Table::Core, row);
+            keccak_tuples::row_tuple(words, index, 0, out)
+        }
+        Table::Round => {
+            let words = row_at(round, Table::Round, row);
+            keccak_rnd_tuples::row_tuple(words, index, out)
+        }
+    }
+}
+
+// The bus's name and the tuple's values, behind the words before them.
+fn put_shown(
+    core: &[u64],
+    round: &[u64],
+    table: Table,
+    row: usize,
+    index: usize,
+    out: &mut [u8],
+    at: usize,
+) -> usize
+    requires { ⌜ Named (now core) (now round) table row index × (at + 4274 ≤ length (now out)) ⌝ }
+    ensures { λ r. ⌜ Puts (now (out .entry)) at (spaced (shownWords (some (shownOf (tupleAt 24 (now (core .entry)) (now (round .entry)) table row index))))) (now (out .exit)) r × (r ≤ at + 4274) ⌝ }
+{
+    let mut values = [0u64; VALUES_MOST];
+    let tuple = tuple_at(core, round, table, row, index, &mut values);
+    let bus = tuple.bus;
+    let length = tuple.length;
+    let end = put_bus(out, at, bus);
+    put_values(&values, length, out, end)
+}
+
+// The line of a lookup or a balance.
+fn put_failure(
+    core: &[u64],
+    round: &[u64],
+    table: Table,
+    row: usize,
+    what: &[u8],
+    index: usize,
+    out: &mut [u8],
+) -> usize
+    requires { ⌜ Named (now core) (now round) table row index × (length (now what) ≤ 9) × (LINE-MOST ≤ length (now out)) ⌝ }
+    ensures { λ r. ⌜ Puts (now (out .entry)) 0 (joined (placeWords table row (now (what .entry)) index ++ shownWords (some (shownOf (tupleAt 24 (now (core .entry)) (now (round .entry)) table row index))))) (now (out .exit)) r × (r ≤ LINE-MOST) ⌝ }
+{
+    let end = put_place(out, table, row, what, index);
+    put_shown(core, round, table, row, index, out, end)
+}
+
+// `holds N`.
+fn put_holds(out: &mut [u8], active: usize) -> usize
+    requires { ⌜ 26 ≤ length (now out) ⌝ }
+    ensures { λ r. ⌜ Puts (now (out .entry)) 0 (joined (wordsOf (Holds active))) (now (out .exit)) r × (r ≤ 26) ⌝ }
+{
+    let end = put(out, 0, b"holds");
+    put_number(out, end, active as u64)
+}
+
+// The line of a verdict; answers its length, or the verdict's refusal, which has no line.
+fn put_line(verdict: Verdict, core: &[u64], round: &[u64], out: &mut [u8]) -> Number
+    requires { ⌜ (verdict ≡ verdictOf (now core) (now round)) × (LINE-MOST ≤ length (now out)) ⌝ }
+    ensures answer { λ r. ⌜ r ≡ numberOf (length (lineOf verdict (shownBy 24 (now (core .entry)) (now (round .entry)) verdict))) (refusedBy verdict accepted) ⌝ }
+    ensures bytes { λ _. ⌜ now (out .exit) ≡ sets (now (out .entry)) 0 (lineOf verdict (shownBy 24 (now (core .entry)) (now (round .entry)) verdict)) ⌝ }
+    ensures most { λ _. ⌜ length (lineOf verdict (shownBy 24 (now (core .entry)) (now (round .entry)) verdict)) ≤ LINE-MOST ⌝ }
+{
+    match verdict {
+        Verdict::Value { table, row, index } => {
+            Number::Is(put_place(out, table, row, b"value", index) as u64)
+        }
+        Verdict::Repeated { row } => {
+            Number::Is(put_place(out, Table::Core, row, b"timestamp", 0) as u64)
+        }
+        Verdict::Lookup { table, row, index } => {
+            Number::Is(put_failure(core, round, table, row, b"lookup", index, out) as u64)
+        }
+        Verdict::Unbalanced { table, row, index } => {
+            Number::Is(put_failure(core, round, table, row, b"balance", index, out) as u64)
+        }
+        Verdict::Holds { active } => Number::Is(put_holds(out, active) as u64),
+        Verdict::Refused(refusal) => Number::Refused(refusal),
+    }
+}
+
+// The first n bytes of a text into a lent slice, unless it is too short for them.
+fn copy_line(text: &[u8], n: usize, line: &mut [u8]) -> Number
+    requires { ⌜ n ≤ length (now text) ⌝ }
+    ensures answer { λ r. ⌜ r ≡ numberOf n (tooShort (length (now (line .entry))) n accepted) ⌝ }
+    ensures bytes { λ _. ⌜ now (line .exit) ≡ afterwards (tooShort (length (now (line .entry))) n accepted) (overwrite (take n (now (text .entry))) (now (line .entry))) (now (line .entry)) ⌝ }
+{
+    if line.len() < n {
+        return Number::Refused(Refusal::TooShort(n as u64));
+    }
+    put(line, 0, &text[..n]);
+    Number::Is(n as u64)
+}
+
+// The line of the verdict on a core table and a round table, into the lent bytes; answers its length.
+pub fn verdict_line(core: &[u64], round: &[u64], line: &mut [u8]) -> Number
+    ensures answer { λ r. ⌜ r ≡ lineAnswer 24 (now (core .entry)) (now (round .entry)) (now (line .entry)) ⌝ }
+    ensures bytes { λ _. ⌜ now (line .exit) ≡ lineAfter 24 (now (core .entry)) (now (round .entry)) (now (line .entry)) ⌝ }
+{
+    let judged = verdict(core, round);
+    let mut text = [0u8; LINE_MOST];
+    match put_line(judged, core, round, &mut text) {
+        Number::Refused(refusal) => Number::Refused(refusal),
+        Number::Is(n) => copy_line(&text, n as usize, line),
+    }
+}

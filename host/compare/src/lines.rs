@@ -1,0 +1,126 @@
+//! The line of a verdict against one made in plain Rust, from the independent judge's verdict and the published tuples: on every named
+//! pair of tables and on drawn ones; and lent slices that are too short for it.
+
+use std::collections::HashSet;
+
+use keccak_tables::verdict::{LINE_MOST, verdict_line, verdict_text};
+use oracle::{CORE_COLUMNS, ROUND_COLUMNS};
+
+use crate::comparison::Comparison;
+use crate::dishonest::{Tables, pairs};
+use crate::inputs::Words;
+use crate::judge::{self, Table, Verdict};
+use crate::lent::LentBytes;
+use crate::verdicts::{changed, moved_and_changed};
+
+/// The whole area: the named pairs, `n` drawn changes of words and as many of rows, and every short slice of a few lines.
+pub fn compare(comparison: &mut Comparison, seed: u64, n: usize) {
+    let mut words = Words::new(seed);
+    comparison.group("lines of named pairs of tables");
+    for pair in pairs(seed) {
+        let input = || format!("the line of the pair '{}' of seed {seed}", pair.name);
+        one_line(comparison, &mut words, &input, &pair.tables);
+    }
+    let written: Vec<Tables> = (0..5).map(|calls| Tables::written(calls, &mut words)).collect();
+    comparison.group("lines of written tables with words changed, or rows exchanged, copied, dropped or shuffled");
+    for change in 0..2 * n {
+        let mut tables = written[words.below(5) as usize].clone();
+        let changes = if change % 2 == 0 {
+            changed(&mut tables, &mut words)
+        } else {
+            moved_and_changed(&mut tables, &mut words)
+        };
+        let input = || format!("the line of change {change} of seed {seed}:{changes}");
+        one_line(comparison, &mut words, &input, &tables);
+    }
+    comparison.group("lines: every slice that is too short for one of each kind");
+    let mut kinds = HashSet::new();
+    for pair in pairs(seed) {
+        let Tables { core, round } = &pair.tables;
+        if let Some(line) = line(core, round, judge::verdict(core, round))
+            && kinds.insert(kind(&line))
+        {
+            let input = |room| format!("{room} bytes for the line of the pair '{}' of seed {seed}", pair.name);
+            for room in 0..line.len() {
+                short(comparison, &mut words, &|| input(room), &pair.tables, room, line.len());
+            }
+        }
+    }
+}
+
+/// Table and rule, by the line's words.
+fn kind(line: &str) -> (String, String) {
+    let mut words = line.split(' ').map(str::to_string);
+    let mut word = |at| words.nth(at).unwrap_or_default();
+    (word(0), word(2))
+}
+
+/// The line in plain Rust; a verdict that is a refusal has none.
+pub fn line(core: &[u64], round: &[u64], verdict: Verdict) -> Option<String> {
+    let shown = match verdict {
+        Verdict::Refused(..) => return None,
+        Verdict::Lookup(table, row, index) | Verdict::Balance(table, row, index) => {
+            let (row, index) = (row as usize, index as usize);
+            let mut tuples = match table {
+                Table::Core => oracle::core_tuples(&core[row * CORE_COLUMNS..][..CORE_COLUMNS], 0),
+                Table::Round => oracle::round_tuples(&round[row * ROUND_COLUMNS..][..ROUND_COLUMNS]),
+            };
+            let tuple = tuples.swap_remove(index);
+            let values = tuple.values.iter().map(|value| format!(" {value}"));
+            format!(" {:?}{}", tuple.bus, values.collect::<String>())
+        }
+        _ => String::new(),
+    };
+    Some(format!("{verdict}{shown}"))
+}
+
+/// Our line on two tables: into as many bytes as it needs and a few more, into the most, and into too few.
+fn one_line(comparison: &mut Comparison, words: &mut Words, input: &dyn Fn() -> String, tables: &Tables) {
+    let Tables { core, round } = tables;
+    let answer = judge::verdict(core, round);
+    let Some(line) = line(core, round, answer) else {
+        let Verdict::Refused(number, detail) = answer else {
+            unreachable!("every other verdict has a line")
+        };
+        let mut lent = LentBytes::drawn(words.below(60) as usize, words);
+        let ours = verdict_line(core, round, lent.slice());
+        comparison.answered("verdict_line", input, ours, Some((number, detail)));
+        lent.holds(comparison, input, &[]);
+        return;
+    };
+    let needed = line.len();
+    comparison.equal(
+        |_| format!("longer than any, {}", input()),
+        &[u64::from(needed <= LINE_MOST)],
+        &[1],
+    );
+    let mut lent = LentBytes::drawn(needed + words.below(3) as usize, words);
+    let ours = verdict_line(core, round, lent.slice());
+    comparison.answered("verdict_line", input, ours, None);
+    comparison.equal(|_| input(), &[ours.unwrap_or(0) as u64], &[needed as u64]);
+    lent.holds(comparison, input, line.as_bytes());
+    let text = comparison.done(input, verdict_text(core, round)).unwrap_or_default();
+    comparison.equal(|_| input(), &bytes(&text), &bytes(&line));
+    for room in [needed - 1, words.below(needed as u64) as usize] {
+        short(comparison, words, input, tables, room, needed);
+    }
+}
+
+/// A slice that is one byte or more too short.
+fn short(
+    comparison: &mut Comparison,
+    words: &mut Words,
+    input: &dyn Fn() -> String,
+    tables: &Tables,
+    room: usize,
+    needed: usize,
+) {
+    let mut lent = LentBytes::drawn(room, words);
+    let ours = verdict_line(&tables.core, &tables.round, lent.slice());
+    comparison.answered("verdict_line", input, ours, Some((3, needed as u64)));
+    lent.holds(comparison, input, &[]);
+}
+
+fn bytes(text: &str) -> Vec<u64> {
+    text.bytes().map(u64::from).collect()
+}
