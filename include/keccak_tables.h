@@ -20,6 +20,19 @@
  *   5  a column, a word of a judged table or a counter that is not below p; a   its place in the slice, from 0
  *      word of a list of lookups, keys or rows that is more than it can be
  *   6  a wrong mark or a cut record in an operation file                        the byte where the record starts
+ *   7  an address that is no multiple of 8: no row of it passes its alignment   the first such address
+ *      lookup. It is checked after 4 and before 5
+ *   8  a number of rounds that is 0 or above 24. It is checked before all       that number
+ *      others
+ *   9  a floor that is no power of two from 4 to 65,536. It is checked after 8  that floor
+ *      and before 1
+ *
+ * `nr` is the number of rounds, one for a whole segment: 24 makes and judges the tables of Keccak-f[1600], and nr those of
+ * Keccak-p[1600, nr] of FIPS 202, whose rounds run from 24 - nr to 23.
+ *
+ * `floor` is the least height of a core and of a round table, one for a whole segment, as the verifier has it: 4, 8, 16, and so on to
+ * 65,536. A table has as many rows as the next power of two of those that it needs, and no fewer than the floor; the rest is padding.
+ * The tables that are looked up have no part in it.
  *
  * A list of operations is flat, 52 words each: timestamp, address, 25 input lanes, 25 output lanes; lane (x, y) is at x + 5y.
  * A list of lookups is flat too, 4 words each: kind, x, y, z. A list of keys has 2 words each: a pointer's upper 32 bits, and its bits
@@ -61,6 +74,9 @@ extern "C" {
 #define KECCAK_TABLES_REFUSAL_HIGH_ADDRESS 4
 #define KECCAK_TABLES_REFUSAL_NOT_ELEMENT 5
 #define KECCAK_TABLES_REFUSAL_BAD_RECORD 6
+#define KECCAK_TABLES_REFUSAL_UNALIGNED 7
+#define KECCAK_TABLES_REFUSAL_ROUNDS 8
+#define KECCAK_TABLES_REFUSAL_FLOOR 9
 #define KECCAK_TABLES_LENT_CORE 0
 #define KECCAK_TABLES_LENT_ROUND 1
 #define KECCAK_TABLES_LENT_LIST 2
@@ -112,7 +128,10 @@ extern "C" {
 /* p = 2^64 - 2^32 + 1: a field element is a word below it. */
 #define KECCAK_TABLES_P 0xFFFFFFFF00000001
 
-/* The words of an operation, the most operations of a list, the highest accepted address, the bytes of a file's record. */
+/*
+ * The words of an operation, the most operations of a list, the highest address that is not refused by 4 (the highest multiple of
+ * 8 is 7 below it), the bytes of a file's record.
+ */
 #define KECCAK_TABLES_OP_WORDS 52
 #define KECCAK_TABLES_MAX_OPS 89478485
 #define KECCAK_TABLES_LAST_ADDRESS 0xFFFFFFFFFFFFFF3F
@@ -120,7 +139,7 @@ extern "C" {
 
 /*
  * Bitwise rows: their number, the columns that the index fixes, all columns, the words of the table; the kinds of lookup; the
- * counters; the words of a lookup in a list.
+ * counters; the words of a lookup in a list; the words of a look at a charge.
  */
 #define KECCAK_TABLES_BITWISE_ROWS 1048576
 #define KECCAK_TABLES_BITWISE_FIXED_COLUMNS 11
@@ -129,6 +148,7 @@ extern "C" {
 #define KECCAK_TABLES_BITWISE_KINDS 10
 #define KECCAK_TABLES_BITWISE_COUNTERS 10485760
 #define KECCAK_TABLES_LOOKUP_WORDS 4
+#define KECCAK_TABLES_LOOK_WORDS 20
 
 /* Constant rows: their number, the columns that the row's number fixes, all columns, the words of the table. */
 #define KECCAK_TABLES_RC_ROWS 32
@@ -150,12 +170,22 @@ extern "C" {
 #define KECCAK_TABLES_CORE_TUPLE_WORDS 1457
 #define KECCAK_TABLES_KEY_WORDS 50
 
-/* Round rows: rounds of an operation, columns, values, tuples, the words of a row's tuples. */
+/*
+ * Round rows: the rounds of Keccak-f[1600], which is what `nr` is where nothing else is wanted, and the most that it can be; columns,
+ * values, tuples, the words of a row's tuples.
+ */
 #define KECCAK_TABLES_ROUNDS 24
 #define KECCAK_TABLES_ROUND_COLUMNS 1480
 #define KECCAK_TABLES_ROUND_VALUES 141
 #define KECCAK_TABLES_ROUND_TUPLES 1031
 #define KECCAK_TABLES_ROUND_TUPLE_WORDS 8211
+
+/*
+ * The floor of both tables' heights: the default, which is what `floor` is where nothing else is wanted, and the least that it can be;
+ * then the most.
+ */
+#define KECCAK_TABLES_FLOOR 4
+#define KECCAK_TABLES_MAX_FLOOR 65536
 
 /* Columns of a core row: each group's first. */
 #define KECCAK_TABLES_CORE_TIMESTAMP_0 0
@@ -250,8 +280,9 @@ typedef struct keccak_tables_judgement {
 } keccak_tables_judgement;
 
 /*
- * Where a reader of an operation file stands: refusal and detail of the first fault, or 0 and 0 and then the whole records, the
- * bytes of the next one, and what its address bytes so far make. Hand it from call to call as it is.
+ * Where a reader of an operation file stands: refusal and detail of the first fault, or 0 and 0 and then the whole records at
+ * multiples of 8, the bytes of the next one, what its address bytes so far make, and the whole records at other addresses. Hand it
+ * from call to call as it is.
  */
 typedef struct keccak_tables_cursor {
     uint64_t refusal;
@@ -259,9 +290,13 @@ typedef struct keccak_tables_cursor {
     uint64_t records;
     size_t at;
     uint64_t address;
+    uint64_t unaligned;
 } keccak_tables_cursor;
 
-/* What a file's tables would hold and send: operations, heights, and per bus the sum of multiplicities (Ecall: received). */
+/*
+ * What a file's tables would hold and send: operations, heights, and per bus the sum of multiplicities (Ecall: received). Records at
+ * addresses that are no multiples of 8 are left out of all of these, and `unaligned` is their number.
+ */
 typedef struct keccak_tables_sums {
     uint64_t refusal;
     uint64_t detail;
@@ -275,6 +310,7 @@ typedef struct keccak_tables_sums {
     uint64_t is_wh;
     uint64_t memw;
     uint64_t ecall;
+    uint64_t unaligned;
 } keccak_tables_sums;
 
 /* ---- bitwise rows and their counters ---- */
@@ -376,9 +412,9 @@ keccak_tables_answer keccak_tables_keccak_rc_generate_row(size_t round, uint64_t
 KECCAK_TABLES_MUST_USE
 keccak_tables_answer keccak_tables_generate_keccak_rc_trace(uint64_t *table, size_t table_length);
 
-/* Sets the multiplicities of rounds 0 to 23 to n. 1 n > 89,478,485; 3 table < 320. */
+/* Sets the multiplicities of rounds 24 - nr to 23 to n, and those of the rounds before to 0. 8 nr; 1 n > 89,478,485; 3 table < 320. */
 KECCAK_TABLES_MUST_USE
-keccak_tables_answer keccak_tables_keccak_rc_update_multiplicities(uint64_t *table, size_t table_length, uint64_t n);
+keccak_tables_answer keccak_tables_keccak_rc_update_multiplicities(uint64_t nr, uint64_t *table, size_t table_length, uint64_t n);
 
 /* Tuple `index` of a row of 10 columns, of which it has one. 1 index >= 1; 3 row < 10, then out < 9; 5 a column. */
 KECCAK_TABLES_MUST_USE
@@ -431,51 +467,54 @@ keccak_tables_tuple keccak_tables_is_wh_bus_interaction(const uint64_t *row, siz
 /*
  * Writes the core row of operation `index` of a list. Every address of the list is checked, so a call's time grows with the list: where
  * one row is wanted, lend its 52 words alone, `keccak_tables_keccak_row(ops + 52 * index, 52, 0, row, 486)`.
- * 1 more than 89,478,485 operations, then index >= their number; 2 the list; 3 row < 486; 4 the first high address of the list.
+ * 1 more than 89,478,485 operations, then index >= their number; 2 the list; 3 row < 486; 4, 7 the first such address of the list.
  */
 KECCAK_TABLES_MUST_USE
 keccak_tables_answer keccak_tables_keccak_row(const uint64_t *ops, size_t ops_length, size_t index, uint64_t *row,
                                               size_t row_length);
 
-/* Writes the core table of a list. 1 more than 89,478,485 operations; 2 the list; 3 table < height * 486; 4 a high address. */
+/*
+ * Writes the core table of a list. 9 floor; 1 more than 89,478,485 operations; 2 the list; 3 table < height * 486; 4, 7 an
+ * address.
+ */
 KECCAK_TABLES_MUST_USE
-keccak_tables_answer keccak_tables_generate_keccak_trace(const uint64_t *ops, size_t ops_length, uint64_t *table,
+keccak_tables_answer keccak_tables_generate_keccak_trace(uint64_t floor, const uint64_t *ops, size_t ops_length, uint64_t *table,
                                                          size_t table_length);
 
 /*
  * Writes the rows of a list's operations alone, with no padding. The rows of two lists, one after the other, are those of the list that
  * the two make, so threads can fill one table, each its own part from its part of the list.
- * 1 more than 89,478,485 operations; 2 the list; 3 table < 486 n; 4 a high address.
+ * 1 more than 89,478,485 operations; 2 the list; 3 table < 486 n; 4, 7 an address.
  */
 KECCAK_TABLES_MUST_USE
 keccak_tables_answer keccak_tables_keccak_rows(const uint64_t *ops, size_t ops_length, uint64_t *table, size_t table_length);
 
-/* Writes the keys of a list, 25 to an operation. 1 more than 89,478,485 operations; 2 the list; 3 out < 50 n; 4 a high address. */
+/* Writes the keys of a list, 25 to an operation. 1 more than 89,478,485 operations; 2 the list; 3 out < 50 n; 4, 7 an address. */
 KECCAK_TABLES_MUST_USE
 keccak_tables_answer keccak_tables_is_wh_keys(const uint64_t *ops, size_t ops_length, uint64_t *out, size_t out_length);
 
-/* The height of the core table of n operations: the next power of two, at least 4. 1 n > 89,478,485. */
+/* The height of the core table of n operations: the next power of two, at least the floor. 9 floor; 1 n > 89,478,485. */
 KECCAK_TABLES_MUST_USE
-keccak_tables_number keccak_tables_keccak_height(size_t n);
+keccak_tables_number keccak_tables_keccak_height(uint64_t floor, size_t n);
 
 /* Writes the 52 constraint values of a core row. 3 row < 486, then out < 52; 5 a column. */
 KECCAK_TABLES_MUST_USE
 keccak_tables_answer keccak_tables_keccak_values(const uint64_t *row, size_t row_length, uint64_t *out, size_t out_length);
 
 /*
- * Tuple `index` of a core row; `syscall` is the number of the system call, which stands in tuple 0.
- * 1 index >= 84; 3 row < 486, then out < the tuple's length; 5 a column.
+ * Tuple `index` of a core row; `syscall` is the number of the system call, which stands in tuple 0; tuple 2 sends the input at round
+ * 24 - nr. 8 nr; 1 index >= 84; 3 row < 486, then out < the tuple's length; 5 a column.
  */
 KECCAK_TABLES_MUST_USE
-keccak_tables_tuple keccak_tables_keccak_bus_interaction(const uint64_t *row, size_t row_length, size_t index, uint64_t syscall,
-                                                         uint64_t *out, size_t out_length);
+keccak_tables_tuple keccak_tables_keccak_bus_interaction(uint64_t nr, const uint64_t *row, size_t row_length, size_t index,
+                                                         uint64_t syscall, uint64_t *out, size_t out_length);
 
 /*
  * Writes all 84 tuples of a core row, one after the other: for each bus, side, length and multiplicity, then its values.
- * 3 row < 486, then out < 1,457; 5 a column.
+ * 8 nr; 3 row < 486, then out < 1,457; 5 a column.
  */
 KECCAK_TABLES_MUST_USE
-keccak_tables_answer keccak_tables_keccak_bus_interactions(const uint64_t *row, size_t row_length, uint64_t syscall,
+keccak_tables_answer keccak_tables_keccak_bus_interactions(uint64_t nr, const uint64_t *row, size_t row_length, uint64_t syscall,
                                                            uint64_t *out, size_t out_length);
 
 /* ---- the round table ---- */
@@ -485,22 +524,29 @@ KECCAK_TABLES_MUST_USE
 keccak_tables_answer keccak_tables_keccak_rnd_row(uint64_t timestamp, const uint64_t *start, size_t start_length, size_t round,
                                                   uint64_t *row, size_t row_length);
 
-/* Writes the round table of a list. 1 more than 89,478,485 operations; 2 the list; 3 table < height * 1,480; 4 a high address. */
+/*
+ * Writes the round table of a list, nr rows to an operation. 8 nr; 9 floor; 1 more than 89,478,485 operations; 2 the list; 3 table <
+ * height * 1,480; 4, 7 an address.
+ */
 KECCAK_TABLES_MUST_USE
-keccak_tables_answer keccak_tables_generate_keccak_rnd_trace(const uint64_t *ops, size_t ops_length, uint64_t *table,
-                                                             size_t table_length);
+keccak_tables_answer keccak_tables_generate_keccak_rnd_trace(uint64_t nr, uint64_t floor, const uint64_t *ops, size_t ops_length,
+                                                             uint64_t *table, size_t table_length);
 
-/* Writes the rows of a list's operations alone, 24 to each, likewise. 1, 2 and 4 as the table; 3 table < 24 * 1,480 n. */
+/* Writes the rows of a list's operations alone, nr to each, likewise. 8, 1, 2, 4 and 7 as the table; 3 table < nr * 1,480 n. */
 KECCAK_TABLES_MUST_USE
-keccak_tables_answer keccak_tables_keccak_rnd_rows(const uint64_t *ops, size_t ops_length, uint64_t *table, size_t table_length);
+keccak_tables_answer keccak_tables_keccak_rnd_rows(uint64_t nr, const uint64_t *ops, size_t ops_length, uint64_t *table,
+                                                   size_t table_length);
 
-/* The height of the round table of n operations: the next power of two of 24 n, at least 4. 1 n > 89,478,485. */
+/*
+ * The height of the round table of n operations: the next power of two of nr * n, at least the floor. 8 nr; 9 floor; 1 n >
+ * 89,478,485.
+ */
 KECCAK_TABLES_MUST_USE
-keccak_tables_number keccak_tables_keccak_rnd_height(size_t n);
+keccak_tables_number keccak_tables_keccak_rnd_height(uint64_t nr, uint64_t floor, size_t n);
 
-/* How many AreBytes tuples the padding rows of that table send; 0 where n is 0. 1 n > 89,478,485. */
+/* How many AreBytes tuples the padding rows of that table send; 0 where n is 0. 8 nr; 9 floor; 1 n > 89,478,485. */
 KECCAK_TABLES_MUST_USE
-keccak_tables_number keccak_tables_padding_are_bytes(size_t n);
+keccak_tables_number keccak_tables_padding_are_bytes(uint64_t nr, uint64_t floor, size_t n);
 
 /* Writes the 141 constraint values of a round row. 3 row < 1,480, then out < 141; 5 a column. */
 KECCAK_TABLES_MUST_USE
@@ -516,21 +562,45 @@ KECCAK_TABLES_MUST_USE
 keccak_tables_answer keccak_tables_keccak_rnd_bus_interactions(const uint64_t *row, size_t row_length, uint64_t *out,
                                                                size_t out_length);
 
+/* ---- what a segment looks up on the bitwise table ---- */
+
+/*
+ * Adds to the counters of the bitwise table, mod p, all that the core and the round table of a list look up there, padding rows included.
+ * An empty list adds nothing, and where its tables are shipped the padding rows' pairs of bytes, 220 times the floor. 8 nr; 9 floor;
+ * 1 more than 89,478,485 operations; 2 the list; 3 counters < 10,485,760; 4, 7 an address; 5 any counter.
+ */
+KECCAK_TABLES_MUST_USE
+keccak_tables_answer keccak_tables_charge(uint64_t nr, uint64_t floor, bool shipped, const uint64_t *ops, size_t ops_length,
+                                          uint64_t *counters, size_t counters_length);
+
+/*
+ * A look at that beforehand: `copy` then begins with the counters as the charge would leave them, and `out` with two words for each of
+ * the ten kinds, how many are added and the largest of its counters afterwards. 8, 9, 1, 2, 4, 7 and 5 as above; 3 counters <
+ * 10,485,760, then copy < 10,485,760, then out < 20.
+ */
+KECCAK_TABLES_MUST_USE
+keccak_tables_answer keccak_tables_look(uint64_t nr, uint64_t floor, bool shipped, const uint64_t *ops, size_t ops_length,
+                                        const uint64_t *counters, size_t counters_length, uint64_t *copy, size_t copy_length,
+                                        uint64_t *out, size_t out_length);
+
 /* ---- the verdict ---- */
 
-/* Judges a core table and a round table, either possibly empty. 2 core, then round, is not whole rows; 5 a word, core first. */
+/*
+ * Judges a core table and a round table of nr rounds, either possibly empty. 8 nr; 2 core, then round, is not whole rows; 5 a word, core
+ * first.
+ */
 KECCAK_TABLES_MUST_USE
-keccak_tables_judgement keccak_tables_verdict(const uint64_t *core, size_t core_length, const uint64_t *round,
+keccak_tables_judgement keccak_tables_verdict(uint64_t nr, const uint64_t *core, size_t core_length, const uint64_t *round,
                                               size_t round_length);
 
 /*
  * The same verdict as one line of text, and the line's length: `holds N`; or `core` or `round`, `row R`, then `value I`, `timestamp 0`,
  * `lookup I` or `balance I`, of the last two the bus's name and the tuple's values. Decimals, single spaces, no line end and no zero
- * behind it. Two lines are equal exactly where the verdicts and the shown tuples are. 2 and 5 as above; then 3 line < the line's length,
- * never where KECCAK_TABLES_LINE_MOST bytes are lent.
+ * behind it. Two lines are equal exactly where the verdicts and the shown tuples are. 8, 2 and 5 as above; then 3 line < the line's
+ * length, never where KECCAK_TABLES_LINE_MOST bytes are lent.
  */
 KECCAK_TABLES_MUST_USE
-keccak_tables_number keccak_tables_verdict_line(const uint64_t *core, size_t core_length, const uint64_t *round,
+keccak_tables_number keccak_tables_verdict_line(uint64_t nr, const uint64_t *core, size_t core_length, const uint64_t *round,
                                                 size_t round_length, uint8_t *line, size_t line_length);
 
 /* ---- operation files: records of 418 bytes, 4B 4F and then an operation's 52 words, lowest byte first ---- */
@@ -541,25 +611,30 @@ keccak_tables_cursor keccak_tables_tally_start(void);
 
 /*
  * Reads the next piece of the file, cut anywhere; a fault stays what it is. 1 a byte after record 89,478,485; 4 a record's
- * address, told when all 418 bytes of the record are read; 6 a wrong mark. A cursor whose refusal is none of 0 to
- * 6 counts as 6.
+ * address, told when all 418 bytes of the record are read; 6 a wrong mark. No file gives 7: a record at an address that is no multiple
+ * of 8 is counted apart; nor 8 or 9. A cursor that a caller made up is answered by the refusal that it names, 7 to 9 too; a refusal that
+ * is none of 0 to 9 counts as 6.
  */
 KECCAK_TABLES_MUST_USE
 keccak_tables_cursor keccak_tables_tally_feed(keccak_tables_cursor cursor, const uint8_t *bytes, size_t bytes_length);
 
 /*
- * What the file says at its end: the reader's fault; 1 more than 89,478,485 records, or bytes after the last of them (only a reader
- * that no call made); 6 a cut record; or the sums over the rows of both tables. Where the tables of an empty file are not shipped its
- * sums are 0; where they are, its four zero round rows send 880 on AreBytes. Of a file with records `shipped` changes nothing.
+ * What the file says at its end, of tables with this floor and 24 rounds: 9 floor; then the reader's fault; 1 more than 89,478,485
+ * records, or bytes after the last of them (only a reader that no call made); 6 a cut record; or the sums over the rows of both tables.
+ * Where the tables of an empty file are not shipped its sums are 0; where they are, its zero round rows, as many as the floor, send 220
+ * times the floor on AreBytes. Of a file with a record that is counted `shipped` changes nothing.
  */
 KECCAK_TABLES_MUST_USE
-keccak_tables_sums keccak_tables_tally_finish(bool shipped, keccak_tables_cursor cursor);
+keccak_tables_sums keccak_tables_tally_finish(uint64_t floor, bool shipped, keccak_tables_cursor cursor);
 
-/* Writes the operations of a whole file. 1, 4 and 6 as a reader gives them, for the first faulty record; then 3 ops < 52 n. */
+/*
+ * Writes the operations of a whole file, also at addresses that are no multiples of 8, which the calls that take a list refuse. 1, 4 and
+ * 6 as a reader gives them, for the first faulty record; then 3 ops < 52 n.
+ */
 KECCAK_TABLES_MUST_USE
 keccak_tables_answer keccak_tables_read_operations(const uint8_t *file, size_t file_length, uint64_t *ops, size_t ops_length);
 
-/* Writes the records of a list. 1 more than 89,478,485 operations; 2 the list; 3 file < 418 n; 4 a high address. */
+/* Writes the records of a list. 1 more than 89,478,485 operations; 2 the list; 3 file < 418 n; 4, 7 an address. */
 KECCAK_TABLES_MUST_USE
 keccak_tables_answer keccak_tables_write_operations(const uint64_t *ops, size_t ops_length, uint8_t *file, size_t file_length);
 

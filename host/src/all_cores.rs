@@ -10,13 +10,10 @@ use crate::refusal::Refusal;
 /// beginning a thread costs what it saves.
 const LEAST_WORDS: usize = 1 << 20;
 
-/// A call that writes the rows of a list.
-type WriteRows = fn(&[u64], &mut [u64]) -> Result<(), Refusal>;
-
-/// Writes the rows of a list, as many to an operation as to any other, over the whole of `rows`, and says whether it did. It does not
+/// Writes the rows of a list by a call, as many to an operation as to any other, over the whole of `rows`, and says whether it did. It does not
 /// where two threads would have too little to do, where a part is refused or where there are no threads; then the words are to be
 /// written, or the refusal found, by a call on the whole list.
-pub fn write(ops: &[u64], rows: &mut [u64], call: WriteRows) -> bool {
+pub fn write(ops: &[u64], rows: &mut [u64], call: impl Fn(&[u64], &mut [u64]) -> Result<(), Refusal> + Sync) -> bool {
     let (operations, rest) = ops.as_chunks::<OP_WORDS>();
     let threads = threads(rows.len()).min(operations.len());
     if threads < 2 || !rest.is_empty() {
@@ -24,6 +21,7 @@ pub fn write(ops: &[u64], rows: &mut [u64], call: WriteRows) -> bool {
     }
     let part = operations.len().div_ceil(threads);
     let part_words = part * (rows.len() / operations.len());
+    let call = &call;
     thread::scope(|scope| {
         let parts = operations.chunks(part).zip(rows.chunks_mut(part_words));
         let begun = parts.map(|(operations, rows)| {

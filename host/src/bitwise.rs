@@ -79,6 +79,23 @@ impl BitwiseOperationType {
     pub const fn number(self) -> usize {
         self as usize
     }
+
+    /// Its name in capitals, as the header and the programs write it.
+    #[must_use]
+    pub const fn name(self) -> &'static str {
+        match self {
+            Self::Msb8 => "MSB8",
+            Self::Msb16 => "MSB16",
+            Self::Zero => "ZERO",
+            Self::AreBytes => "ARE_BYTES",
+            Self::IsHalf => "IS_HALF",
+            Self::IsB20 => "IS_B20",
+            Self::Hwsl => "HWSL",
+            Self::ByteAluAnd => "AND",
+            Self::ByteAluOr => "OR",
+            Self::ByteAluXor => "XOR",
+        }
+    }
 }
 
 /// A lookup on the table, by the constructors of the Rust.

@@ -82,6 +82,7 @@ pub struct FlatCursor {
     records: u64,
     at: usize,
     address: u64,
+    unaligned: u64,
 }
 
 /// What a reader says at the end of its file.
@@ -167,7 +168,7 @@ bind! {
     keccak_rc_generate_row = keccak_tables_keccak_rc_generate_row(round: usize, out: &mut [u64]) -> FlatAnswer;
     generate_keccak_rc_trace = keccak_tables_generate_keccak_rc_trace(table: &mut [u64]) -> FlatAnswer;
     keccak_rc_update_multiplicities =
-        keccak_tables_keccak_rc_update_multiplicities(table: &mut [u64], n: u64) -> FlatAnswer;
+        keccak_tables_keccak_rc_update_multiplicities(nr: u64, table: &mut [u64], n: u64) -> FlatAnswer;
     keccak_rc_bus_interaction =
         keccak_tables_keccak_rc_bus_interaction(row: &[u64], index: usize, out: &mut [u64]) -> FlatTuple;
 
@@ -182,34 +183,43 @@ bind! {
         keccak_tables_is_wh_bus_interaction(row: &[u64], index: usize, out: &mut [u64]) -> FlatTuple;
 
     keccak_row = keccak_tables_keccak_row(ops: &[u64], index: usize, row: &mut [u64]) -> FlatAnswer;
-    generate_keccak_trace = keccak_tables_generate_keccak_trace(ops: &[u64], table: &mut [u64]) -> FlatAnswer;
+    generate_keccak_trace =
+        keccak_tables_generate_keccak_trace(floor: u64, ops: &[u64], table: &mut [u64]) -> FlatAnswer;
     keccak_rows = keccak_tables_keccak_rows(ops: &[u64], table: &mut [u64]) -> FlatAnswer;
     is_wh_keys = keccak_tables_is_wh_keys(ops: &[u64], out: &mut [u64]) -> FlatAnswer;
-    keccak_height = keccak_tables_keccak_height(n: usize) -> FlatNumber;
+    keccak_height = keccak_tables_keccak_height(floor: u64, n: usize) -> FlatNumber;
     keccak_values = keccak_tables_keccak_values(row: &[u64], out: &mut [u64]) -> FlatAnswer;
-    keccak_bus_interaction =
-        keccak_tables_keccak_bus_interaction(row: &[u64], index: usize, syscall: u64, out: &mut [u64]) -> FlatTuple;
+    keccak_bus_interaction = keccak_tables_keccak_bus_interaction(
+        nr: u64, row: &[u64], index: usize, syscall: u64, out: &mut [u64]) -> FlatTuple;
     keccak_bus_interactions =
-        keccak_tables_keccak_bus_interactions(row: &[u64], syscall: u64, out: &mut [u64]) -> FlatAnswer;
+        keccak_tables_keccak_bus_interactions(nr: u64, row: &[u64], syscall: u64, out: &mut [u64]) -> FlatAnswer;
 
     keccak_rnd_row =
         keccak_tables_keccak_rnd_row(timestamp: u64, start: &[u64], round: usize, row: &mut [u64]) -> FlatAnswer;
-    generate_keccak_rnd_trace = keccak_tables_generate_keccak_rnd_trace(ops: &[u64], table: &mut [u64]) -> FlatAnswer;
-    keccak_rnd_rows = keccak_tables_keccak_rnd_rows(ops: &[u64], table: &mut [u64]) -> FlatAnswer;
-    keccak_rnd_height = keccak_tables_keccak_rnd_height(n: usize) -> FlatNumber;
-    padding_are_bytes = keccak_tables_padding_are_bytes(n: usize) -> FlatNumber;
+    generate_keccak_rnd_trace = keccak_tables_generate_keccak_rnd_trace(
+        nr: u64, floor: u64, ops: &[u64], table: &mut [u64]) -> FlatAnswer;
+    keccak_rnd_rows = keccak_tables_keccak_rnd_rows(nr: u64, ops: &[u64], table: &mut [u64]) -> FlatAnswer;
+    keccak_rnd_height = keccak_tables_keccak_rnd_height(nr: u64, floor: u64, n: usize) -> FlatNumber;
+    padding_are_bytes = keccak_tables_padding_are_bytes(nr: u64, floor: u64, n: usize) -> FlatNumber;
     keccak_rnd_values = keccak_tables_keccak_rnd_values(row: &[u64], out: &mut [u64]) -> FlatAnswer;
     keccak_rnd_bus_interaction =
         keccak_tables_keccak_rnd_bus_interaction(row: &[u64], index: usize, out: &mut [u64]) -> FlatTuple;
     keccak_rnd_bus_interactions =
         keccak_tables_keccak_rnd_bus_interactions(row: &[u64], out: &mut [u64]) -> FlatAnswer;
 
-    verdict = keccak_tables_verdict(core: &[u64], round: &[u64]) -> FlatVerdict;
-    verdict_line = keccak_tables_verdict_line(core: &[u64], round: &[u64], line: &mut [u8]) -> FlatNumber;
+    charge = keccak_tables_charge(
+        nr: u64, floor: u64, shipped: bool, ops: &[u64], counters: &mut [u64]) -> FlatAnswer;
+    look = keccak_tables_look(
+        nr: u64, floor: u64, shipped: bool, ops: &[u64], counters: &[u64], copy: &mut [u64], out: &mut [u64]
+    ) -> FlatAnswer;
+
+    verdict = keccak_tables_verdict(nr: u64, core: &[u64], round: &[u64]) -> FlatVerdict;
+    verdict_line =
+        keccak_tables_verdict_line(nr: u64, core: &[u64], round: &[u64], line: &mut [u8]) -> FlatNumber;
 
     tally_start = keccak_tables_tally_start() -> FlatCursor;
     tally_feed = keccak_tables_tally_feed(cursor: FlatCursor, bytes: &[u8]) -> FlatCursor;
-    tally_finish = keccak_tables_tally_finish(shipped: bool, cursor: FlatCursor) -> FlatTally;
+    tally_finish = keccak_tables_tally_finish(floor: u64, shipped: bool, cursor: FlatCursor) -> FlatTally;
     read_operations = keccak_tables_read_operations(file: &[u8], ops: &mut [u64]) -> FlatAnswer;
     write_operations = keccak_tables_write_operations(ops: &[u64], file: &mut [u8]) -> FlatAnswer;
 }

@@ -157,7 +157,8 @@ impl IsWhRows {
     ///
     /// # Errors
     ///
-    /// [`PastEnd`](Refusal::PastEnd), [`NotWhole`](Refusal::NotWhole) and [`HighAddress`](Refusal::HighAddress) as [`is_wh_keys`].
+    /// [`PastEnd`](Refusal::PastEnd), [`NotWhole`](Refusal::NotWhole), [`HighAddress`](Refusal::HighAddress) and
+    /// [`Unaligned`](Refusal::Unaligned) as [`is_wh_keys`].
     pub fn of_operations(ops: &[u64]) -> Result<Self, Refusal> {
         let n = ops.len() / OP_WORDS;
         let room = if n > MAX_OPS { 0 } else { n };
@@ -172,7 +173,8 @@ impl IsWhRows {
         &self.0
     }
 
-    /// Their table, padding rows included.
+    /// Their table, padding rows included. Of no rows it has padding rows alone, whose lookups [`charge`](Self::charge) leaves out: nothing is
+    /// sent to such a table, so it is best not shipped.
     ///
     /// # Errors
     ///

@@ -12,6 +12,7 @@
 //! ```
 
 use crate::ffi;
+use crate::parameters::Parameters;
 use crate::refusal::{PAST_END, Refusal};
 use crate::tuple::BusInteraction;
 
@@ -55,7 +56,16 @@ pub fn generate_keccak_rc_trace(table: &mut [u64]) -> Result<(), Refusal> {
 /// [`PastEnd`](Refusal::PastEnd): `n` is more than [`MAX_OPS`](crate::MAX_OPS); [`TooShort`](Refusal::TooShort):
 /// `table` has fewer than 320 words.
 pub fn update_multiplicities(table: &mut [u64], n: u64) -> Result<(), Refusal> {
-    ffi::keccak_rc_update_multiplicities(table, n).named(|number, _| match number {
+    update_multiplicities_with(Parameters::default(), table, n)
+}
+
+/// The same of the last [`rounds`](Parameters::rounds) rounds of the 24; the multiplicities of the rounds before them are set to 0.
+///
+/// # Errors
+///
+/// [`Rounds`](Refusal::Rounds): the rounds are not 1 to 24; then those of [`update_multiplicities`].
+pub fn update_multiplicities_with(parameters: Parameters, table: &mut [u64], n: u64) -> Result<(), Refusal> {
+    ffi::keccak_rc_update_multiplicities(parameters.rounds, table, n).named(|number, _| match number {
         PAST_END => "n",
         _ => "table",
     })

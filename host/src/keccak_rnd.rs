@@ -1,4 +1,4 @@
-//! The round table: 24 rows for each operation. Operations are a flat list, [`OP_WORDS`] words each.
+//! The round table: 24 rows for each operation, or as many as [`Parameters`] say. Operations are a flat list, [`OP_WORDS`] words each.
 //!
 //! ```
 //! use keccak_tables::{Bus, Refusal, Side, keccak_rnd};
@@ -18,7 +18,9 @@ pub mod cols;
 
 use crate::all_cores;
 use crate::ffi;
+use crate::keccak::of_list;
 use crate::operation::OP_WORDS;
+use crate::parameters::Parameters;
 use crate::refusal::{PAST_END, Refusal, TOO_SHORT};
 use crate::tuple::{BusInteraction, of_row};
 
@@ -37,7 +39,7 @@ pub const MAX_TUPLE_LENGTH: usize = 203;
 /// The words of a row's tuples: for each the four of its header, then its values.
 pub const TUPLE_WORDS: usize = 8211;
 
-/// The rounds of an operation.
+/// The rounds of an operation where [`Parameters`] say nothing else, and the most that it can have.
 pub const ROUNDS: usize = 24;
 
 /// Writes the row of a round to the front of `row`: START is the first 25 words of `start`, lane x + 5y.
@@ -62,12 +64,20 @@ pub fn keccak_rnd_row(timestamp: u64, start: &[u64], round: usize, row: &mut [u6
 /// [`PastEnd`](Refusal::PastEnd): more than [`MAX_OPS`](crate::MAX_OPS) operations; [`NotWhole`](Refusal::NotWhole):
 /// `ops` is not whole operations; [`TooShort`](Refusal::TooShort): `table` has fewer than 1,480 words for each row of
 /// [`keccak_rnd_height`]; [`HighAddress`](Refusal::HighAddress): an operation's address is above
-/// [`LAST_ADDRESS`](crate::keccak::LAST_ADDRESS).
+/// [`LAST_ADDRESS`](crate::keccak::LAST_ADDRESS); [`Unaligned`](Refusal::Unaligned): one is no multiple of 8.
 pub fn generate_keccak_rnd_trace(ops: &[u64], table: &mut [u64]) -> Result<(), Refusal> {
-    ffi::generate_keccak_rnd_trace(ops, table).named(|number, _| match number {
-        TOO_SHORT => "table",
-        _ => "ops",
-    })
+    generate_keccak_rnd_trace_with(Parameters::default(), ops, table)
+}
+
+/// The same by these parameters: [`rounds`](Parameters::rounds) rows to an operation, the last of the 24 rounds, of which the first takes
+/// the operation's input; and no fewer rows than the [`floor`](Parameters::floor).
+///
+/// # Errors
+///
+/// [`Rounds`](Refusal::Rounds): the rounds are not 1 to 24; [`Floor`](Refusal::Floor): the floor is no power of two from 4 to 65,536; then
+/// those of [`generate_keccak_rnd_trace`], `table` having 1,480 words for each row of [`keccak_rnd_height_with`].
+pub fn generate_keccak_rnd_trace_with(parameters: Parameters, ops: &[u64], table: &mut [u64]) -> Result<(), Refusal> {
+    ffi::generate_keccak_rnd_trace(parameters.rounds, parameters.floor, ops, table).named(of_list)
 }
 
 /// Writes the rows of a list of operations, 24 to each and without the table's padding, to the front of `table`. The rows of two
@@ -79,12 +89,19 @@ pub fn generate_keccak_rnd_trace(ops: &[u64], table: &mut [u64]) -> Result<(), R
 /// [`PastEnd`](Refusal::PastEnd): more than [`MAX_OPS`](crate::MAX_OPS) operations; [`NotWhole`](Refusal::NotWhole):
 /// `ops` is not whole operations; [`TooShort`](Refusal::TooShort): `table` has fewer than 24 times 1,480 words for each
 /// operation; [`HighAddress`](Refusal::HighAddress): an operation's address is above
-/// [`LAST_ADDRESS`](crate::keccak::LAST_ADDRESS).
+/// [`LAST_ADDRESS`](crate::keccak::LAST_ADDRESS); [`Unaligned`](Refusal::Unaligned): one is no multiple of 8.
 pub fn keccak_rnd_rows(ops: &[u64], table: &mut [u64]) -> Result<(), Refusal> {
-    ffi::keccak_rnd_rows(ops, table).named(|number, _| match number {
-        TOO_SHORT => "table",
-        _ => "ops",
-    })
+    keccak_rnd_rows_with(Parameters::default(), ops, table)
+}
+
+/// The same by these parameters, as [`generate_keccak_rnd_trace_with`]; without padding the floor has no part in it, and is not looked at.
+///
+/// # Errors
+///
+/// [`Rounds`](Refusal::Rounds): the rounds are not 1 to 24; then those of [`keccak_rnd_rows`], `table` having 1,480 words for each round
+/// of each operation.
+pub fn keccak_rnd_rows_with(parameters: Parameters, ops: &[u64], table: &mut [u64]) -> Result<(), Refusal> {
+    ffi::keccak_rnd_rows(parameters.rounds, ops, table).named(of_list)
 }
 
 /// The round table of a list of operations, in memory of its own. The rows of a long list are written on all cores.
@@ -93,13 +110,38 @@ pub fn keccak_rnd_rows(ops: &[u64], table: &mut [u64]) -> Result<(), Refusal> {
 ///
 /// [`PastEnd`](Refusal::PastEnd): more than [`MAX_OPS`](crate::MAX_OPS) operations; [`NotWhole`](Refusal::NotWhole):
 /// `ops` is not whole operations; [`HighAddress`](Refusal::HighAddress): an operation's address is above
-/// [`LAST_ADDRESS`](crate::keccak::LAST_ADDRESS).
+/// [`LAST_ADDRESS`](crate::keccak::LAST_ADDRESS); [`Unaligned`](Refusal::Unaligned): one is no multiple of 8.
 pub fn keccak_rnd_table(ops: &[u64]) -> Result<Vec<u64>, Refusal> {
+    keccak_rnd_table_with(Parameters::default(), ops)
+}
+
+/// The same by these parameters.
+///
+/// ```
+/// use keccak_tables::{Operation, Parameters, Refusal, keccak_rnd};
+///
+/// let list = Operation { timestamp: 5, address: 4096, input: [0; 25], output: [0; 25] }.words();
+/// let twelve = Parameters::default().rounds(12);
+/// let table = keccak_rnd::keccak_rnd_table_with(twelve, &list)?;
+/// assert_eq!(table.len(), 16 * keccak_rnd::NUM_COLUMNS);
+/// let rounds = table.chunks(keccak_rnd::NUM_COLUMNS).map(|row| row[keccak_rnd::cols::ROUND]);
+/// assert!(rounds.take(12).eq(12..24));
+/// assert_eq!(keccak_rnd::keccak_rnd_table_with(twelve.rounds(25), &list), Err(Refusal::Rounds { rounds: 25 }));
+/// # Ok::<(), Refusal>(())
+/// ```
+///
+/// # Errors
+///
+/// [`Rounds`](Refusal::Rounds): the rounds are not 1 to 24; [`Floor`](Refusal::Floor): the floor is no power of two from 4 to 65,536; then
+/// those of [`keccak_rnd_table`].
+pub fn keccak_rnd_table_with(parameters: Parameters, ops: &[u64]) -> Result<Vec<u64>, Refusal> {
     let n = ops.len() / OP_WORDS;
-    let mut table = vec![0; height_for(n, "ops")? * NUM_COLUMNS];
+    let mut table = vec![0; height_for(parameters, n, "ops")? * NUM_COLUMNS];
+    let rows = n * parameters.rounds as usize;
+    let write = |ops: &[u64], rows: &mut [u64]| keccak_rnd_rows_with(parameters, ops, rows);
     // The padding is zero, as the memory is.
-    if !all_cores::write(ops, &mut table[..n * ROUNDS * NUM_COLUMNS], keccak_rnd_rows) {
-        generate_keccak_rnd_trace(ops, &mut table)?;
+    if !all_cores::write(ops, &mut table[..rows * NUM_COLUMNS], write) {
+        generate_keccak_rnd_trace_with(parameters, ops, &mut table)?;
     }
     Ok(table)
 }
@@ -110,12 +152,23 @@ pub fn keccak_rnd_table(ops: &[u64]) -> Result<Vec<u64>, Refusal> {
 ///
 /// [`PastEnd`](Refusal::PastEnd): `n` is more than [`MAX_OPS`](crate::MAX_OPS).
 pub fn keccak_rnd_height(n: usize) -> Result<usize, Refusal> {
-    height_for(n, "n")
+    keccak_rnd_height_with(Parameters::default(), n)
+}
+
+/// The same by these parameters: the next power of two of [`rounds`](Parameters::rounds) times `n`, and no fewer than the
+/// [`floor`](Parameters::floor).
+///
+/// # Errors
+///
+/// [`Rounds`](Refusal::Rounds): the rounds are not 1 to 24; [`Floor`](Refusal::Floor): the floor is no power of two from 4 to 65,536; then
+/// those of [`keccak_rnd_height`].
+pub fn keccak_rnd_height_with(parameters: Parameters, n: usize) -> Result<usize, Refusal> {
+    height_for(parameters, n, "n")
 }
 
 /// The same for a call whose argument by this name has n operations.
-fn height_for(n: usize, argument: &'static str) -> Result<usize, Refusal> {
-    let answer = ffi::keccak_rnd_height(n).named(|_, _| argument);
+fn height_for(parameters: Parameters, n: usize, argument: &'static str) -> Result<usize, Refusal> {
+    let answer = ffi::keccak_rnd_height(parameters.rounds, parameters.floor, n).named(|_, _| argument);
     answer.map(|rows| rows as usize)
 }
 
@@ -125,7 +178,17 @@ fn height_for(n: usize, argument: &'static str) -> Result<usize, Refusal> {
 ///
 /// [`PastEnd`](Refusal::PastEnd): `n` is more than [`MAX_OPS`](crate::MAX_OPS).
 pub fn padding_are_bytes(n: usize) -> Result<u64, Refusal> {
-    ffi::padding_are_bytes(n).named(|_, _| "n")
+    padding_are_bytes_with(Parameters::default(), n)
+}
+
+/// The same by these parameters, of the table that has [`keccak_rnd_height_with`] rows.
+///
+/// # Errors
+///
+/// [`Rounds`](Refusal::Rounds): the rounds are not 1 to 24; [`Floor`](Refusal::Floor): the floor is no power of two from 4 to 65,536; then
+/// those of [`padding_are_bytes`].
+pub fn padding_are_bytes_with(parameters: Parameters, n: usize) -> Result<u64, Refusal> {
+    ffi::padding_are_bytes(parameters.rounds, parameters.floor, n).named(|_, _| "n")
 }
 
 /// Writes the 141 constraint values of a row of 1,480 columns, mod p and in the order of the Rust's `eval`, to the front

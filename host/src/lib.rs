@@ -35,6 +35,7 @@ pub mod keccak_rc;
 pub mod keccak_rnd;
 pub mod layout;
 pub mod operation_file;
+pub mod segment;
 pub mod verdict;
 
 mod all_cores;
@@ -46,7 +47,7 @@ mod refusal;
 mod tuple;
 
 pub use operation::{MAX_OPS, OP_WORDS, Operation};
-pub use parameters::Parameters;
+pub use parameters::{FLOOR, MAX_FLOOR, Parameters};
 pub use refusal::{Lent, Refusal};
 pub use tuple::{Bus, BusInteraction, Side, transposed, tuples};
 

@@ -11,7 +11,7 @@ pub const MAX_OPS: usize = 89_478_485;
 pub struct Operation {
     /// When it was made.
     pub timestamp: u64,
-    /// Where the state lies in memory.
+    /// Where the state lies in memory: a multiple of 8.
     pub address: u64,
     /// The state before.
     pub input: [u64; 25],

@@ -11,14 +11,27 @@
 //! let mut tally = Tally::new();
 //! file.chunks(100).for_each(|piece| tally.feed(piece));
 //! assert_eq!(tally.finish()?.byte_alu, 19_393);
-//! assert_eq!(Tally::new().finish_with(Parameters::default().shipped())?.are_bytes, 880);
+//! let shipped = Parameters::default().shipped();
+//! assert_eq!(Tally::new().finish_with(shipped)?.are_bytes, 880);
+//! assert_eq!(Tally::new().finish_with(shipped.floor(64))?.are_bytes, 64 * 220);
 //!
 //! let mut read = [0; OP_WORDS];
 //! read_operations(&file, &mut read)?;
 //! assert_eq!(read, list);
 //! assert_eq!(read_operations(&file[1..], &mut read), Err(Refusal::BadRecord { start: 0 }));
+//!
+//! // Old files may have records at addresses that are no multiples of 8. They are read, and left out of the count.
+//! file[10] = 4;
+//! let mut tally = Tally::new();
+//! tally.feed(&file);
+//! let sums = tally.finish()?;
+//! assert_eq!((sums.ops, sums.unaligned), (0, 1));
+//! read_operations(&file, &mut read)?;
+//! assert_eq!(write_operations(&read, &mut file), Err(Refusal::Unaligned { address: 4100 }));
 //! # Ok::<(), Refusal>(())
 //! ```
+
+use std::fmt;
 
 use crate::ffi::{self, FlatCursor};
 use crate::parameters::Parameters;
@@ -27,11 +40,12 @@ use crate::refusal::{Refusal, TOO_SHORT};
 /// The bytes of a record.
 pub const RECORD_BYTES: usize = 418;
 
-/// What a file's tables would hold and send: operations, heights, and per bus the sum of multiplicities.
+/// What a file's tables would hold and send: operations, heights, and per bus the sum of multiplicities; and how many records these leave
+/// out. As text, the lines that `tally` prints.
 #[repr(C)]
 #[derive(Debug, Clone, Copy, PartialEq, Eq, Hash)]
 pub struct Sums {
-    /// Records.
+    /// Records at addresses that are multiples of 8.
     pub ops: u64,
     /// Rows of the core table.
     pub core_rows: u64,
@@ -51,10 +65,13 @@ pub struct Sums {
     pub memw: u64,
     /// Received on Ecall.
     pub ecall: u64,
+    /// Records at other addresses, which all the others leave out.
+    pub unaligned: u64,
 }
 
 impl Sums {
-    /// The ten numbers in the order of `tally`, by the names that it prints.
+    /// The ten numbers that `tally` always prints, in its order and by its names. Its last line, `unaligned N`, stands only where there are
+    /// such records.
     #[must_use]
     pub const fn lines(&self) -> [(&'static str, u64); 10] {
         [
@@ -72,7 +89,19 @@ impl Sums {
     }
 }
 
-/// A reader of a file that comes in pieces, cut anywhere. It holds five words, however long the file is.
+impl fmt::Display for Sums {
+    fn fmt(&self, f: &mut fmt::Formatter<'_>) -> fmt::Result {
+        for (name, number) in self.lines() {
+            writeln!(f, "{name} {number}")?;
+        }
+        match self.unaligned {
+            0 => Ok(()),
+            records => writeln!(f, "unaligned {records}"),
+        }
+    }
+}
+
+/// A reader of a file that comes in pieces, cut anywhere. It holds six words, however long the file is.
 #[must_use = "what the file says is the answer of `finish`"]
 #[derive(Debug, Clone)]
 pub struct Tally(FlatCursor);
@@ -96,22 +125,26 @@ impl Tally {
 
     /// What the whole file says, now that it has ended, where the tables of an empty one are not shipped: its sums are 0.
     ///
+    /// Records at addresses that are no multiples of 8 are no fault: they are left out of the sums, and counted beside them.
+    ///
     /// # Errors
     ///
     /// [`PastEnd`](Refusal::PastEnd): a byte after record 89,478,485; [`HighAddress`](Refusal::HighAddress): a record's
     /// address is above [`LAST_ADDRESS`](crate::keccak::LAST_ADDRESS); [`BadRecord`](Refusal::BadRecord): a wrong mark
-    /// or a cut record. The first faulty record is told, and of it the mark before the address.
+    /// or a cut record. The first faulty record is told, and of it the mark before the address. Never [`Unaligned`](Refusal::Unaligned).
     pub fn finish(self) -> Result<Sums, Refusal> {
         self.finish_with(Parameters::default())
     }
 
-    /// The same by these parameters: [`shipped`](Parameters::shipped) counts the rows of an empty file's tables too.
+    /// The same by these parameters: the tables have no fewer rows than the [`floor`](Parameters::floor), and
+    /// [`shipped`](Parameters::shipped) counts the rows of an empty file's tables too. The rounds have no part in it, and are not looked at:
+    /// what is counted is the tables of 24.
     ///
     /// # Errors
     ///
-    /// Those of [`finish`](Self::finish).
+    /// [`Floor`](Refusal::Floor): the floor is no power of two from 4 to 65,536; then those of [`finish`](Self::finish).
     pub fn finish_with(self, parameters: Parameters) -> Result<Sums, Refusal> {
-        ffi::tally_finish(parameters.shipped, self.0).named(|_, _| "bytes")
+        ffi::tally_finish(parameters.floor, parameters.shipped, self.0).named(|_, _| "bytes")
     }
 }
 
@@ -122,6 +155,8 @@ impl Default for Tally {
 }
 
 /// Writes the operations of a file to the front of `ops`. A faulty file is refused as by [`Tally`], and then a short list.
+///
+/// Records at addresses that are no multiples of 8 are read like any other; the calls that take the list then refuse it.
 ///
 /// # Errors
 ///
@@ -140,7 +175,7 @@ pub fn read_operations(file: &[u8], ops: &mut [u64]) -> Result<(), Refusal> {
 /// [`PastEnd`](Refusal::PastEnd): more than [`MAX_OPS`](crate::MAX_OPS) operations; [`NotWhole`](Refusal::NotWhole):
 /// `ops` is not whole operations; [`TooShort`](Refusal::TooShort): `file` has fewer than 418 bytes for each operation;
 /// [`HighAddress`](Refusal::HighAddress): an operation's address is above
-/// [`LAST_ADDRESS`](crate::keccak::LAST_ADDRESS).
+/// [`LAST_ADDRESS`](crate::keccak::LAST_ADDRESS); [`Unaligned`](Refusal::Unaligned): one is no multiple of 8.
 pub fn write_operations(ops: &[u64], file: &mut [u8]) -> Result<(), Refusal> {
     ffi::write_operations(ops, file).named(|number, _| match number {
         TOO_SHORT => "file",

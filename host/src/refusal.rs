@@ -5,7 +5,9 @@ use std::fmt;
 use crate::P;
 use crate::bitwise::NUM_LOOKUP_TYPES;
 use crate::is_wh::MAX_KEYS;
+use crate::keccak_rnd::ROUNDS as MAX_ROUNDS;
 use crate::operation::MAX_OPS;
+use crate::parameters::{FLOOR as LEAST_FLOOR, MAX_FLOOR};
 
 // The refusals' numbers.
 pub(crate) const PAST_END: u64 = 1;
@@ -14,6 +16,9 @@ pub(crate) const TOO_SHORT: u64 = 3;
 const HIGH_ADDRESS: u64 = 4;
 pub(crate) const NOT_ELEMENT: u64 = 5;
 const BAD_RECORD: u64 = 6;
+const UNALIGNED: u64 = 7;
+const ROUNDS: u64 = 8;
+const FLOOR: u64 = 9;
 
 /// Which of the lent slices is not whole.
 #[derive(Debug, Clone, Copy, PartialEq, Eq, Hash)]
@@ -26,8 +31,9 @@ pub enum Lent {
     List,
 }
 
-/// Why a call did nothing. A call's checks are made in this order, each over all its arguments; but a file is read before the
-/// slice that takes its words is looked at, record by record, and there 6 comes before 4.
+/// Why a call did nothing. A call's checks are made in the order of the numbers, but for 8 and then 9, which come before all others, and 7,
+/// which comes between 4 and 5; each over all its arguments. But a file is read before the slice that takes its words is looked at, record by
+/// record, and there 6 comes before 4.
 ///
 /// `argument` is the name of the argument in the call's signature; of a [`Tally`](crate::operation_file::Tally) it is that of `feed`.
 ///
@@ -73,6 +79,22 @@ pub enum Refusal {
         /// The byte where the record starts.
         start: u64,
     },
+    /// 7: an operation's address is no multiple of 8, so that its row could never pass its lookups. A file with such records is read all the
+    /// same; what takes their list refuses it.
+    Unaligned {
+        /// The first such address.
+        address: u64,
+    },
+    /// 8: a number of rounds that is 0 or above 24.
+    Rounds {
+        /// That number.
+        rounds: u64,
+    },
+    /// 9: a floor of the tables' heights that is no power of two from 4 to 65,536.
+    Floor {
+        /// That floor.
+        floor: u64,
+    },
 }
 
 impl Refusal {
@@ -86,6 +108,9 @@ impl Refusal {
             Self::HighAddress { .. } => HIGH_ADDRESS,
             Self::NotElement { .. } => NOT_ELEMENT,
             Self::BadRecord { .. } => BAD_RECORD,
+            Self::Unaligned { .. } => UNALIGNED,
+            Self::Rounds { .. } => ROUNDS,
+            Self::Floor { .. } => FLOOR,
         }
     }
 
@@ -99,6 +124,9 @@ impl Refusal {
             Self::HighAddress { address } => address,
             Self::NotElement { place, .. } => place,
             Self::BadRecord { start } => start,
+            Self::Unaligned { address } => address,
+            Self::Rounds { rounds } => rounds,
+            Self::Floor { floor } => floor,
         }
     }
 
@@ -134,6 +162,9 @@ impl Refusal {
                 place: detail,
             },
             BAD_RECORD => Self::BadRecord { start: detail },
+            UNALIGNED => Self::Unaligned { address: detail },
+            ROUNDS => Self::Rounds { rounds: detail },
+            FLOOR => Self::Floor { floor: detail },
             _ => unreachable!("the definition of the answers has no refusal {number}"),
         })
     }
@@ -158,7 +189,11 @@ impl fmt::Display for Refusal {
             Self::NotWhole { argument, .. } => write!(f, "the last entry of the list {argument} is not whole"),
             Self::TooShort { argument, needed } => {
                 // No other slice of bytes is written to.
-                let unit = if matches!(argument, "file" | "line") { "bytes" } else { "words" };
+                let unit = if matches!(argument, "file" | "line") {
+                    "bytes"
+                } else {
+                    "words"
+                };
                 write!(f, "{argument} is shorter than the {needed} {unit} that are needed")
             }
             Self::HighAddress { address } => write!(
@@ -172,6 +207,15 @@ impl fmt::Display for Refusal {
             } => write!(f, "word {place} of the list {argument} is more than it can be"),
             Self::NotElement { argument, place } => write!(f, "word {place} of {argument} is not below p"),
             Self::BadRecord { start } => write!(f, "the record that starts at byte {start} is cut or has a wrong mark"),
+            Self::Unaligned { address } => write!(
+                f,
+                "address {address} is not a multiple of 8, and the row of an operation there can't be proved"
+            ),
+            Self::Rounds { rounds } => write!(f, "an operation has 1 to {MAX_ROUNDS} rounds, and not {rounds}"),
+            Self::Floor { floor } => write!(
+                f,
+                "a floor of the tables' heights is a power of two from {LEAST_FLOOR} to {MAX_FLOOR}, and not {floor}"
+            ),
         }
     }
 }
@@ -217,6 +261,9 @@ mod tests {
             (4, 9, argument, Refusal::HighAddress { address: 9 }),
             (5, 7, argument, Refusal::NotElement { argument, place: 7 }),
             (6, 418, argument, Refusal::BadRecord { start: 418 }),
+            (7, 4100, argument, Refusal::Unaligned { address: 4100 }),
+            (8, 25, argument, Refusal::Rounds { rounds: 25 }),
+            (9, 2, argument, Refusal::Floor { floor: 2 }),
         ];
         for (number, detail, argument, refusal) in cases {
             assert_eq!(told(number, detail, argument), refusal);
@@ -259,6 +306,19 @@ mod tests {
                 418,
                 "file",
                 "the record that starts at byte 418 is cut or has a wrong mark",
+            ),
+            (
+                7,
+                4100,
+                "ops",
+                "address 4100 is not a multiple of 8, and the row of an operation there can't be proved",
+            ),
+            (8, 0, "ops", "an operation has 1 to 24 rounds, and not 0"),
+            (
+                9,
+                6,
+                "ops",
+                "a floor of the tables' heights is a power of two from 4 to 65536, and not 6",
             ),
         ];
         for (number, detail, argument, words) in cases {

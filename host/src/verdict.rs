@@ -3,6 +3,7 @@
 use std::fmt;
 
 use crate::ffi::{self, FlatVerdict};
+use crate::parameters::Parameters;
 use crate::refusal::{NOT_WHOLE, Refusal, TOO_SHORT, is_large_at};
 
 /// One of the two tables.
@@ -92,7 +93,30 @@ impl Verdict {
 /// [`NotWhole`](Refusal::NotWhole): `core`, then `round`, is not whole rows; [`NotElement`](Refusal::NotElement): a
 /// word of `core`, or else of `round`, is p or more.
 pub fn verdict(core: &[u64], round: &[u64]) -> Result<Verdict, Refusal> {
-    from_flat(ffi::verdict(core, round), core)
+    verdict_with(Parameters::default(), core, round)
+}
+
+/// The same by these parameters: a core row hands its INPUT to the first of [`rounds`](Parameters::rounds) rounds.
+///
+/// ```
+/// use keccak_tables::verdict::{Table, Verdict, verdict_with};
+/// use keccak_tables::{Operation, Parameters, Refusal, keccak, keccak_rnd};
+///
+/// let twelve = Parameters::default().rounds(12);
+/// let list = Operation { timestamp: 5, address: 4096, input: [0; 25], output: [0; 25] }.words();
+/// let (core, round) = (keccak::keccak_table(&list)?, keccak_rnd::keccak_rnd_table_with(twelve, &list)?);
+/// let unbalanced = |index| Ok(Verdict::Unbalanced { table: Table::Core, row: 0, index });
+/// // OUTPUT is not right; by another number of rounds nobody takes INPUT either.
+/// assert_eq!(verdict_with(twelve, &core, &round), unbalanced(3));
+/// assert_eq!(verdict_with(twelve.rounds(13), &core, &round), unbalanced(2));
+/// # Ok::<(), Refusal>(())
+/// ```
+///
+/// # Errors
+///
+/// [`Rounds`](Refusal::Rounds): the rounds are not 1 to 24; then those of [`verdict`].
+pub fn verdict_with(parameters: Parameters, core: &[u64], round: &[u64]) -> Result<Verdict, Refusal> {
+    from_flat(ffi::verdict(parameters.rounds, core, round), core)
 }
 
 /// The most bytes that a line of [`verdict_line`] has.
@@ -119,8 +143,30 @@ pub const LINE_MOST: usize = 4335;
 /// Those of [`verdict`]; then [`TooShort`](Refusal::TooShort): the line does not fit into `line`, which never happens where
 /// [`LINE_MOST`] bytes are lent.
 pub fn verdict_line(core: &[u64], round: &[u64], line: &mut [u8]) -> Result<usize, Refusal> {
-    let name = |number, detail| if number == TOO_SHORT { "line" } else { of_verdict(number, detail, core) };
-    ffi::verdict_line(core, round, line).named(name).map(|length| length as usize)
+    verdict_line_with(Parameters::default(), core, round, line)
+}
+
+/// The line of [`verdict_with`], likewise.
+///
+/// # Errors
+///
+/// [`Rounds`](Refusal::Rounds): the rounds are not 1 to 24; then those of [`verdict_line`].
+pub fn verdict_line_with(
+    parameters: Parameters,
+    core: &[u64],
+    round: &[u64],
+    line: &mut [u8],
+) -> Result<usize, Refusal> {
+    let name = |number, detail| {
+        if number == TOO_SHORT {
+            "line"
+        } else {
+            of_verdict(number, detail, core)
+        }
+    };
+    ffi::verdict_line(parameters.rounds, core, round, line)
+        .named(name)
+        .map(|length| length as usize)
 }
 
 /// The line of [`verdict_line`].
@@ -140,8 +186,17 @@ pub fn verdict_line(core: &[u64], round: &[u64], line: &mut [u8]) -> Result<usiz
 ///
 /// Those of [`verdict`].
 pub fn verdict_text(core: &[u64], round: &[u64]) -> Result<String, Refusal> {
+    verdict_text_with(Parameters::default(), core, round)
+}
+
+/// The line of [`verdict_line_with`].
+///
+/// # Errors
+///
+/// Those of [`verdict_with`].
+pub fn verdict_text_with(parameters: Parameters, core: &[u64], round: &[u64]) -> Result<String, Refusal> {
     let mut line = vec![0; LINE_MOST];
-    let length = verdict_line(core, round, &mut line)?;
+    let length = verdict_line_with(parameters, core, round, &mut line)?;
     line.truncate(length);
     Ok(String::from_utf8(line).expect("a line has letters, digits and spaces"))
 }

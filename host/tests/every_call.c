@@ -28,6 +28,7 @@
 #define GUARD 0xA5A5A5A5A5A5A5A5u
 
 enum { ADDRESS_HALF = 2, ADDRESS_WORD = 3, TIMESTAMP = 5, CORE = 4 * 486, ROUND = 32 * 1480 };
+enum { ROUNDS = KECCAK_TABLES_ROUNDS, FEWER = 12, FLOOR = KECCAK_TABLES_FLOOR, HIGHER = 64 };
 
 static uint64_t operation[52];
 static uint64_t core[CORE + 1];
@@ -234,12 +235,12 @@ static void constant_calls(void) {
     answer = keccak_tables_generate_keccak_rc_trace(table, 319);
     REFUSED(answer, 3, 320);
 
-    answer = CALL(keccak_tables_keccak_rc_update_multiplicities)(table, 320, 7);
+    answer = CALL(keccak_tables_keccak_rc_update_multiplicities)(ROUNDS, table, 320, 7);
     DONE(answer);
     CHECK(table[9] == 7 && table[239] == 7 && table[249] == 0 && table[320] == GUARD);
-    answer = keccak_tables_keccak_rc_update_multiplicities(table, 320, KECCAK_TABLES_MAX_OPS + 1);
+    answer = keccak_tables_keccak_rc_update_multiplicities(ROUNDS, table, 320, KECCAK_TABLES_MAX_OPS + 1);
     REFUSED(answer, 1, 89478486);
-    answer = keccak_tables_keccak_rc_update_multiplicities(table, 319, KECCAK_TABLES_MAX_OPS);
+    answer = keccak_tables_keccak_rc_update_multiplicities(ROUNDS, table, 319, KECCAK_TABLES_MAX_OPS);
     REFUSED(answer, 3, 320);
 
     keccak_tables_tuple tuple = CALL(keccak_tables_keccak_rc_bus_interaction)(table + 230, 10, 0, out, 9);
@@ -305,6 +306,52 @@ static void key_rows(void) {
     free(counters);
 }
 
+static void segment(void) {
+    size_t length = KECCAK_TABLES_BITWISE_COUNTERS;
+    uint64_t out[KECCAK_TABLES_LOOK_WORDS + 1];
+    uint64_t *counters = calloc(length, sizeof *counters);
+    uint64_t *copy = calloc(length, sizeof *copy);
+    CHECK(counters != NULL && copy != NULL);
+    out[20] = GUARD;
+    keccak_tables_answer answer =
+        CALL(keccak_tables_look)(ROUNDS, FLOOR, false, operation, 52, counters, length, copy, length, out, 20);
+    DONE(answer);
+    /* AreBytes, IsHalfword, AND and XOR; every counter was 0. */
+    CHECK(out[6] == 7044 && out[8] == 25 && out[14] == 4801 && out[18] == 14592 && out[20] == GUARD);
+    CHECK(out[2 * KECCAK_TABLES_KIND_OR] == 0 && out[9] == 1 && counters[3] == 0 && copy[3] == out[7]);
+    answer = CALL(keccak_tables_charge)(ROUNDS, FLOOR, false, operation, 52, counters, length);
+    DONE(answer);
+    CHECK(memcmp(counters, copy, length * sizeof *copy) == 0);
+    answer = keccak_tables_charge(ROUNDS, FLOOR, true, operation, 0, counters, length);
+    DONE(answer);
+    CHECK(counters[3] == copy[3] + 880);
+    /* Twelve rounds, and four rows of padding. */
+    answer = keccak_tables_look(FEWER, FLOOR, false, operation, 52, counters, length, copy, length, out, 20);
+    DONE(answer);
+    CHECK(out[6] == 4 + 16 * 220 && out[8] == 25 && out[14] == 1 + 12 * 200 && out[18] == 12 * 608);
+    answer = keccak_tables_charge(FEWER, FLOOR, true, operation, 52, counters, length);
+    DONE(answer);
+    CHECK(memcmp(counters, copy, length * sizeof *copy) == 0);
+    /* Sixty-four rows of the round table, all of them padding. */
+    answer = keccak_tables_look(FEWER, HIGHER, true, operation, 0, counters, length, copy, length, out, 20);
+    DONE(answer);
+    CHECK(out[6] == HIGHER * 220 && out[8] == 0 && out[14] == 0 && out[18] == 0 && copy[3] == counters[3] + HIGHER * 220);
+    answer = keccak_tables_charge(FEWER, HIGHER, true, operation, 0, counters, length);
+    DONE(answer);
+    CHECK(memcmp(counters, copy, length * sizeof *copy) == 0);
+    answer = keccak_tables_charge(ROUNDS, FLOOR, false, operation, 51, counters, length);
+    REFUSED(answer, 2, 2);
+    answer = keccak_tables_look(ROUNDS, FLOOR, false, operation, 52, counters, length, copy, length - 1, out, 0);
+    REFUSED(answer, 3, length);
+    answer = keccak_tables_look(ROUNDS, FLOOR, false, operation, 52, counters, length, copy, length, out, 19);
+    REFUSED(answer, 3, 20);
+    counters[9] = KECCAK_TABLES_P;
+    answer = keccak_tables_charge(ROUNDS, FLOOR, false, operation, 52, counters, length);
+    REFUSED(answer, 5, 9);
+    free(counters);
+    free(copy);
+}
+
 static void core_rows(void) {
     uint64_t row[487];
     row[486] = core[CORE] = GUARD;
@@ -316,12 +363,12 @@ static void core_rows(void) {
     answer = keccak_tables_keccak_row(operation, 52, 0, row, 485);
     REFUSED(answer, 3, 486);
 
-    answer = CALL(keccak_tables_generate_keccak_trace)(operation, 52, core, CORE);
+    answer = CALL(keccak_tables_generate_keccak_trace)(FLOOR, operation, 52, core, CORE);
     DONE(answer);
     CHECK(memcmp(core, row, 486 * sizeof *row) == 0 && core[486 + 413] == 8 && core[486 + 485] == 0 && core[CORE] == GUARD);
-    answer = keccak_tables_generate_keccak_trace(operation, 51, core, CORE);
+    answer = keccak_tables_generate_keccak_trace(FLOOR, operation, 51, core, CORE);
     REFUSED(answer, 2, 2);
-    answer = keccak_tables_generate_keccak_trace(operation, 52, core, CORE - 1);
+    answer = keccak_tables_generate_keccak_trace(FLOOR, operation, 52, core, CORE - 1);
     REFUSED(answer, 3, CORE);
 }
 
@@ -337,10 +384,10 @@ static void core_keys(void) {
     REFUSED(answer, 4, operation[1]);
     operation[1] = address;
 
-    keccak_tables_number number = CALL(keccak_tables_keccak_height)(5);
+    keccak_tables_number number = CALL(keccak_tables_keccak_height)(FLOOR, 5);
     DONE(number);
     CHECK(number.value == 8);
-    number = keccak_tables_keccak_height(KECCAK_TABLES_MAX_OPS + 1);
+    number = keccak_tables_keccak_height(FLOOR, KECCAK_TABLES_MAX_OPS + 1);
     REFUSED(number, 1, 89478486);
 }
 
@@ -357,7 +404,7 @@ static void core_evaluations(void) {
     answer = keccak_tables_keccak_values(row, 486, values, 51);
     REFUSED(answer, 3, 52);
 
-    keccak_tables_tuple tuple = CALL(keccak_tables_keccak_bus_interaction)(row, 486, 0, 0x700000006, out, 204);
+    keccak_tables_tuple tuple = CALL(keccak_tables_keccak_bus_interaction)(ROUNDS, row, 486, 0, 0x700000006, out, 204);
     DONE(tuple);
     CHECK(tuple.bus == 7 && tuple.side == 1 && tuple.multiplicity == 1 && tuple.length <= 203);
     /* The number's two halves are among the values. */
@@ -367,17 +414,17 @@ static void core_evaluations(void) {
         high += out[value] == 7;
     }
     CHECK(low == 1 && high == 1);
-    tuple = keccak_tables_keccak_bus_interaction(row, 486, 84, 0, out, 204);
+    tuple = keccak_tables_keccak_bus_interaction(ROUNDS, row, 486, 84, 0, out, 204);
     REFUSED(tuple, 1, 84);
 
     all[1457] = GUARD;
-    answer = CALL(keccak_tables_keccak_bus_interactions)(row, 486, 0x700000006, all, 1457);
+    answer = CALL(keccak_tables_keccak_bus_interactions)(ROUNDS, row, 486, 0x700000006, all, 1457);
     DONE(answer);
     CHECK(all[0] == 7 && all[1] == 1 && all[2] == 4 && all[3] == 1 && all[6] == 6 && all[7] == 7 && all[1457] == GUARD);
-    answer = keccak_tables_keccak_bus_interactions(row, 486, 0, all, 1456);
+    answer = keccak_tables_keccak_bus_interactions(ROUNDS, row, 486, 0, all, 1456);
     REFUSED(answer, 3, 1457);
     row[485] = KECCAK_TABLES_P;
-    tuple = keccak_tables_keccak_bus_interaction(row, 487, 83, 0, out, 204);
+    tuple = keccak_tables_keccak_bus_interaction(ROUNDS, row, 487, 83, 0, out, 204);
     REFUSED(tuple, 5, 485);
 }
 
@@ -395,12 +442,12 @@ static void round_rows(void) {
     answer = keccak_tables_keccak_rnd_row(TIMESTAMP, operation + 2, 25, 23, row, 1479);
     REFUSED(answer, 3, 1480);
 
-    answer = CALL(keccak_tables_generate_keccak_rnd_trace)(operation, 52, rounds, ROUND);
+    answer = CALL(keccak_tables_generate_keccak_rnd_trace)(ROUNDS, FLOOR, operation, 52, rounds, ROUND);
     DONE(answer);
     CHECK(memcmp(rounds, row, 1480 * sizeof *row) == 0 && rounds[24 * 1480 + 1479] == 0 && rounds[ROUND] == GUARD);
-    answer = keccak_tables_generate_keccak_rnd_trace(operation, 53, rounds, ROUND);
+    answer = keccak_tables_generate_keccak_rnd_trace(ROUNDS, FLOOR, operation, 53, rounds, ROUND);
     REFUSED(answer, 2, 2);
-    answer = keccak_tables_generate_keccak_rnd_trace(operation, 52, rounds, ROUND - 1);
+    answer = keccak_tables_generate_keccak_rnd_trace(ROUNDS, FLOOR, operation, 52, rounds, ROUND - 1);
     REFUSED(answer, 3, ROUND);
 }
 
@@ -425,25 +472,67 @@ static void rows_in_parts(void) {
     uint64_t *round = calloc(2 * 24 * 1480 + 1, sizeof *round);
     CHECK(round != NULL);
     round[2 * 24 * 1480] = GUARD;
-    answer = CALL(keccak_tables_keccak_rnd_rows)(list, 104, round, 2 * 24 * 1480);
+    answer = CALL(keccak_tables_keccak_rnd_rows)(ROUNDS, list, 104, round, 2 * 24 * 1480);
     DONE(answer);
     CHECK(memcmp(round, rounds, 24 * 1480 * sizeof *round) == 0 && round[24 * 1480] == TIMESTAMP + 1);
     CHECK(round[2 * 24 * 1480] == GUARD);
-    answer = keccak_tables_keccak_rnd_rows(list, 103, round, 2 * 24 * 1480);
+    answer = keccak_tables_keccak_rnd_rows(ROUNDS, list, 103, round, 2 * 24 * 1480);
     REFUSED(answer, 2, 2);
     free(round);
 }
 
+/* Each call that takes operations, on a list of two: refused by 7, or by 4 where the other address is high; then accepted. */
+static void addresses(void) {
+    static const struct {
+        uint64_t first, second, refusal, detail;
+    } cases[] = {
+        {4096, 18446744073709551416u, 0, 0},
+        {4096, 18446744073709551424u, KECCAK_TABLES_REFUSAL_HIGH_ADDRESS, 18446744073709551424u},
+        {4096, 18446744073709551423u, KECCAK_TABLES_REFUSAL_UNALIGNED, 18446744073709551423u},
+        {4100, 1, KECCAK_TABLES_REFUSAL_UNALIGNED, 4100},
+        {4100, 18446744073709551424u, KECCAK_TABLES_REFUSAL_HIGH_ADDRESS, 18446744073709551424u},
+    };
+    size_t length = KECCAK_TABLES_BITWISE_COUNTERS;
+    uint64_t list[104], out[4 * 486], *table = calloc(64 * 1480, sizeof *table);
+    uint64_t *counters = calloc(length, sizeof *counters), *copy = calloc(length, sizeof *copy);
+    uint8_t bytes[2 * 418];
+    CHECK(table != NULL && counters != NULL && copy != NULL);
+    memcpy(list, operation, sizeof operation);
+    memcpy(list + 52, operation, sizeof operation);
+    for (size_t i = 0; i < sizeof cases / sizeof *cases; i++) {
+        list[1] = cases[i].first;
+        list[53] = cases[i].second;
+        const keccak_tables_answer answers[] = {
+            keccak_tables_keccak_row(list, 104, 0, out, 486),
+            keccak_tables_generate_keccak_trace(FLOOR, list, 104, out, 4 * 486),
+            keccak_tables_keccak_rows(list, 104, out, 2 * 486),
+            keccak_tables_is_wh_keys(list, 104, out, 100),
+            keccak_tables_generate_keccak_rnd_trace(ROUNDS, FLOOR, list, 104, table, 64 * 1480),
+            keccak_tables_keccak_rnd_rows(ROUNDS, list, 104, table, 48 * 1480),
+            keccak_tables_charge(ROUNDS, FLOOR, false, list, 104, counters, length),
+            keccak_tables_look(ROUNDS, FLOOR, false, list, 104, counters, length, copy, length, out, KECCAK_TABLES_LOOK_WORDS),
+            keccak_tables_write_operations(list, 104, bytes, sizeof bytes),
+        };
+        for (size_t call = 0; call < sizeof answers / sizeof *answers; call++)
+            REFUSED(answers[call], cases[i].refusal, cases[i].detail);
+        /* A short slice comes first. */
+        REFUSED(keccak_tables_is_wh_keys(list, 104, out, 99), 3, 100);
+    }
+    free(table);
+    free(counters);
+    free(copy);
+}
+
 static void round_numbers(void) {
-    keccak_tables_number number = CALL(keccak_tables_keccak_rnd_height)(2731);
+    keccak_tables_number number = CALL(keccak_tables_keccak_rnd_height)(ROUNDS, FLOOR, 2731);
     DONE(number);
     CHECK(number.value == 131072);
-    number = keccak_tables_keccak_rnd_height(KECCAK_TABLES_MAX_OPS + 1);
+    number = keccak_tables_keccak_rnd_height(ROUNDS, FLOOR, KECCAK_TABLES_MAX_OPS + 1);
     REFUSED(number, 1, 89478486);
-    number = CALL(keccak_tables_padding_are_bytes)(1);
+    number = CALL(keccak_tables_padding_are_bytes)(ROUNDS, FLOOR, 1);
     DONE(number);
     CHECK(number.value == 1760);
-    number = keccak_tables_padding_are_bytes(KECCAK_TABLES_MAX_OPS + 1);
+    number = keccak_tables_padding_are_bytes(ROUNDS, FLOOR, KECCAK_TABLES_MAX_OPS + 1);
     REFUSED(number, 1, 89478486);
 }
 
@@ -492,33 +581,184 @@ static void state_orders(void) {
 /* The operation claims a zero output, which is wrong; then the output is put right by the last round's row. */
 static void verdict_calls(void) {
     uint64_t out[203];
-    keccak_tables_judgement verdict = CALL(keccak_tables_verdict)(core, CORE, rounds, ROUND);
+    keccak_tables_judgement verdict = CALL(keccak_tables_verdict)(ROUNDS, core, CORE, rounds, ROUND);
     CHECK(verdict.kind == KECCAK_TABLES_VERDICT_BALANCE && verdict.table == KECCAK_TABLES_TABLE_CORE && verdict.row == 0);
-    keccak_tables_tuple tuple = keccak_tables_keccak_bus_interaction(core, 486, (size_t)verdict.index, 0, out, 203);
+    keccak_tables_tuple tuple = keccak_tables_keccak_bus_interaction(ROUNDS, core, 486, (size_t)verdict.index, 0, out, 203);
     DONE(tuple);
     CHECK(tuple.bus == 5 && tuple.side == 1);
 
     const uint64_t *last = rounds + 23 * 1480;
     memcpy(core + 210, last + 1471, 8 * sizeof *core);
     memcpy(core + 218, last + 1271, 192 * sizeof *core);
-    verdict = keccak_tables_verdict(core, CORE, rounds, ROUND);
+    verdict = keccak_tables_verdict(ROUNDS, core, CORE, rounds, ROUND);
     CHECK(verdict.kind == KECCAK_TABLES_VERDICT_HOLDS && verdict.active == 1 && verdict.row == 0 && verdict.index == 0);
     uint8_t line[KECCAK_TABLES_LINE_MOST];
     memset(line, 0xA5, sizeof line);
-    keccak_tables_number length = CALL(keccak_tables_verdict_line)(core, CORE, rounds, ROUND, line, sizeof line);
+    keccak_tables_number length = CALL(keccak_tables_verdict_line)(ROUNDS, core, CORE, rounds, ROUND, line, sizeof line);
     DONE(length);
     CHECK(length.value == 7 && memcmp(line, "holds 1", 7) == 0 && line[7] == 0xA5);
-    length = keccak_tables_verdict_line(core, CORE, rounds, ROUND, line, 6);
+    length = keccak_tables_verdict_line(ROUNDS, core, CORE, rounds, ROUND, line, 6);
     CHECK(length.refusal == 3 && length.detail == 7 && length.value == 0);
-    length = keccak_tables_verdict_line(core, CORE, rounds, ROUND - 1, line, 0);
+    length = keccak_tables_verdict_line(ROUNDS, core, CORE, rounds, ROUND - 1, line, 0);
     CHECK(length.refusal == 2 && length.detail == 1);
-    verdict = keccak_tables_verdict(core, CORE - 1, rounds, ROUND - 1);
+    verdict = keccak_tables_verdict(ROUNDS, core, CORE - 1, rounds, ROUND - 1);
     CHECK(verdict.kind == KECCAK_TABLES_VERDICT_REFUSED && verdict.refusal == 2 && verdict.detail == 0 && verdict.index == 0);
-    verdict = keccak_tables_verdict(core, CORE, rounds, ROUND - 1);
+    verdict = keccak_tables_verdict(ROUNDS, core, CORE, rounds, ROUND - 1);
     CHECK(verdict.kind == KECCAK_TABLES_VERDICT_REFUSED && verdict.refusal == 2 && verdict.detail == 1 && verdict.index == 0);
     rounds[ROUND - 1] = UINT64_MAX;
-    verdict = keccak_tables_verdict(core, CORE, rounds, ROUND);
+    verdict = keccak_tables_verdict(ROUNDS, core, CORE, rounds, ROUND);
     CHECK(verdict.kind == KECCAK_TABLES_VERDICT_REFUSED && verdict.refusal == 5 && verdict.detail == ROUND - 1 && verdict.index == 0);
+}
+
+/* The same operation by twelve rounds: rows of rounds 12 to 23, judged by their own number and by others. */
+static void fewer_rounds(void) {
+    static uint64_t table[16 * 1480 + 1], constants[321], states[CORE];
+    uint64_t out[203];
+    memcpy(states, core, sizeof states);
+    table[16 * 1480] = constants[320] = GUARD;
+    keccak_tables_number number = keccak_tables_keccak_rnd_height(FEWER, FLOOR, 1);
+    DONE(number);
+    CHECK(number.value == 16);
+    number = keccak_tables_padding_are_bytes(FEWER, FLOOR, 1);
+    DONE(number);
+    CHECK(number.value == 4 * 220);
+    keccak_tables_answer answer = keccak_tables_generate_keccak_rnd_trace(FEWER, FLOOR, operation, 52, table, 16 * 1480);
+    DONE(answer);
+    for (size_t row = 0; row < 12; row++)
+        CHECK(table[1480 * row + KECCAK_TABLES_ROUND_ROUND] == 12 + row && table[1480 * row + KECCAK_TABLES_ROUND_MU] == 1);
+    CHECK(table[12 * 1480 + KECCAK_TABLES_ROUND_MU] == 0 && table[16 * 1480] == GUARD);
+    memset(table + 1480, 0, 15 * 1480 * sizeof *table);
+    answer = keccak_tables_keccak_rnd_rows(FEWER, operation, 52, table, 12 * 1480);
+    DONE(answer);
+
+    const uint64_t *last = table + 11 * 1480;
+    memcpy(states + 210, last + 1471, 8 * sizeof *states);
+    memcpy(states + 218, last + 1271, 192 * sizeof *states);
+    keccak_tables_judgement verdict = keccak_tables_verdict(FEWER, states, CORE, table, 16 * 1480);
+    CHECK(verdict.kind == KECCAK_TABLES_VERDICT_HOLDS && verdict.active == 1);
+    verdict = keccak_tables_verdict(ROUNDS, states, CORE, table, 16 * 1480);
+    CHECK(verdict.kind == KECCAK_TABLES_VERDICT_BALANCE && verdict.table == KECCAK_TABLES_TABLE_CORE && verdict.index == 2);
+    keccak_tables_tuple tuple = keccak_tables_keccak_bus_interaction(FEWER, states, 486, 2, 0, out, 203);
+    DONE(tuple);
+    CHECK(tuple.bus == KECCAK_TABLES_BUS_KECCAK && tuple.side == KECCAK_TABLES_SIDE_SENDER && out[2] == 12);
+    answer = keccak_tables_keccak_bus_interactions(FEWER, states, 486, 0, all, 1457);
+    DONE(answer);
+    uint8_t line[KECCAK_TABLES_LINE_MOST];
+    static const char begins[] = "core row 0 balance 2 Keccak 5 0 11 0 0 ";
+    number = keccak_tables_verdict_line(FEWER + 1, states, CORE, table, 16 * 1480, line, sizeof line);
+    DONE(number);
+    CHECK(number.value > sizeof begins && memcmp(line, begins, sizeof begins - 1) == 0);
+
+    answer = keccak_tables_generate_keccak_rc_trace(constants, 320);
+    DONE(answer);
+    answer = keccak_tables_keccak_rc_update_multiplicities(ROUNDS, constants, 320, 7);
+    DONE(answer);
+    answer = keccak_tables_keccak_rc_update_multiplicities(FEWER, constants, 320, 9);
+    DONE(answer);
+    for (size_t row = 0; row < 32; row++)
+        CHECK(constants[10 * row + 9] == (row >= 12 && row < 24 ? 9 : 0));
+    CHECK(constants[320] == GUARD);
+}
+
+/* A number of rounds that is none is refused before anything else, and nothing is written. */
+static void no_rounds(void) {
+    static const uint64_t numbers[] = {0, KECCAK_TABLES_ROUNDS + 1, UINT64_MAX};
+    for (size_t i = 0; i < sizeof numbers / sizeof *numbers; i++) {
+        uint64_t nr = numbers[i], word = KECCAK_TABLES_P;
+        uint8_t byte = 0xA5;
+        const keccak_tables_answer answers[] = {
+            keccak_tables_generate_keccak_rnd_trace(nr, FLOOR + 1, &word, 1, &word, 0),
+            keccak_tables_keccak_rnd_rows(nr, &word, 1, &word, 0),
+            keccak_tables_keccak_rc_update_multiplicities(nr, &word, 1, UINT64_MAX),
+            keccak_tables_keccak_bus_interactions(nr, &word, 1, 0, &word, 0),
+            keccak_tables_charge(nr, FLOOR + 1, true, operation, 51, &word, 1),
+            keccak_tables_look(nr, FLOOR + 1, false, operation, 51, &word, 1, &word, 0, &word, 0),
+        };
+        for (size_t call = 0; call < sizeof answers / sizeof *answers; call++)
+            REFUSED(answers[call], KECCAK_TABLES_REFUSAL_ROUNDS, nr);
+        const keccak_tables_number given[] = {
+            keccak_tables_keccak_rnd_height(nr, FLOOR + 1, SIZE_MAX),
+            keccak_tables_padding_are_bytes(nr, FLOOR + 1, SIZE_MAX),
+            keccak_tables_verdict_line(nr, &word, 1, &word, 1, &byte, 1),
+        };
+        for (size_t call = 0; call < sizeof given / sizeof *given; call++)
+            CHECK(given[call].refusal == KECCAK_TABLES_REFUSAL_ROUNDS && given[call].detail == nr && given[call].value == 0);
+        keccak_tables_tuple tuple = keccak_tables_keccak_bus_interaction(nr, &word, 1, SIZE_MAX, 0, &word, 0);
+        REFUSED(tuple, KECCAK_TABLES_REFUSAL_ROUNDS, nr);
+        keccak_tables_judgement verdict = keccak_tables_verdict(nr, &word, 1, &word, 1);
+        CHECK(verdict.kind == KECCAK_TABLES_VERDICT_REFUSED && verdict.refusal == 8 && verdict.detail == nr && verdict.index == 0);
+        CHECK(word == KECCAK_TABLES_P && byte == 0xA5);
+    }
+}
+
+/* The same operation with a higher floor: the rows as they were, and padding to the floor. */
+static void higher_floor(void) {
+    static uint64_t table[HIGHER * 1480 + 1], rows[HIGHER * 486 + 1], lower[ROUND], few[CORE];
+    table[HIGHER * 1480] = rows[HIGHER * 486] = GUARD;
+    keccak_tables_number number = keccak_tables_keccak_height(HIGHER, HIGHER);
+    DONE(number);
+    CHECK(number.value == HIGHER);
+    number = keccak_tables_keccak_height(KECCAK_TABLES_MAX_FLOOR, 1);
+    DONE(number);
+    CHECK(number.value == KECCAK_TABLES_MAX_FLOOR);
+    number = keccak_tables_keccak_rnd_height(ROUNDS, HIGHER, 2);
+    DONE(number);
+    CHECK(number.value == HIGHER);
+    number = keccak_tables_keccak_rnd_height(ROUNDS, HIGHER, 3);
+    DONE(number);
+    CHECK(number.value == 128);
+    number = keccak_tables_padding_are_bytes(ROUNDS, HIGHER, 1);
+    DONE(number);
+    CHECK(number.value == 40 * 220);
+    number = keccak_tables_padding_are_bytes(ROUNDS, HIGHER, 0);
+    DONE(number);
+    CHECK(number.value == 0);
+
+    keccak_tables_answer answer = keccak_tables_generate_keccak_trace(FLOOR, operation, 52, few, CORE);
+    DONE(answer);
+    answer = keccak_tables_generate_keccak_trace(HIGHER, operation, 52, rows, HIGHER * 486);
+    DONE(answer);
+    CHECK(memcmp(rows, few, sizeof few) == 0 && rows[HIGHER * 486] == GUARD);
+    for (size_t row = 4; row < HIGHER; row++)
+        CHECK(memcmp(rows + 486 * row, few + 486, 486 * sizeof *rows) == 0);
+    answer = keccak_tables_generate_keccak_trace(HIGHER, operation, 52, rows, HIGHER * 486 - 1);
+    REFUSED(answer, 3, HIGHER * 486);
+    answer = keccak_tables_generate_keccak_rnd_trace(ROUNDS, FLOOR, operation, 52, lower, ROUND);
+    DONE(answer);
+    answer = keccak_tables_generate_keccak_rnd_trace(ROUNDS, HIGHER, operation, 52, table, HIGHER * 1480);
+    DONE(answer);
+    CHECK(memcmp(table, lower, sizeof lower) == 0 && table[HIGHER * 1480] == GUARD);
+    for (size_t word = ROUND; word < HIGHER * 1480; word++)
+        CHECK(table[word] == 0);
+    answer = keccak_tables_generate_keccak_rnd_trace(ROUNDS, HIGHER, operation, 52, table, HIGHER * 1480 - 1);
+    REFUSED(answer, 3, HIGHER * 1480);
+}
+
+/* A floor that is none is refused after the rounds and before anything else, and nothing is written. */
+static void no_floor(void) {
+    static const uint64_t floors[] = {0, 1, 2, 3, 5, 6, 65535, 65537, 131072, (uint64_t)1 << 63, UINT64_MAX};
+    keccak_tables_cursor cut = keccak_tables_tally_feed(keccak_tables_tally_start(), (const uint8_t *)"K", 1);
+    for (size_t i = 0; i < sizeof floors / sizeof *floors; i++) {
+        uint64_t floor = floors[i], word = KECCAK_TABLES_P;
+        const keccak_tables_answer answers[] = {
+            keccak_tables_generate_keccak_trace(floor, &word, 1, &word, 0),
+            keccak_tables_generate_keccak_rnd_trace(ROUNDS, floor, &word, 1, &word, 0),
+            keccak_tables_charge(ROUNDS, floor, true, operation, 51, &word, 1),
+            keccak_tables_look(ROUNDS, floor, false, operation, 51, &word, 1, &word, 0, &word, 0),
+        };
+        for (size_t call = 0; call < sizeof answers / sizeof *answers; call++)
+            REFUSED(answers[call], KECCAK_TABLES_REFUSAL_FLOOR, floor);
+        const keccak_tables_number given[] = {
+            keccak_tables_keccak_height(floor, SIZE_MAX),
+            keccak_tables_keccak_rnd_height(ROUNDS, floor, SIZE_MAX),
+            keccak_tables_padding_are_bytes(ROUNDS, floor, SIZE_MAX),
+        };
+        for (size_t call = 0; call < sizeof given / sizeof *given; call++)
+            CHECK(given[call].refusal == KECCAK_TABLES_REFUSAL_FLOOR && given[call].detail == floor && given[call].value == 0);
+        keccak_tables_sums sums = keccak_tables_tally_finish(floor, true, cut);
+        CHECK(sums.refusal == KECCAK_TABLES_REFUSAL_FLOOR && sums.detail == floor && sums.core_rows == 0 && sums.are_bytes == 0);
+        CHECK(word == KECCAK_TABLES_P);
+    }
 }
 
 static void file_lists(void) {
@@ -543,39 +783,71 @@ static void file_lists(void) {
 static void file_sums(void) {
     keccak_tables_cursor cursor = CALL(keccak_tables_tally_start)();
     DONE(cursor);
-    keccak_tables_sums empty = keccak_tables_tally_finish(false, cursor);
+    keccak_tables_sums empty = keccak_tables_tally_finish(FLOOR, false, cursor);
     DONE(empty);
     CHECK(empty.ops == 0 && empty.core_rows == 4 && empty.round_rows == 4 && empty.byte_alu == 0 && empty.are_bytes == 0);
-    empty = keccak_tables_tally_finish(true, cursor);
+    empty = keccak_tables_tally_finish(FLOOR, true, cursor);
     DONE(empty);
     CHECK(empty.ops == 0 && empty.core_rows == 4 && empty.round_rows == 4 && empty.byte_alu == 0 && empty.are_bytes == 880);
     CHECK(empty.keccak_rc == 0 && empty.is_halfword == 0 && empty.is_wh == 0 && empty.memw == 0 && empty.ecall == 0);
+    empty = keccak_tables_tally_finish(HIGHER, true, cursor);
+    DONE(empty);
+    CHECK(empty.core_rows == HIGHER && empty.round_rows == HIGHER && empty.byte_alu == 0 && empty.are_bytes == HIGHER * 220);
     cursor = CALL(keccak_tables_tally_feed)(cursor, file, 13);
     DONE(cursor);
     CHECK(cursor.records == 0 && cursor.at == 13);
-    keccak_tables_sums sums = CALL(keccak_tables_tally_finish)(false, cursor);
+    keccak_tables_sums sums = CALL(keccak_tables_tally_finish)(FLOOR, false, cursor);
     REFUSED(sums, 6, 0);
     cursor = keccak_tables_tally_feed(cursor, file + 13, 405);
-    sums = keccak_tables_tally_finish(false, cursor);
+    sums = keccak_tables_tally_finish(FLOOR, false, cursor);
     DONE(sums);
     CHECK(sums.ops == 1 && sums.core_rows == 4 && sums.round_rows == 32 && sums.byte_alu == 19393 && sums.are_bytes == 7044);
     CHECK(sums.keccak_rc == 24 && sums.is_halfword == 25 && sums.is_wh == 25 && sums.memw == 26 && sums.ecall == 1);
-    cursor = keccak_tables_tally_feed(cursor, file + 1, 1);
-    REFUSED(cursor, 6, 418);
-
-    /* A reader that has read as many records as a file may have: its end is no fault, a byte more is. */
-    keccak_tables_cursor full = {0, 0, KECCAK_TABLES_MAX_OPS, 0, 0};
-    sums = keccak_tables_tally_finish(true, full);
+    CHECK(sums.unaligned == 0);
+    sums = keccak_tables_tally_finish(HIGHER, false, cursor);
     DONE(sums);
-    CHECK(sums.ops == KECCAK_TABLES_MAX_OPS);
+    CHECK(sums.ops == 1 && sums.core_rows == HIGHER && sums.round_rows == HIGHER && sums.byte_alu == 19393);
+    CHECK(sums.are_bytes == 4 + HIGHER * 220 && sums.keccak_rc == 24 && sums.memw == 26 && sums.ecall == 1);
+    keccak_tables_cursor marked = keccak_tables_tally_feed(cursor, file + 1, 1);
+    REFUSED(marked, 6, 418);
+
+    /* A record at an address that is no multiple of 8 is read, counted and left out of the sums. */
+    file[10] += 4;
+    cursor = keccak_tables_tally_feed(cursor, file, 418);
+    DONE(cursor);
+    CHECK(cursor.records == 1 && cursor.unaligned == 1);
+    sums = keccak_tables_tally_finish(FLOOR, false, cursor);
+    DONE(sums);
+    CHECK(sums.ops == 1 && sums.core_rows == 4 && sums.round_rows == 32 && sums.byte_alu == 19393 && sums.unaligned == 1);
+    marked = keccak_tables_tally_feed(cursor, file + 1, 1);
+    REFUSED(marked, 6, 836);
+    uint64_t list[52];
+    keccak_tables_answer answer = keccak_tables_read_operations(file, 418, list, 52);
+    DONE(answer);
+    CHECK(list[1] == operation[1] + 4);
+    answer = keccak_tables_write_operations(list, 52, file, 418);
+    REFUSED(answer, KECCAK_TABLES_REFUSAL_UNALIGNED, list[1]);
+
+    /* A reader that has read as many records as a file may have: its end is no fault, a byte more is, whatever is left out. */
+    keccak_tables_cursor full = {0, 0, KECCAK_TABLES_MAX_OPS - 3, 0, 0, 3};
+    sums = keccak_tables_tally_finish(FLOOR, true, full);
+    DONE(sums);
+    CHECK(sums.ops == KECCAK_TABLES_MAX_OPS - 3 && sums.unaligned == 3);
     cursor = keccak_tables_tally_feed(full, file, 0);
     DONE(cursor);
     cursor = keccak_tables_tally_feed(full, file, 1);
     REFUSED(cursor, 1, 89478486);
+    /* A fault that no call found is answered as it is named, but one that there is none of. */
+    keccak_tables_cursor made_up = {KECCAK_TABLES_REFUSAL_FLOOR, 5, 0, 0, 0, 0};
+    sums = keccak_tables_tally_finish(FLOOR, false, made_up);
+    REFUSED(sums, 9, 5);
+    made_up.refusal++;
+    sums = keccak_tables_tally_finish(FLOOR, false, made_up);
+    REFUSED(sums, 6, 5);
     full.records--;
     cursor = keccak_tables_tally_feed(full, file, 418);
     DONE(cursor);
-    CHECK(cursor.records == KECCAK_TABLES_MAX_OPS && cursor.at == 0);
+    CHECK(cursor.records == KECCAK_TABLES_MAX_OPS - 4 && cursor.unaligned == 4 && cursor.at == 0);
 }
 
 int main(void) {
@@ -590,15 +862,21 @@ int main(void) {
     constant_calls();
     key_calls();
     key_rows();
+    segment();
     core_rows();
     core_keys();
     core_evaluations();
     round_rows();
     rows_in_parts();
+    addresses();
     round_numbers();
     round_evaluations();
     state_orders();
     verdict_calls();
+    fewer_rounds();
+    no_rounds();
+    higher_floor();
+    no_floor();
     file_lists();
     file_sums();
     return 0;

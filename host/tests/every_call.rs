@@ -6,10 +6,11 @@ mod interface;
 use keccak_tables::bitwise::{BitwiseOperation, BitwiseOperationType};
 use keccak_tables::is_wh::{IsWhKey, IsWhRows};
 use keccak_tables::operation_file::Tally;
+use keccak_tables::segment::KindLook;
 use keccak_tables::verdict::{Table, Verdict};
 use keccak_tables::{
-    Bus, BusInteraction, Lent, MAX_OPS, OP_WORDS, Operation, P, Parameters, Refusal, Side, bitwise, is_wh, keccak,
-    keccak_rc, keccak_rnd, operation_file, tuples, verdict,
+    Bus, BusInteraction, FLOOR, Lent, MAX_FLOOR, MAX_OPS, OP_WORDS, Operation, P, Parameters, Refusal, Side, bitwise,
+    is_wh, keccak, keccak_rc, keccak_rnd, operation_file, segment, tuples, verdict,
 };
 
 const GUARD: u64 = 0xA5A5_A5A5_A5A5_A5A5;
@@ -30,6 +31,10 @@ fn too_short(argument: &'static str, needed: u64) -> Refusal {
 
 fn not_element(argument: &'static str, place: u64) -> Refusal {
     Refusal::NotElement { argument, place }
+}
+
+fn twelve() -> Parameters {
+    Parameters::default().rounds(12)
 }
 
 fn operation() -> Operation {
@@ -176,8 +181,13 @@ fn constant_calls() {
     let refused = keccak_rc::generate_keccak_rc_trace(&mut table[..319]);
     assert_eq!(refused, Err(too_short("table", 320)));
 
-    assert_eq!(keccak_rc::update_multiplicities(&mut table, 7), Ok(()));
-    assert_eq!([table[9], table[239], table[249]], [7, 7, 0]);
+    assert_eq!(keccak_rc::update_multiplicities(&mut table, 9), Ok(()));
+    assert_eq!([table[9], table[239], table[249]], [9, 9, 0]);
+    assert_eq!(keccak_rc::update_multiplicities_with(twelve(), &mut table, 7), Ok(()));
+    assert_eq!(
+        [table[9], table[119], table[129], table[239], table[249]],
+        [0, 0, 7, 7, 0]
+    );
     let refused = keccak_rc::update_multiplicities(&mut table, MAX_OPS as u64 + 1);
     assert_eq!(refused, Err(TOO_MANY));
 
@@ -266,6 +276,68 @@ fn key_rows_of_their_own() {
     assert_eq!(refused, Err(not_whole("ops")));
 }
 
+/// What the one operation sends: a pointer's low halfword, the alignment, four pairs of address bytes; in its round rows 24 times 220
+/// pairs of bytes, 200 ANDs and 608 XORs; in the 8 padding rows 220 pairs.
+#[test]
+fn segment_calls() {
+    let list = operation().words();
+    let sums = [0, 0, 0, 4 + 32 * 220, 25, 0, 0, 1 + 24 * 200, 0, 24 * 608];
+    let mut counters = vec![P - 1; bitwise::NUM_COUNTERS + 1];
+    counters[bitwise::NUM_COUNTERS] = GUARD;
+    let mut copy = vec![GUARD; bitwise::NUM_COUNTERS + 1];
+    let mut out = [GUARD; segment::LOOK_WORDS + 1];
+    assert_eq!(segment::look(&list, &counters, &mut copy, &mut out), Ok(()));
+    assert_eq!((copy[bitwise::NUM_COUNTERS], out[20]), (GUARD, GUARD));
+    assert!(
+        counters[..bitwise::NUM_COUNTERS]
+            .iter()
+            .all(|&counter| counter == P - 1)
+    );
+    let look = segment::Look::new(&list, &counters).expect("a look");
+    for (kind, KindLook { kind: of, sum, largest }) in look.kinds().into_iter().enumerate() {
+        assert_eq!(
+            (of.number(), sum, out[2 * kind]),
+            (kind, sums[kind], sum),
+            "{}",
+            of.name()
+        );
+        // Not every counter returns to zero.
+        assert_eq!((largest, out[2 * kind + 1]), (P - 1, P - 1));
+    }
+    assert_eq!(segment::charge(&list, &mut counters), Ok(()));
+    assert!(counters == copy && counters[..bitwise::NUM_COUNTERS] == *look.counters());
+    // The pointers' low halfwords begin with 8, each once.
+    assert_eq!([counters[84], counters[94], counters[2004]], [0, P - 1, 0]);
+
+    let shipped = Parameters::default().shipped();
+    let mut zeros = vec![0; bitwise::NUM_COUNTERS];
+    assert_eq!(segment::charge(&[], &mut zeros), Ok(()));
+    assert!(zeros.iter().all(|&counter| counter == 0));
+    assert_eq!(segment::look_with(shipped, &[], &zeros, &mut copy, &mut out), Ok(()));
+    assert_eq!((out[6], out[7], copy[3]), (880, 880, 880));
+    assert_eq!(segment::charge_with(shipped, &[], &mut zeros), Ok(()));
+    assert_eq!((zeros[3], zeros.iter().sum()), (880, 880));
+    let look = segment::Look::with(shipped, &[], &zeros).expect("a look");
+    assert_eq!(look.kinds()[3].largest, 1760);
+    let look = segment::Look::with(twelve(), &list, &zeros).expect("a look");
+    let fewer = [0, 0, 0, 4 + 16 * 220, 25, 0, 0, 1 + 12 * 200, 0, 12 * 608];
+    assert_eq!(look.kinds().map(|kind| kind.sum), fewer);
+    assert_eq!(segment::charge_with(twelve(), &list, &mut zeros), Ok(()));
+    assert_eq!(zeros, look.counters());
+    // The floor alone decides how many padding rows there are: 40 of 64, and all 64.
+    let look = segment::Look::with(shipped.floor(64), &list, &zeros).expect("a look");
+    assert_eq!(look.kinds()[3].sum, 4 + 64 * 220);
+    let look = segment::Look::with(shipped.floor(64), &[], &zeros).expect("a look");
+    assert_eq!(look.kinds()[3].sum, 64 * 220);
+    assert_eq!(segment::charge_with(shipped.floor(64), &[], &mut zeros), Ok(()));
+    assert_eq!(zeros, look.counters());
+
+    let refused = segment::charge(&list[1..], &mut counters);
+    assert_eq!(refused, Err(not_whole("ops")));
+    let refused = segment::look(&list, &zeros, &mut copy, &mut out[..19]);
+    assert_eq!(refused, Err(too_short("out", 20)));
+}
+
 /// The core row of the operation, and a word past it.
 fn core_row() -> [u64; keccak::NUM_COLUMNS + 1] {
     let mut row = [GUARD; keccak::NUM_COLUMNS + 1];
@@ -324,6 +396,9 @@ fn core_key_and_height_calls() {
     list[1] = keccak::LAST_ADDRESS + 1;
     let refused = keccak::is_wh_keys(&list, &mut keys);
     assert_eq!(refused, Err(Refusal::HighAddress { address: list[1] }));
+    list[1] = keccak::LAST_ADDRESS;
+    let refused = keccak::is_wh_keys(&list, &mut keys);
+    assert_eq!(refused, Err(Refusal::Unaligned { address: list[1] }));
 
     assert_eq!(keccak::keccak_height(5), Ok(8));
     assert_eq!(keccak::keccak_height(MAX_OPS + 1), Err(TOO_MANY));
@@ -354,6 +429,27 @@ fn core_value_and_tuple_calls() {
     assert_eq!(tuples(&all[..1457]).count(), keccak::NUM_TUPLES);
     let refused = keccak::bus_interactions(&row, 0, &mut all[..1456]);
     assert_eq!(refused, Err(too_short("out", 1457)));
+}
+
+/// The core row's INPUT goes to the first round.
+#[test]
+fn core_tuples_by_rounds() {
+    let row = core_row();
+    let mut out = [GUARD; keccak::MAX_TUPLE_LENGTH];
+    let mut all = [GUARD; keccak::TUPLE_WORDS];
+    for rounds in 1..=24 {
+        let parameters = Parameters::default().rounds(rounds);
+        assert_eq!(keccak::bus_interactions_with(parameters, &row, 0, &mut all), Ok(()));
+        let on_keccak = tuples(&all).filter(|(tuple, _)| tuple.bus == Bus::Keccak);
+        assert!(on_keccak.map(|(_, values)| values[2]).eq([24 - rounds, 24]));
+        for (index, (tuple, values)) in tuples(&all).enumerate() {
+            let answer = keccak::bus_interaction_with(parameters, &row, index, 0, &mut out);
+            assert_eq!((answer, &out[..tuple.length]), (Ok(tuple), values));
+        }
+    }
+    let mut today = [GUARD; keccak::TUPLE_WORDS];
+    assert_eq!(keccak::bus_interactions(&row, 0, &mut today), Ok(()));
+    assert_eq!(all, today);
 }
 
 /// The row of round 0 from the zero state, and a word past it.
@@ -410,6 +506,239 @@ fn round_rows_calls() {
     assert_eq!(parts, rows[..2 * part_words]);
 }
 
+/// Tables of fewer rounds: the rows of the last ones, each from the state that the row before sends.
+#[test]
+fn round_tables_by_rounds() {
+    let list = Operation::list(&[operation(), operation()]);
+    for (rounds, height) in [(1, 4), (2, 4), (3, 8), (12, 32), (16, 32), (17, 64), (23, 64), (24, 64)] {
+        let parameters = Parameters::default().rounds(rounds);
+        assert_eq!(keccak_rnd::keccak_rnd_height_with(parameters, 2), Ok(height));
+        let padding = height as u64 - 2 * rounds;
+        assert_eq!(keccak_rnd::padding_are_bytes_with(parameters, 2), Ok(220 * padding));
+        assert_eq!(keccak_rnd::padding_are_bytes_with(parameters, 0), Ok(0));
+        let words = height * keccak_rnd::NUM_COLUMNS;
+        let mut table = vec![GUARD; words + 1];
+        let answer = keccak_rnd::generate_keccak_rnd_trace_with(parameters, &list, &mut table);
+        assert_eq!((answer, table[words]), (Ok(()), GUARD));
+        let active = 2 * rounds as usize * keccak_rnd::NUM_COLUMNS;
+        let mut rows = vec![GUARD; active + 1];
+        let answer = keccak_rnd::keccak_rnd_rows_with(parameters, &list, &mut rows);
+        assert_eq!((answer, rows[active]), (Ok(()), GUARD));
+        assert!(rows[..active] == table[..active] && table[active..words].iter().all(|&word| word == 0));
+        let mut expected = [0; keccak_rnd::NUM_COLUMNS];
+        let mut state = [0; 25];
+        for (at, row) in rows[..active].chunks(keccak_rnd::NUM_COLUMNS).enumerate() {
+            let step = at % rounds as usize;
+            if step == 0 {
+                state = operation().input;
+            }
+            let round = 24 - rounds as usize + step;
+            assert_eq!(keccak_rnd::keccak_rnd_row(5, &state, round, &mut expected), Ok(()));
+            assert!(row == expected, "row {at} of {rounds} rounds");
+            state = sent_on(row);
+        }
+        let short = keccak_rnd::keccak_rnd_rows_with(parameters, &list, &mut rows[..active - 1]);
+        assert_eq!(short, Err(too_short("table", active as u64)));
+        assert_eq!(
+            keccak_rnd::keccak_rnd_table_with(parameters, &list),
+            Ok(table[..words].to_vec())
+        );
+    }
+    assert_eq!(
+        keccak_rnd::keccak_rnd_table_with(Parameters::default(), &list),
+        keccak_rnd::keccak_rnd_table(&list)
+    );
+}
+
+/// Tables of every floor: the rows are those of floor 4, and the rest is padding, as many rows as make the floor.
+#[test]
+fn tables_by_floor() {
+    let list = Operation::list(&[operation(), operation()]);
+    let core = keccak::keccak_table(&list).expect("a core table");
+    let today = keccak_rnd::keccak_rnd_table_with(twelve(), &list).expect("a round table");
+    let padding = &core[3 * keccak::NUM_COLUMNS..];
+    for power in 2..=8 {
+        let floor = 1usize << power;
+        let parameters = twelve().floor(floor as u64);
+        assert_eq!(keccak::keccak_height_with(parameters, 2), Ok(floor));
+        assert_eq!(keccak::keccak_height_with(parameters, floor), Ok(floor));
+        assert_eq!(keccak::keccak_height_with(parameters, floor + 1), Ok(2 * floor));
+        let words = floor * keccak::NUM_COLUMNS;
+        let mut table = vec![GUARD; words + 1];
+        let answer = keccak::generate_keccak_trace_with(parameters, &list, &mut table);
+        assert_eq!((answer, table[words]), (Ok(()), GUARD));
+        let (rows, rest) = table[..words].split_at(2 * keccak::NUM_COLUMNS);
+        assert!(*rows == core[..rows.len()] && rest.chunks(keccak::NUM_COLUMNS).all(|row| row == padding));
+        assert_eq!(
+            keccak::keccak_table_with(parameters, &list),
+            Ok(table[..words].to_vec())
+        );
+        let short = keccak::generate_keccak_trace_with(parameters, &list, &mut table[..words - 1]);
+        assert_eq!(short, Err(too_short("table", words as u64)));
+
+        let height = floor.max(32);
+        assert_eq!(keccak_rnd::keccak_rnd_height_with(parameters, 2), Ok(height));
+        let sent = 220 * (height as u64 - 24);
+        assert_eq!(keccak_rnd::padding_are_bytes_with(parameters, 2), Ok(sent));
+        assert_eq!(keccak_rnd::padding_are_bytes_with(parameters, 0), Ok(0));
+        let words = height * keccak_rnd::NUM_COLUMNS;
+        let mut table = vec![GUARD; words + 1];
+        let answer = keccak_rnd::generate_keccak_rnd_trace_with(parameters, &list, &mut table);
+        assert_eq!((answer, table[words]), (Ok(()), GUARD));
+        assert!(table[..today.len()] == today && table[today.len()..words].iter().all(|&word| word == 0));
+        assert!(keccak_rnd::keccak_rnd_table_with(parameters, &list).is_ok_and(|own| own == table[..words]));
+    }
+    assert_eq!(
+        keccak::keccak_height_with(twelve().floor(MAX_FLOOR), 65_537),
+        Ok(131_072)
+    );
+    assert_eq!(
+        keccak::keccak_height_with(twelve().floor(FLOOR), 0),
+        keccak::keccak_height(0)
+    );
+}
+
+/// Every call that takes a floor refuses another after the rounds and before anything else, and writes nothing.
+#[test]
+fn no_floor() {
+    type Call = fn(Parameters, &mut [u64]) -> Result<(), Refusal>;
+    let of_core: [Call; 4] = [
+        |with, table| keccak::generate_keccak_trace_with(with, &[P], table),
+        |with, _| keccak::keccak_table_with(with, &[P]).map(drop),
+        |with, _| keccak::keccak_height_with(with, usize::MAX).map(drop),
+        |with, _| cut_tally().finish_with(with).map(drop),
+    ];
+    let of_rounds: [Call; 7] = [
+        |with, table| keccak_rnd::generate_keccak_rnd_trace_with(with, &[P], table),
+        |with, _| keccak_rnd::keccak_rnd_table_with(with, &[P]).map(drop),
+        |with, _| keccak_rnd::keccak_rnd_height_with(with, usize::MAX).map(drop),
+        |with, _| keccak_rnd::padding_are_bytes_with(with, usize::MAX).map(drop),
+        |with, counters| segment::charge_with(with, &[P], counters),
+        |with, copy| segment::look_with(with, &[P], &[P], copy, &mut []),
+        |with, _| segment::Look::with(with, &[P], &[P]).map(drop),
+    ];
+    for floor in [0, 1, 2, 3, 5, 6, 65_535, 65_537, 131_072, 1 << 32, 1 << 63, u64::MAX] {
+        for rounds in [24, 0, 25] {
+            let parameters = Parameters::default().rounds(rounds).floor(floor).shipped();
+            let first = match rounds {
+                24 => Refusal::Floor { floor },
+                rounds => Refusal::Rounds { rounds },
+            };
+            let none = of_core.map(|call| (call, Refusal::Floor { floor }));
+            for (place, (call, refusal)) in none.into_iter().chain(of_rounds.map(|call| (call, first))).enumerate() {
+                let mut lent = [GUARD; 2];
+                let answer = call(parameters, &mut lent);
+                assert_eq!(
+                    (answer, lent),
+                    (Err(refusal), [GUARD; 2]),
+                    "call {place}, floor {floor}"
+                );
+            }
+        }
+    }
+    // Where nothing depends on it, it is not looked at.
+    let parameters = Parameters::default().floor(5);
+    let mut rows = vec![GUARD; 24 * keccak_rnd::NUM_COLUMNS];
+    assert_eq!(
+        keccak_rnd::keccak_rnd_rows_with(parameters, &operation().words(), &mut rows),
+        Ok(())
+    );
+    let holds = verdict::verdict_with(parameters, &[], &[]);
+    assert_eq!(holds, Ok(Verdict::Holds { active: 0 }));
+}
+
+/// A reader in the middle of a record.
+fn cut_tally() -> Tally {
+    let mut tally = Tally::new();
+    tally.feed(&[0x4B]);
+    tally
+}
+
+/// The lanes that a round row sends.
+fn sent_on(row: &[u64]) -> [u64; 25] {
+    use keccak_rnd::cols::{CHI, IOTA};
+    std::array::from_fn(|lane| {
+        let bytes = if lane == 0 {
+            &row[IOTA..]
+        } else {
+            &row[CHI + 8 * lane..]
+        };
+        bytes[..8].iter().rev().fold(0, |number, byte| number << 8 | byte)
+    })
+}
+
+/// Every call that takes a number of rounds refuses another before anything else, and writes nothing.
+#[test]
+fn no_number_of_rounds() {
+    type Call = fn(Parameters, &mut [u64]) -> Result<(), Refusal>;
+    let calls: [Call; 13] = [
+        |with, table| keccak_rnd::generate_keccak_rnd_trace_with(with, &[P], table),
+        |with, table| keccak_rnd::keccak_rnd_rows_with(with, &[P], table),
+        |with, _| keccak_rnd::keccak_rnd_table_with(with, &[P]).map(drop),
+        |with, _| keccak_rnd::keccak_rnd_height_with(with, usize::MAX).map(drop),
+        |with, _| keccak_rnd::padding_are_bytes_with(with, usize::MAX).map(drop),
+        |with, table| keccak_rc::update_multiplicities_with(with, table, u64::MAX),
+        |with, out| keccak::bus_interaction_with(with, &[P], usize::MAX, 0, out).map(drop),
+        |with, out| keccak::bus_interactions_with(with, &[P], 0, out),
+        |with, _| verdict::verdict_with(with, &[P], &[P]).map(drop),
+        |with, _| verdict::verdict_line_with(with, &[P], &[P], &mut []).map(drop),
+        |with, _| verdict::verdict_text_with(with, &[P], &[P]).map(drop),
+        |with, counters| segment::charge_with(with, &[P], counters),
+        |with, copy| segment::look_with(with, &[P], &[P], copy, &mut []),
+    ];
+    for rounds in [0, 25, 1 << 32, u64::MAX] {
+        for (place, call) in calls.into_iter().enumerate() {
+            let mut lent = [GUARD; 2];
+            let answer = call(Parameters::default().rounds(rounds).floor(5).shipped(), &mut lent);
+            assert_eq!(
+                (answer, lent),
+                (Err(Refusal::Rounds { rounds }), [GUARD; 2]),
+                "call {place}"
+            );
+        }
+    }
+}
+
+/// Everything that takes operations, on a list of two: the highest accepted address, the next multiple of 8, what is between them; and of
+/// several that are refused, the first that is too high before any that is no multiple of 8.
+#[test]
+fn addresses_on_and_off_the_eight() {
+    type Call = fn(&[u64]) -> Result<(), Refusal>;
+    let calls: [Call; 12] = [
+        |ops| segment::charge(ops, &mut vec![0; bitwise::NUM_COUNTERS]),
+        |ops| segment::Look::new(ops, &vec![0; bitwise::NUM_COUNTERS]).map(drop),
+        |ops| keccak::keccak_row(ops, 0, &mut [0; 486]),
+        |ops| keccak::generate_keccak_trace(ops, &mut [0; 4 * 486]),
+        |ops| keccak::keccak_rows(ops, &mut [0; 2 * 486]),
+        |ops| keccak::keccak_table(ops).map(drop),
+        |ops| keccak::is_wh_keys(ops, &mut [0; 100]),
+        |ops| keccak_rnd::generate_keccak_rnd_trace(ops, &mut vec![0; 64 * 1480]),
+        |ops| keccak_rnd::keccak_rnd_rows(ops, &mut vec![0; 48 * 1480]),
+        |ops| keccak_rnd::keccak_rnd_table(ops).map(drop),
+        |ops| IsWhRows::of_operations(ops).map(drop),
+        |ops| operation_file::write_operations(ops, &mut [0; 2 * 418]),
+    ];
+    let high = |address| Err(Refusal::HighAddress { address });
+    let unaligned = |address| Err(Refusal::Unaligned { address });
+    for (addresses, answer) in [
+        ([18_446_744_073_709_551_416, 0], Ok(())),
+        ([18_446_744_073_709_551_424, 0], high(18_446_744_073_709_551_424)),
+        ([18_446_744_073_709_551_423, 0], unaligned(18_446_744_073_709_551_423)),
+        ([8, 4100], unaligned(4100)),
+        ([4100, 1], unaligned(4100)),
+        ([4100, u64::MAX], high(u64::MAX)),
+        ([u64::MAX, 4100], high(u64::MAX)),
+    ] {
+        let list = Operation::list(&addresses.map(|address| Operation { address, ..operation() }));
+        for (place, call) in calls.into_iter().enumerate() {
+            assert_eq!(call(&list), answer, "call {place}, {addresses:?}");
+        }
+        // What is not whole or too short comes first.
+        assert_eq!(keccak::keccak_rows(&list[..103], &mut []), Err(not_whole("ops")));
+        assert_eq!(keccak::is_wh_keys(&list, &mut [0; 99]), Err(too_short("out", 100)));
+    }
+}
+
 /// A table in memory of its own, as the call on the whole list writes it: of lists that are written on all cores and of one
 /// operation fewer; and refused as that call refuses.
 #[test]
@@ -436,8 +765,12 @@ fn tables_on_all_cores_are_those_of_one_call() {
         let mut expected = vec![GUARD; written.len()];
         assert_eq!(call(&list, &mut expected), Ok(()));
         assert!(written == expected, "{n} operations");
-        // Two high addresses, in the first part and in the last: the first is told.
-        for (i, address) in [(n - 1, u64::MAX), (n / 4, u64::MAX - 1)] {
+        // Two addresses off the eight, then two high ones, in the last part and in the first: the first is told.
+        for (i, address) in [(n - 1, 4100), (n / 4, 1)] {
+            list[i as usize * OP_WORDS + 1] = address;
+            assert_eq!(table(&list), Err(Refusal::Unaligned { address }));
+        }
+        for (i, address) in [(n - 1, u64::MAX), (n / 3, u64::MAX - 1)] {
             list[i as usize * OP_WORDS + 1] = address;
             assert_eq!(table(&list), Err(Refusal::HighAddress { address }));
         }
@@ -504,7 +837,13 @@ fn verdict_calls() {
     assert_eq!(verdict::verdict_line(&core, &round, &mut line), Ok(7));
     assert_eq!((&line[..7], line[7]), (&b"holds 1"[..], 0xA5));
     let refused = verdict::verdict_line(&core, &round, &mut line[..6]);
-    assert_eq!(refused, Err(Refusal::TooShort { argument: "line", needed: 7 }));
+    assert_eq!(
+        refused,
+        Err(Refusal::TooShort {
+            argument: "line",
+            needed: 7
+        })
+    );
     core[210] ^= 1;
     let text = verdict::verdict_text(&core, &round).expect("a line");
     let words: Vec<&str> = text.split(' ').collect();
@@ -513,6 +852,42 @@ fn verdict_calls() {
         ["core", "row", "0", "balance", "3", "Keccak", "5", "0", "24"]
     );
     assert_eq!((words.len(), words[9]), (6 + 203, core[210].to_string().as_str()));
+}
+
+/// Tables of twelve rounds, judged by their own number and by others.
+#[test]
+fn verdicts_by_rounds() {
+    let list = operation().words();
+    let twelve = twelve();
+    let mut core = keccak::keccak_table(&list).expect("a core table");
+    let round = keccak_rnd::keccak_rnd_table_with(twelve, &list).expect("a round table");
+    let last = &round[11 * keccak_rnd::NUM_COLUMNS..];
+    core[210..218].copy_from_slice(&last[1471..1479]);
+    core[218..410].copy_from_slice(&last[1271..1463]);
+    assert_eq!(
+        verdict::verdict_with(twelve, &core, &round),
+        Ok(Verdict::Holds { active: 1 })
+    );
+    assert_eq!(
+        verdict::verdict_text_with(twelve, &core, &round),
+        Ok("holds 1".to_string())
+    );
+    for rounds in [1, 11, 13, 24] {
+        let parameters = Parameters::default().rounds(rounds);
+        let answer = verdict::verdict_with(parameters, &core, &round);
+        let (table, row, index) = (Table::Core, 0, 2);
+        assert_eq!(answer, Ok(Verdict::Unbalanced { table, row, index }), "{rounds}");
+        let begins = format!("core row 0 balance 2 Keccak 5 0 {} 0 0 ", 24 - rounds);
+        let text = verdict::verdict_text_with(parameters, &core, &round).expect("a line");
+        assert!(text.starts_with(&begins), "{text}");
+        let mut line = [0xA5; verdict::LINE_MOST];
+        let length = verdict::verdict_line_with(parameters, &core, &round, &mut line);
+        assert_eq!((length, &line[..text.len()]), (Ok(text.len()), text.as_bytes()));
+    }
+    assert_eq!(
+        verdict::verdict(&core, &round),
+        verdict::verdict_with(Parameters::default(), &core, &round)
+    );
 }
 
 #[test]
@@ -538,15 +913,35 @@ fn file_calls() {
     let sums = tally.clone().finish().expect("sums");
     assert_eq!((sums.ops, sums.byte_alu, sums.are_bytes), (1, 19_393, 7_044));
     assert_eq!((sums.lines()[4], sums.lines()[9]), (("AreBytes", 7_044), ("Ecall", 1)));
+    assert!(sums.to_string().ends_with("\nMemw 26\nEcall 1\n"), "{sums}");
+    // The rounds are not looked at: the sums are those of 24.
+    for rounds in [12, 99] {
+        assert_eq!(
+            tally.clone().finish_with(Parameters::default().rounds(rounds)),
+            Ok(sums)
+        );
+    }
+
+    // A record off the eight is counted, and left out of everything else; it has its place in the file.
+    file[10] += 4;
+    tally.feed(&file[..418]);
+    let with_another = tally.clone().finish().expect("sums");
+    assert_eq!((with_another.lines(), with_another.unaligned), (sums.lines(), 1));
+    assert_eq!(with_another.to_string(), sums.to_string() + "unaligned 1\n");
+    assert_eq!(operation_file::read_operations(&file[..418], &mut read), Ok(()));
+    assert_eq!(read[1], list[1] + 4);
     tally.feed(&[0]);
-    assert_eq!(tally.fault(), Some(Refusal::BadRecord { start: 418 }));
+    assert_eq!(tally.fault(), Some(Refusal::BadRecord { start: 836 }));
     let empty = |parameters| {
         Tally::new()
             .finish_with(parameters)
             .map(|sums| (sums.core_rows, sums.are_bytes))
     };
     assert_eq!(empty(Parameters::default()), Ok((4, 0)));
-    assert_eq!(empty(Parameters::default().shipped()), Ok((4, 880)));
+    let shipped = Parameters::default().shipped();
+    assert_eq!(empty(shipped), Ok((4, 880)));
+    assert_eq!(empty(shipped.floor(65_536)), Ok((65_536, 65_536 * 220)));
+    assert_eq!(empty(Parameters::default().floor(8)), Ok((8, 0)));
 }
 
 /// Each public function of the modules on tables stands in this file by its module's name, each method by its own.
@@ -561,6 +956,7 @@ fn none_is_left_out() {
         "keccak_rc",
         "keccak_rnd",
         "operation_file",
+        "segment",
         "verdict",
     ] {
         let source = interface::host_source(&format!("{module}.rs"));
@@ -580,6 +976,8 @@ fn none_is_left_out() {
         }
     }
     // Those of the archive; two more that allocate a table, a verdict's `holds` and its text, a reader's fault, its sums by parameters and their
-    // lines, a counter by its kind, once or n times, a kind's number, a lookup's words and a list of them, and the five of rows of keys.
-    assert_eq!(functions, interface::exports().len() + 17);
+    // lines, a counter by its kind, once or n times, a kind's number and name, a lookup's words and a list of them, the five of rows of keys,
+    // a charge and a look by parameters, and the four of a look of its own; and by parameters again a core row's tuple and its tuples, three of
+    // the core table, five of the round table, the constants' multiplicities, a verdict, its line and its text.
+    assert_eq!(functions, interface::exports().len() + 38);
 }

@@ -8,8 +8,8 @@ use std::path::Path;
 use std::process::Command;
 
 use keccak_tables::{
-    Bus, Lent, MAX_OPS, OP_WORDS, P, Refusal, Side, bitwise, is_wh, keccak, keccak_rc, keccak_rnd, operation_file,
-    verdict,
+    Bus, FLOOR, Lent, MAX_FLOOR, MAX_OPS, OP_WORDS, P, Refusal, Side, bitwise, is_wh, keccak, keccak_rc, keccak_rnd,
+    operation_file, segment, verdict,
 };
 
 #[test]
@@ -52,6 +52,7 @@ fn sizes() -> BTreeMap<String, u64> {
         ("BITWISE_KINDS", bitwise::NUM_LOOKUP_TYPES as u64),
         ("BITWISE_COUNTERS", bitwise::NUM_COUNTERS as u64),
         ("LOOKUP_WORDS", bitwise::LOOKUP_WORDS as u64),
+        ("LOOK_WORDS", segment::LOOK_WORDS as u64),
         ("RC_ROWS", keccak_rc::NUM_ROWS as u64),
         ("RC_FIXED_COLUMNS", keccak_rc::NUM_PRECOMPUTED_COLS as u64),
         ("RC_COLUMNS", keccak_rc::NUM_COLUMNS as u64),
@@ -67,6 +68,8 @@ fn sizes() -> BTreeMap<String, u64> {
         ("CORE_TUPLE_WORDS", keccak::TUPLE_WORDS as u64),
         ("KEY_WORDS", keccak::KEY_WORDS as u64),
         ("ROUNDS", keccak_rnd::ROUNDS as u64),
+        ("FLOOR", FLOOR),
+        ("MAX_FLOOR", MAX_FLOOR),
         ("ROUND_COLUMNS", keccak_rnd::NUM_COLUMNS as u64),
         ("ROUND_VALUES", keccak_rnd::NUM_VALUES as u64),
         ("ROUND_TUPLES", keccak_rnd::NUM_TUPLES as u64),
@@ -160,6 +163,9 @@ fn refusals() -> Vec<(String, u64)> {
         ("HIGH_ADDRESS", Refusal::HighAddress { address: 0 }),
         ("NOT_ELEMENT", Refusal::NotElement { argument, place: 0 }),
         ("BAD_RECORD", Refusal::BadRecord { start: 0 }),
+        ("UNALIGNED", Refusal::Unaligned { address: 0 }),
+        ("ROUNDS", Refusal::Rounds { rounds: 0 }),
+        ("FLOOR", Refusal::Floor { floor: 0 }),
     ];
     let none = [("NONE".to_string(), 0)];
     none.into_iter()
@@ -173,10 +179,12 @@ fn lent((name, which): (&str, Lent)) -> (String, u64) {
 }
 
 fn kinds() -> Vec<(String, u64)> {
-    let kinds = bitwise::BitwiseOperationType::ALL.map(|kind| (capitals(&format!("{kind:?}")), kind.number() as u64));
-    kinds
-        .map(|(name, number)| (name.trim_start_matches("BYTE_ALU_").to_string(), number))
-        .to_vec()
+    let kinds = bitwise::BitwiseOperationType::ALL.map(|kind| {
+        let name = capitals(&format!("{kind:?}"));
+        assert_eq!(kind.name(), name.trim_start_matches("BYTE_ALU_"));
+        (kind.name().to_string(), kind.number() as u64)
+    });
+    kinds.to_vec()
 }
 
 /// Columns by name.
@@ -218,8 +226,8 @@ fn a_dropped_answer_is_told() {
     let folder = Path::new(env!("CARGO_TARGET_TMPDIR"));
     for (name, standard, language) in [("cc", "-std=c11", "c"), ("c++", "-std=c++17", "c++")] {
         for (call, fine) in [
-            ("return keccak_tables_keccak_height(1).value != 4", true),
-            ("keccak_tables_keccak_height(1)", false),
+            ("return keccak_tables_keccak_height(4, 1).value != 4", true),
+            ("keccak_tables_keccak_height(4, 1)", false),
         ] {
             let Some(mut compiler) = compiler(name, standard) else {
                 return;

@@ -3,8 +3,8 @@
 
 use keccak_tables::bitwise::{self, NUM_COUNTERS, TABLE_WORDS};
 use keccak_tables::operation_file::{read_operations, write_operations};
-use keccak_tables::verdict::verdict;
-use keccak_tables::{Lent, OP_WORDS, P, Refusal, is_wh, keccak, keccak_rc, keccak_rnd};
+use keccak_tables::verdict::{verdict, verdict_line_with, verdict_with};
+use keccak_tables::{Lent, OP_WORDS, P, Parameters, Refusal, is_wh, keccak, keccak_rc, keccak_rnd, segment};
 
 fn past_end<T>(argument: &'static str, limit: u64) -> Result<T, Refusal> {
     Err(Refusal::PastEnd { argument, limit })
@@ -93,6 +93,24 @@ fn a_row_before_its_values_and_a_start_before_its_row() {
     assert_eq!(round_row(&[], 24), past_end("round", 24));
     assert_eq!(round_row(&[0; 24], 23), too_short("start", 25));
     assert_eq!(round_row(&[0; 25], 23), too_short("row", 1480));
+    // By other rounds or another floor the same argument is named.
+    let with = Parameters::default().rounds(1);
+    let table = |ops: &[u64], room| keccak_rnd::generate_keccak_rnd_trace_with(with, ops, &mut vec![0; room]);
+    assert_eq!(table(&[0; OP_WORDS], 4 * 1480 - 1), too_short("table", 4 * 1480));
+    let tall = Parameters::default().floor(8);
+    let core = |ops: &[u64], room| keccak::generate_keccak_trace_with(tall, ops, &mut vec![0; room]);
+    assert_eq!(core(&[0; OP_WORDS], 8 * 486 - 1), too_short("table", 8 * 486));
+    assert_eq!(keccak::keccak_height_with(tall, usize::MAX), past_end("n", 89_478_486));
+    let rows = |ops: &[u64], room| keccak_rnd::keccak_rnd_rows_with(with, ops, &mut vec![0; room]);
+    assert_eq!(rows(&[0; OP_WORDS], 1479), too_short("table", 1480));
+    assert_eq!(
+        keccak::bus_interactions_with(with, &[], 0, &mut []),
+        too_short("row", 486)
+    );
+    assert_eq!(
+        keccak_rc::update_multiplicities_with(with, &mut [], 9),
+        too_short("table", 320)
+    );
 }
 
 #[test]
@@ -206,6 +224,43 @@ fn the_words_of_rows_before_the_counters() {
     }
 }
 
+/// The list, then the counters, the copy and what is written, then an address, then a counter.
+#[test]
+fn counters_before_their_copy_before_what_a_look_says() {
+    let mut ops = [0; 2 * OP_WORDS];
+    ops[OP_WORDS + 1] = u64::MAX;
+    let mut counters = vec![0; NUM_COUNTERS + 1];
+    counters[7..9].fill(P);
+    let (end, short) = (NUM_COUNTERS as u64, NUM_COUNTERS - 1);
+    let mut copy = counters.clone();
+    let mut look = |ops: &[u64], [counted, copied, words]: [usize; 3]| {
+        segment::look(ops, &counters[..counted], &mut copy[..copied], &mut [0; 21][..words])
+    };
+    let cut = Err(Refusal::NotWhole {
+        argument: "ops",
+        which: Lent::List,
+    });
+    let high = Err(Refusal::HighAddress { address: u64::MAX });
+    let (mut off, unaligned) = ([0; OP_WORDS], Err(Refusal::Unaligned { address: 12 }));
+    off[1] = 12;
+    assert_eq!(look(&ops[1..], [short, short, 19]), cut);
+    assert_eq!(look(&ops, [short, short, 19]), too_short("counters", end));
+    assert_eq!(look(&ops, [NUM_COUNTERS, short, 19]), too_short("copy", end));
+    assert_eq!(look(&ops, [NUM_COUNTERS + 1, NUM_COUNTERS, 19]), too_short("out", 20));
+    assert_eq!(look(&ops, [NUM_COUNTERS, NUM_COUNTERS + 1, 20]), high);
+    assert_eq!(look(&off, [NUM_COUNTERS, NUM_COUNTERS, 20]), unaligned);
+    assert_eq!(
+        look(&ops[..OP_WORDS], [NUM_COUNTERS, NUM_COUNTERS, 21]),
+        not_element("counters", 7)
+    );
+    let mut charge = |ops: &[u64], counted: usize| segment::charge(ops, &mut counters[..counted]);
+    assert_eq!(charge(&ops[1..], short), cut);
+    assert_eq!(charge(&ops, short), too_short("counters", end));
+    assert_eq!(charge(&ops, NUM_COUNTERS), high);
+    assert_eq!(charge(&off, NUM_COUNTERS), unaligned);
+    assert_eq!(charge(&[], NUM_COUNTERS), not_element("counters", 7));
+}
+
 #[test]
 fn a_core_table_before_a_round_table() {
     let (mut core, mut round) = (vec![0; 486], vec![0; 1480]);
@@ -221,6 +276,12 @@ fn a_core_table_before_a_round_table() {
     round[1479] = P;
     round[7] = 0;
     assert_eq!(verdict(&[], &round), not_element("round", 1479));
+    let with = Parameters::default().rounds(7);
+    assert_eq!(verdict_with(with, &core, &round), not_element("core", 7));
+    assert_eq!(
+        verdict_line_with(with, &[], &round, &mut []),
+        not_element("round", 1479)
+    );
 }
 
 #[test]

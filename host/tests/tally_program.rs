@@ -42,6 +42,10 @@ fn ran_with(arguments: &[&str], input: impl Into<Stdio>, output: impl Into<Stdio
 
 /// A file of so many records, to be read from its beginning.
 fn records(name: &str, count: u64) -> File {
+    file(name, &record_bytes(count))
+}
+
+fn record_bytes(count: u64) -> Vec<u8> {
     let operation = |at| Operation {
         timestamp: at,
         address: 4096,
@@ -51,9 +55,14 @@ fn records(name: &str, count: u64) -> File {
     let ops: Vec<u64> = (0..count).flat_map(|at| operation(at).words()).collect();
     let mut bytes = vec![0; ops.len() / OP_WORDS * RECORD_BYTES];
     write_operations(&ops, &mut bytes).expect("the operations are accepted");
+    bytes
+}
+
+/// A file of these bytes, likewise.
+fn file(name: &str, bytes: &[u8]) -> File {
     let path = std::env::temp_dir().join(format!("keccak-tables-{name}-{}", std::process::id()));
     File::create(&path)
-        .and_then(|mut file| file.write_all(&bytes))
+        .and_then(|mut file| file.write_all(bytes))
         .expect("the file can be written");
     let file = File::open(&path).expect("the file can be read");
     std::fs::remove_file(&path).expect("the file can be removed");
@@ -101,13 +110,49 @@ fn a_file_of_several_reads_is_read_whole() {
     );
 }
 
-/// Of an empty file; an argument may stand twice, and no other word or part of it is taken for it.
+/// Records off the eight are left out and counted in a last line; a high one is refused all the same.
 #[test]
-fn the_argument_shipped_counts_the_rows_of_empty_tables() {
-    for (arguments, bytes) in [(&[][..], 0), (&["shipped"], 880), (&["shipped", "shipped"], 880)] {
+fn records_off_the_eight_have_a_last_line() {
+    let mut bytes = record_bytes(4);
+    let set = |bytes: &mut [u8], record: usize, address: u64| {
+        bytes[record * RECORD_BYTES + 10..][..8].copy_from_slice(&address.to_le_bytes());
+    };
+    set(&mut bytes, 0, 4100);
+    set(&mut bytes, 2, 18_446_744_073_709_551_423);
+    set(&mut bytes, 3, 18_446_744_073_709_551_416);
+    for (shipped, name) in [(&[][..], "off"), (&["shipped"], "off-shipped")] {
+        let Output { stdout, stderr, .. } = ran_with(shipped, file(name, &bytes), Stdio::piped());
+        let lines = "ops 2\ncore-rows 4\nround-rows 64\nByteAlu 38786\nAreBytes 14088\nKeccakRc 48\nIsHalfword 50\nIsWh 50\nMemw 52\n\
+                     Ecall 2\nunaligned 2\n";
+        assert_eq!(
+            (String::from_utf8(stdout).expect("text").as_str(), stderr.len()),
+            (lines, 0)
+        );
+    }
+    set(&mut bytes, 3, 18_446_744_073_709_551_424);
+    let Output { stdout, .. } = ran(file("off-high", &bytes), Stdio::piped());
+    assert_eq!(
+        String::from_utf8(stdout).expect("text"),
+        "refused 4 18446744073709551424\n"
+    );
+}
+
+/// Of an empty file; a word may stand twice, `shipped` before or behind a floor, of which the last counts, and zeros before its digits.
+#[test]
+fn the_arguments_are_the_mode_and_the_floor() {
+    for (arguments, rows, bytes) in [
+        (&[][..], 4, 0),
+        (&["shipped"], 4, 880),
+        (&["shipped", "shipped"], 4, 880),
+        (&["4"], 4, 0),
+        (&["8"], 8, 0),
+        (&["shipped", "00064"], 64, 14_080),
+        (&["65536", "shipped"], 65_536, 14_417_920),
+        (&["x", "16", "shipped", "8"], 8, 1760),
+    ] {
         let Output { stdout, stderr, .. } = ran_with(arguments, records("none", 0), Stdio::piped());
         let lines = format!(
-            "ops 0\ncore-rows 4\nround-rows 4\nByteAlu 0\nAreBytes {bytes}\nKeccakRc 0\nIsHalfword 0\nIsWh 0\nMemw 0\nEcall 0\n"
+            "ops 0\ncore-rows {rows}\nround-rows {rows}\nByteAlu 0\nAreBytes {bytes}\nKeccakRc 0\nIsHalfword 0\nIsWh 0\nMemw 0\nEcall 0\n"
         );
         assert_eq!(
             (String::from_utf8(stdout).expect("text"), stderr.len()),
@@ -117,25 +162,29 @@ fn the_argument_shipped_counts_the_rows_of_empty_tables() {
     }
 }
 
-/// Whatever the file is: it is not read, as a folder shows, which can't be.
+/// Whatever the file is: it is not read, as a folder shows, which can't be. What is neither `shipped` nor a decimal below 2^64 is floor 0.
 #[test]
-fn another_argument_is_told_on_standard_error_alone() {
-    for arguments in [
-        &[""][..],
-        &["ship"],
-        &["shipped "],
-        &["shipped, and more"],
-        &["Shipped"],
-        &["--shipped"],
-        &["shipped", "4"],
-        &["4", "shipped"],
+fn another_floor_is_refused_before_anything_is_read() {
+    for (arguments, floor) in [
+        (&[""][..], "0"),
+        (&["ship"], "0"),
+        (&["shipped "], "0"),
+        (&["Shipped"], "0"),
+        (&["--shipped"], "0"),
+        (&["8", "x"], "0"),
+        (&["8", "", "shipped"], "0"),
+        (&["18446744073709551616"], "0"),
+        (&["18446744073709551624"], "0"),
+        (&["18446744073709551615"], "18446744073709551615"),
+        (&["shipped", "002"], "2"),
+        (&["131072", "shipped"], "131072"),
+        (&["4", "6"], "6"),
     ] {
         let folder = File::open(env!("CARGO_MANIFEST_DIR")).expect("a folder can be opened");
         let Output { stdout, stderr, .. } = ran_with(arguments, folder, Stdio::piped());
-        let line = "tally takes the argument shipped, or none\n";
         assert_eq!(
-            (stdout.len(), String::from_utf8(stderr).expect("text").as_str()),
-            (0, line),
+            (String::from_utf8(stdout).expect("text"), stderr.len()),
+            (format!("refused 9 {floor}\n"), 0),
             "{arguments:?}"
         );
     }

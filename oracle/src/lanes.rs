@@ -1,17 +1,9 @@
-//! Keccak-f[1600] on lanes, forwards and backwards, written from FIPS 202 with printed offsets and constants. The stand-in for the
-//! Rust's executor works both out by the rules instead, so the two are independent of each other.
+//! Keccak-f[1600] on lanes, forwards and backwards, written from FIPS 202 with printed constants and offsets by its walk. It takes nothing
+//! from the stand-in for the Rust's executor, which works out both by the rules; a test holds the two against each other and against what
+//! is printed.
 
 /// 25 lanes, lane x + 5y.
 pub type State = [u64; 25];
-
-/// FIPS 202, table 2: the offsets in its order, columns x = 3, 4, 0, 1, 2 and rows y = 2, 1, 0, 4, 3.
-const TABLE_2: [[u32; 5]; 5] = [
-    [153, 231, 3, 10, 171],
-    [55, 276, 36, 300, 6],
-    [28, 91, 0, 1, 190],
-    [120, 78, 210, 66, 253],
-    [21, 136, 105, 45, 15],
-];
 
 /// The round constants as they are printed in the Keccak team's summary.
 pub const CONSTANTS: [u64; 24] = [
@@ -41,11 +33,12 @@ pub const CONSTANTS: [u64; 24] = [
     0x8000000080008008,
 ];
 
-/// The offset of lane (x, y).
+/// The offset of lane (x, y): FIPS 202, algorithm 2. The walk from (1, 0) comes to the lane after t steps, of which the offset is the sum of 1
+/// to t + 1; to (0, 0) it never comes.
 pub fn offset(x: usize, y: usize) -> u32 {
-    let column = [3, 4, 0, 1, 2].iter().position(|&c| c == x).unwrap();
-    let row = [2, 1, 0, 4, 3].iter().position(|&r| r == y).unwrap();
-    TABLE_2[row][column] % 64
+    let walk = core::iter::successors(Some((1, 0)), |&(x, y)| Some((y, (2 * x + 3 * y) % 5)));
+    let steps = walk.take(24).position(|lane| lane == (x, y));
+    steps.map_or(0, |t| (1..=t as u32 + 1).sum::<u32>() % 64)
 }
 
 /// The state whose lane (x, y) is `lane(x, y)`.

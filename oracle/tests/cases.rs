@@ -87,10 +87,10 @@ fn the_inverse_of_2_to_the_32() {
 
 #[test]
 fn the_highest_address_is_accepted() {
-    let highest = 18_446_744_073_709_551_423;
+    let highest = 18_446_744_073_709_551_416;
     let one = operation(1, highest, &[0; 25]);
     let row = &oracle::core_table(&one)[..CORE_COLUMNS];
-    assert_eq!(row[482..485], [0xFFFF, 0xFFFF, 0xFFFF_FFFF]);
+    assert_eq!(row[482..485], [0xFFF8, 0xFFFF, 0xFFFF_FFFF]);
     assert_eq!(oracle::is_wh_keys(&one)[48..], [0xFFFF_FFFF, 0xFFFF]);
     assert_eq!(oracle::core_values(row), [0; 52]);
 }

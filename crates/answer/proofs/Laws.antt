@@ -7,6 +7,7 @@
 --     number-refused, number-is the answer of a call that gives a number, once the checks are known
 --     is-refused, is-done       what an answer that another function gave says of the checks
 --     passed-if, passed-at      what an accepted call knows of a check, and of those after it
+--     later-if, later-at, told-at   what a refused call knows of a check that refuses by another number, or by a search
 --     still-if, still-at        a refusal by the first checks stands, whatever is checked later
 --     sets-overwrite            words stored one by one from the front
 --     new-word, new-words, old-words   what an accepted call leaves, word by word
@@ -15,10 +16,11 @@ use mathlib.Core.Path.{_≡_, refl, ap}
 use mathlib.Core.Bool.{Bool, true, false}
 use mathlib.Core.Option.{Option, none, some}
 use mathlib.Core.List.{List}
+use native.Mathlib.Omega.{arith}
 use lib.ListN.{length, take, drop, getD, List·getD-append}
 use lib.Seq.{sets, take-append-seam, drop-append-seam}
 use Rattle.lists.proofs.Laws.{sets-front}
-use Rattle.answer.specs.Refusal.{refuseIf, refuseAt, answerOf, numberOf, overwrite, afterwards}
+use Rattle.answer.specs.Refusal.{refusalNumber, refuseIf, refuseAt, answerOf, numberOf, overwrite, afterwards}
 use Rattle.answer.specs.declared.Refusal.{Refusal}
 use Rattle.answer.specs.declared.Answer.the-variants.{Done, Refused}
 use Rattle.answer.specs.declared.Number.the-variants as number
@@ -103,6 +105,31 @@ pub passed-at : (found : Option ℕ) (f : ℕ → Refusal) (later : Option Refus
 unfolding refuseAt
 passed-at none f later e = (refl, e)
 passed-at (some k) f later e = (cc, cc)
+
+-- ---- what a refused call knows: a check that refuses by another number did not, and a search found the place
+
+-- refusals of two numbers are not the same
+pub unlike : (r x : Refusal) → (refusalNumber r ≡ refusalNumber x → ⊥) → r ≡ x → ⊥
+unlike r x ne e = ne (ap refusalNumber e)
+
+pub later-if : (b : Bool) {r x : Refusal} (later : Option Refusal) → (r ≡ x → ⊥) → refuseIf b r later ≡ some x → later ≡ some x
+unfolding refuseIf
+later-if true {r = r} {x = x} later ne e = let q : r ≡ x = cc in absurd (ne q)
+later-if false later ne e = e
+
+pub later-at : (found : Option ℕ) {f : ℕ → Refusal} {x : Refusal} (later : Option Refusal) → ((k : ℕ) → f k ≡ x → ⊥)
+    → refuseAt found f later ≡ some x → (found ≡ none) × (later ≡ some x)
+unfolding refuseAt
+later-at none later ne e = (refl, e)
+later-at (some k) {f = f} {x = x} later ne e = let q : f k ≡ x = cc in absurd (ne k q)
+
+pub none-told : {x : Refusal} → none ≡ some x → ⊥
+none-told e = let z : _≡_ {A = ℕ} 0 1 = cc in absurd (omega arith)
+
+pub told-at : (found : Option ℕ) {f : ℕ → Refusal} {x : Refusal} → refuseAt found f none ≡ some x → (k : ℕ) × (found ≡ some k) × (f k ≡ x)
+unfolding refuseAt
+told-at none e = absurd (none-told e)
+told-at (some k) e = (k, refl, cc)
 
 -- ---- the first checks of a call, made by another function
 

@@ -12,27 +12,23 @@ use lib.ListN.{length, take, drop, set, length-append, length-drop, length-set, 
 use lib.Seq.{getD-set-same, getD-set-other, getD-take, length-take-le, drop-set-lt, drop-append-seam}
 use Rattle.lists.specs.Tab.{pick, tab, word}
 use Rattle.lists.proofs.Laws.{length-tab, getD-tab, tab-same, list-tab}
-use Rattle.lists.proofs.Tests.{true-not-false, and-true}
+use Rattle.lists.proofs.Tests.{true-not-false, and-true, true-and}
 use Rattle.lists.proofs.Then.{by-le}
 use Rattle.field.specs.Field.{p, fadd}
+use Rattle.field.specs.Elements.{ElementRow}
 use Rattle.field.proofs.Field.{mod-p}
 use Rattle.answer.specs.Refusal.{overwrite}
-use Rattle.tuple.specs.Tuple.{sender, receiver}
+use Rattle.tuple.specs.Tuple.{Tuple, sender, receiver}
 use Rattle.tuple.specs.declared.Bus.{Bus}
 use Rattle.tuple.specs.declared.Bus.the-variants.{ByteAlu, AreBytes, IsHalfword, IsWh, KeccakRc, Keccak, IsB20, Memw, Ecall, Msb8, Msb16, Zero, Hwsl}
 use Rattle.bitwise.specs.Columns.{NUM-COUNTERS}
 use Rattle.bitwise.specs.Row.{bitwiseRow}
 use Rattle.bitwise.specs.Tuples.{bitwiseTuple}
-use Rattle.bitwise.specs.Found.{BitwiseFound, aluOp, AluFound, AreBytesFound, HalfFound, halfFound}
-use Rattle.bitwise.specs.Charge.{placeRow, placeKind, twentyFound, counted, placeCounter, fallsOn, chargedCounters}
+use Rattle.bitwise.specs.Found.{BitwiseFound, aluOp, aluFound, AluFound, AreBytesFound, areBytesFound, HalfFound, halfFound}
+use Rattle.bitwise.specs.Counters.{charge}
+use Rattle.bitwise.specs.Charge.{placeRow, placeKind, twentyFound, found, aluOperands, counted, placeCounter, fallsOn, Placed, chargedWords, chargedCounters}
 use Rattle.bitwise.proofs.Found.{alu-direct, bytes-direct, half-direct, alu-decides, bytes-decides, half-decides}
 use Rattle.bitwise.proofs.Tuples.{are-bytes-tuple, is-half-tuple, is-b20-tuple, and-tuple, or-tuple, xor-tuple}
-
--- the values stand there
-pub record Placed (b : Bus) (v : List ℕ) : Type 0 where
-  pub row-lt : placeRow b v < 1048576
-  pub kind-lt : placeKind b v < 10
-  pub tuple : (mus : List ℕ) → bitwiseTuple (bitwiseRow (placeRow b v) ++ mus) (placeKind b v) ≡ receiver b (word mus (placeKind b v)) v
 
 pub alu-placed : (v : List ℕ) → BitwiseFound ByteAlu v → Placed ByteAlu v
 unfolding AluFound aluOp placeRow placeKind
@@ -88,7 +84,7 @@ twenty-placed n l =
     whole : (n : ℕ) → n % 256 + n / 256 % 256 * 256 + n / 65536 * 65536 ≡ n
     whole n = omega arith
 
--- ---- what is counted is found, and has its place
+-- ---- what is found has its place
 pub twenty-range : (v : List ℕ) → twentyFound v ≡ true → (length v ≡ 1) × (word v 0 < 2 ^ 20)
 unfolding twentyFound
 twenty-range v e =
@@ -102,26 +98,87 @@ twenty-at [] e = absurd (omega (arith, twenty-range [] e .0))
 twenty-at (n ∷ []) e = twenty-placed n (twenty-range (n ∷ []) e .1)
 twenty-at (a ∷ b ∷ v) e = absurd (omega (arith, twenty-range (a ∷ b ∷ v) e .0))
 
--- the row and the kind of the counter that a tuple falls on has that tuple
-pub counted-placed : (b : Bus) (v : List ℕ) → counted b v ≡ true → Placed b v
-unfolding counted
-counted-placed ByteAlu v e = alu-placed v (alu-decides v .to (to-true e))
-counted-placed AreBytes v e = bytes-placed v (bytes-decides v .to (to-true e))
-counted-placed IsHalfword v e = half-placed v (half-decides v .to (to-true e))
-counted-placed IsB20 v e = twenty-at v e
-counted-placed IsWh v e = absurd (true-not-false (sym e))
-counted-placed KeccakRc v e = absurd (true-not-false (sym e))
-counted-placed Keccak v e = absurd (true-not-false (sym e))
-counted-placed Memw v e = absurd (true-not-false (sym e))
-counted-placed Ecall v e = absurd (true-not-false (sym e))
-counted-placed Msb8 v e = absurd (true-not-false (sym e))
-counted-placed Msb16 v e = absurd (true-not-false (sym e))
-counted-placed Zero v e = absurd (true-not-false (sym e))
-counted-placed Hwsl v e = absurd (true-not-false (sym e))
+-- the row and the kind of the counter that a tuple falls on has that tuple, where some row has it
+pub found-placed : (b : Bus) (v : List ℕ) → found b v ≡ true → Placed b v
+unfolding found
+found-placed ByteAlu v e = alu-placed v (alu-decides v .to (to-true e))
+found-placed AreBytes v e = bytes-placed v (bytes-decides v .to (to-true e))
+found-placed IsHalfword v e = half-placed v (half-decides v .to (to-true e))
+found-placed IsB20 v e = twenty-at v e
+found-placed IsWh v e = absurd (true-not-false (sym e))
+found-placed KeccakRc v e = absurd (true-not-false (sym e))
+found-placed Keccak v e = absurd (true-not-false (sym e))
+found-placed Memw v e = absurd (true-not-false (sym e))
+found-placed Ecall v e = absurd (true-not-false (sym e))
+found-placed Msb8 v e = absurd (true-not-false (sym e))
+found-placed Msb16 v e = absurd (true-not-false (sym e))
+found-placed Zero v e = absurd (true-not-false (sym e))
+found-placed Hwsl v e = absurd (true-not-false (sym e))
+
+-- ---- what is counted has a counter
+-- the row and the kind
+abbrev pub Row : Bus → List ℕ → Type 0
+Row b v = (placeRow b v < 1048576) × (placeKind b v < 10)
+
+operands-range : (v : List ℕ) → aluOperands v ≡ true → (length v ≡ 4) × (word v 0 < 3) × (word v 1 < 256) × (word v 2 < 256)
+unfolding aluOperands
+operands-range v e =
+    let a = and-true (eqb (length v) 4) (ltb (word v 0) 3 && (ltb (word v 1) 256 && ltb (word v 2) 256)) e in
+    let b = and-true (ltb (word v 0) 3) (ltb (word v 1) 256 && ltb (word v 2) 256) (a .1) in
+    let c = and-true (ltb (word v 1) 256) (ltb (word v 2) 256) (b .1) in
+    (eqb-true (length v) 4 (a .0), ltb-true (word v 0) 3 (b .0), ltb-true (word v 1) 256 (c .0), ltb-true (word v 2) 256 (c .1))
+
+operands-row : (v : List ℕ) → aluOperands v ≡ true → Row ByteAlu v
+unfolding placeRow placeKind
+operands-row v e = let a = operands-range v e in (omega (arith, a .2, a .3), omega (arith, a .1))
+
+row-of : {b : Bus} {v : List ℕ} → Placed b v → Row b v
+row-of a = (a .row-lt, a .kind-lt)
+
+pub counted-row : (b : Bus) (v : List ℕ) → counted b v ≡ true → Row b v
+unfolding counted found
+counted-row ByteAlu v e = operands-row v e
+counted-row AreBytes v e = row-of (found-placed AreBytes v e)
+counted-row IsHalfword v e = row-of (found-placed IsHalfword v e)
+counted-row IsB20 v e = row-of (found-placed IsB20 v e)
+counted-row IsWh v e = absurd (true-not-false (sym e))
+counted-row KeccakRc v e = absurd (true-not-false (sym e))
+counted-row Keccak v e = absurd (true-not-false (sym e))
+counted-row Memw v e = absurd (true-not-false (sym e))
+counted-row Ecall v e = absurd (true-not-false (sym e))
+counted-row Msb8 v e = absurd (true-not-false (sym e))
+counted-row Msb16 v e = absurd (true-not-false (sym e))
+counted-row Zero v e = absurd (true-not-false (sym e))
+counted-row Hwsl v e = absurd (true-not-false (sym e))
 
 pub place-lt : (b : Bus) (v : List ℕ) → counted b v ≡ true → placeCounter b v < NUM-COUNTERS
 unfolding placeCounter
-place-lt b v e = let a = counted-placed b v e in omega (arith, a .row-lt, a .kind-lt)
+place-lt b v e = let a = counted-row b v e in omega (arith, a .0, a .1)
+
+-- what is found is counted
+pub found-counted : (b : Bus) (v : List ℕ) → found b v ≡ true → counted b v ≡ true
+unfolding found counted aluFound aluOperands
+found-counted ByteAlu v e =
+    let r = eqb (word v 3) (aluOp (word v 0) (word v 1) (word v 2)) in
+    let a = and-true (eqb (length v) 4) (ltb (word v 0) 3 && (ltb (word v 1) 256 && (ltb (word v 2) 256 && r))) e in
+    let b = and-true (ltb (word v 0) 3) (ltb (word v 1) 256 && (ltb (word v 2) 256 && r)) (a .1) in
+    let c = and-true (ltb (word v 1) 256) (ltb (word v 2) 256 && r) (b .1) in
+    let d = and-true (ltb (word v 2) 256) r (c .1) in
+    true-and (eqb (length v) 4) (ltb (word v 0) 3 && (ltb (word v 1) 256 && ltb (word v 2) 256)) (a .0)
+    (true-and (ltb (word v 0) 3) (ltb (word v 1) 256 && ltb (word v 2) 256) (b .0)
+    (true-and (ltb (word v 1) 256) (ltb (word v 2) 256) (c .0) (d .0)))
+found-counted AreBytes v e = e
+found-counted IsHalfword v e = e
+found-counted IsB20 v e = e
+found-counted IsWh v e = e
+found-counted KeccakRc v e = e
+found-counted Keccak v e = e
+found-counted Memw v e = e
+found-counted Ecall v e = e
+found-counted Msb8 v e = e
+found-counted Msb16 v e = e
+found-counted Zero v e = e
+found-counted Hwsl v e = e
 
 -- ---- which counter
 pub falls-is : (b : Bus) (m : ℕ) (v : List ℕ) (c : ℕ) → counted b v ≡ true → fallsOn (sender b m v) c ≡ eqb c (placeCounter b v)
@@ -137,9 +194,45 @@ pub half-counted : (h : ℕ) → h < 2 ^ 16 → (counted IsHalfword (h ∷ []) �
 unfolding counted halfFound placeCounter placeRow placeKind
 half-counted h l = (lt-ltb h 65536 l, omega arith)
 
+-- two bytes at their row as kind 3, with an operation as that kind
+pub bytes-counted : (a b : ℕ) → a < 256 → b < 256 → (counted AreBytes (a ∷ b ∷ []) ≡ true) × (placeCounter AreBytes (a ∷ b ∷ []) ≡ (a + b * 256) * 10 + 3)
+unfolding counted areBytesFound placeCounter placeRow placeKind
+bytes-counted a b la lb = (true-and (ltb a 256) (ltb b 256) (lt-ltb a 256 la) (lt-ltb b 256 lb), omega arith)
+
+pub operands-counted : (op a b r : ℕ) → op < 3 → a < 256 → b < 256
+    → (counted ByteAlu (op ∷ a ∷ b ∷ r ∷ []) ≡ true) × (placeCounter ByteAlu (op ∷ a ∷ b ∷ r ∷ []) ≡ (a + b * 256) * 10 + (7 + op))
+unfolding counted aluOperands placeCounter placeRow placeKind
+operands-counted op a b r lo la lb =
+    (true-and (ltb op 3) (ltb a 256 && ltb b 256) (lt-ltb op 3 lo) (true-and (ltb a 256) (ltb b 256) (lt-ltb a 256 la) (lt-ltb b 256 lb)), omega arith)
+
 pub twenty-counted : (n : ℕ) → n < 2 ^ 20 → (counted IsB20 (n ∷ []) ≡ true) × (placeCounter IsB20 (n ∷ []) ≡ n * 10 + 5)
 unfolding counted twentyFound placeCounter placeRow placeKind
 twenty-counted n l = (lt-ltb n 1048576 l, omega arith)
+
+-- what they are is found
+pub half-found : (h : ℕ) → h < 2 ^ 16 → found IsHalfword (h ∷ []) ≡ true
+unfolding found halfFound
+half-found h l = lt-ltb h 65536 l
+
+pub twenty-is-found : (n : ℕ) → n < 2 ^ 20 → found IsB20 (n ∷ []) ≡ true
+unfolding found twentyFound
+twenty-is-found n l = lt-ltb n 1048576 l
+
+-- a tuple that is counted is found: so on every bus but ByteAlu, where its result is asked for too
+abbrev pub Sound : Tuple → Type 0
+Sound t = counted (t .bus) (t .values) ≡ true → found (t .bus) (t .values) ≡ true
+
+pub half-sound : (m : ℕ) (v : List ℕ) → Sound (sender IsHalfword m v)
+unfolding found counted
+half-sound m v e = e
+
+pub twenty-sound : (m : ℕ) (v : List ℕ) → Sound (sender IsB20 m v)
+unfolding found counted
+twenty-sound m v e = e
+
+pub pair-sound : (m : ℕ) (v : List ℕ) → Sound (receiver IsWh m v)
+unfolding found counted
+pair-sound m v e = e
 
 -- ---- the counters C afterwards, from C₀
 pub record Added (C₀ : List ℕ) (added : ℕ → ℕ) (C : List ℕ) : Type 0 where
@@ -191,7 +284,7 @@ module _ {C₀ C : List ℕ} {f : ℕ → ℕ} (a : Added C₀ f C) where
           ∙ ap (λ (t : Bool). (word C₀ c + (f c + pick t n 0)) % p) (sym (ne-eqb c at d))
 
   pub added-all : NUM-COUNTERS ≤ length C₀ → C ≡ chargedCounters C₀ f
-  unfolding chargedCounters overwrite
+  unfolding chargedWords chargedCounters overwrite
   added-all h =
       let new = tab NUM-COUNTERS (λ c. (word C₀ c + f c) % p) in
       let k : length new ≡ NUM-COUNTERS = length-tab NUM-COUNTERS (λ c. (word C₀ c + f c) % p) in
@@ -202,7 +295,7 @@ module _ {C₀ C : List ℕ} {f : ℕ → ℕ} (a : Added C₀ f C) where
 
 -- and back
 pub charged-added : (C₀ : List ℕ) (f : ℕ → ℕ) → NUM-COUNTERS ≤ length C₀ → Added C₀ f (chargedCounters C₀ f)
-unfolding chargedCounters overwrite
+unfolding chargedWords chargedCounters overwrite
 charged-added C₀ f h =
     let g : ℕ → ℕ = λ c. (word C₀ c + f c) % p in
     let new = tab NUM-COUNTERS g in
@@ -212,3 +305,42 @@ charged-added C₀ f h =
       is = λ c l. List·getD-append new (drop (length new) C₀) 0 c (omega arith) ∙ getD-tab NUM-COUNTERS g c 0 l;
       rest = ap (λ (n : ℕ). drop n (new ++ drop (length new) C₀)) (sym k) ∙ drop-append-seam new (drop (length new) C₀) ∙ ap (λ (n : ℕ). drop n C₀) k;
     }
+
+-- ---- one counter of the ones that a call is lent
+-- the counters stay below p
+pub elements-add : {C : List ℕ} (at n : ℕ) → ElementRow NUM-COUNTERS C → at < NUM-COUNTERS → ElementRow NUM-COUNTERS (charge C at n)
+unfolding charge
+elements-add {C} at n e l =
+    record {
+      long = subst (λ (k : ℕ). NUM-COUNTERS ≤ k) (sym (length-set C at (fadd (word C at) n))) (e .long);
+      below = added-below (added-one (added-none C (e .below)) at n (e .long) l);
+    }
+
+-- what adding asks for
+pub may-add : {C : List ℕ} (at : ℕ) → ElementRow NUM-COUNTERS C → at < NUM-COUNTERS → (at < length C) × (word C at < p)
+may-add at e l = let k = e .long in (omega arith, e .below at l)
+
+pub charged-elements : (C₀ : List ℕ) (f : ℕ → ℕ) → NUM-COUNTERS ≤ length C₀ → ElementRow NUM-COUNTERS (chargedCounters C₀ f)
+charged-elements C₀ f h =
+    let a = charged-added C₀ f h in
+    record { long = subst (λ (k : ℕ). NUM-COUNTERS ≤ k) (sym (a .long)) h; below = added-below a }
+
+-- ---- a tuple
+-- what a tuple adds to counter c
+abbrev pub adds : ℕ → Tuple → ℕ
+adds c t = pick (fallsOn t c) (t .multiplicity) 0
+
+pub sent-adds : (c : ℕ) (b : Bus) (m : ℕ) (v : List ℕ) (at : ℕ) → (counted b v ≡ true) × (placeCounter b v ≡ at) → adds c (sender b m v) ≡ pick (eqb c at) m 0
+sent-adds c b m v at e = ap (λ (t : Bool). pick t m 0) (falls-is b m v c (e .0)) ∙ ap (λ (k : ℕ). pick (eqb c k) m 0) (e .1)
+
+pub received-adds : (c : ℕ) (b : Bus) (m : ℕ) (v : List ℕ) → adds c (receiver b m v) ≡ 0
+received-adds c b m v = ap (λ (t : Bool). pick t m 0) (falls-not b m v c)
+
+-- after a tuple that is sent
+pub added-tuple : {C₀ C : List ℕ} {f : ℕ → ℕ} {t : Tuple} → Added C₀ f C → NUM-COUNTERS ≤ length C₀
+    → (b : Bus) (m : ℕ) (v : List ℕ) (at : ℕ) → t ≡ sender b m v → (counted b v ≡ true) × (placeCounter b v ≡ at)
+    → Added C₀ (λ c. f c + adds c t) (charge C at m)
+unfolding charge
+added-tuple {C₀} {C} {f} {t} a long b m v at e h =
+    added-same (added-one a at m long (subst (λ (k : ℕ). k < NUM-COUNTERS) (h .1) (place-lt b v (h .0))))
+    (λ c l. ap (λ (k : ℕ). f c + k) (sym (ap (adds c) e ∙ sent-adds c b m v at h)))

@@ -11,7 +11,7 @@ use lib.Seq.{getD-append-add}
 use Rattle.lists.specs.Tab.{word, tab, pick}
 use Rattle.lists.specs.Sum.{sumBelow}
 use Rattle.lists.proofs.Laws.{getD-tab}
-use Rattle.lists.proofs.Sum.{and-left, and-right, and-both}
+use Rattle.lists.proofs.Sum.{sum-zero, sum-place, and-left, and-right, and-both}
 use Rattle.tuple.specs.Tuple.{Tuple, receiver}
 use Rattle.tuple.specs.declared.Bus.{Bus}
 use Rattle.tuple.specs.declared.Bus.the-variants.{KeccakRc}
@@ -24,10 +24,9 @@ use Rattle.keccak_rc.specs.Tuples.{rcTuple}
 use Rattle.keccak_rc.specs.Found.{RcFound}
 use Rattle.keccak_rc.proofs.Found.{rc-values, rc-round, rc-tuple}
 use Rattle.bus_sums.specs.Sums.{share, shares, bitwiseAt, bitwiseShare, constantAt, constantsShare}
-use Rattle.bus_sums.proofs.Shares.{On, pick-some, share-none, share-is, shares-zero, sum-place, sum-zero}
+use Rattle.bus_sums.proofs.Shares.{On, pick-some, share-none, share-is, shares-zero}
 use Rattle.bus_sums.proofs.Rows.{fixed}
-use Rattle.bitwise.specs.Charge.{placeRow, placeKind}
-use Rattle.bitwise.proofs.Charge.{Placed}
+use Rattle.bitwise.specs.Charge.{placeRow, placeKind, Placed}
 
 pick-on : (t : Bool) (n : ℕ) → T t → pick t n 0 ≡ n
 pick-on true n h = refl

@@ -19,7 +19,8 @@ use Rattle.verdict.specs.Claims.{Answers}
 use Rattle.bus_sums.specs.Sums.{tableShare, isWhKind, Ours, Constrained, Agree, SumsHold, nobody, Filled, MAX-ROWS}
 use Rattle.bus_sums.proofs.Shares.{not-zero}
 use Rattle.bus_sums.proofs.Constrained.{core-mu}
-use Rattle.bitwise.proofs.Charge.{Placed, twenty-placed}
+use Rattle.bitwise.specs.Charge.{Placed}
+use Rattle.bitwise.proofs.Charge.{twenty-placed}
 use Rattle.bus_sums.proofs.Pairs.{pairsOf, pairs-rows, pairs-received, pairs-whole, pairs-below, PairSent, pairs-found}
 use Rattle.bus_sums.proofs.Filling.{filled, table-found, alu-agree, bytes-agree, constants-agree, half-agree, twenty-agree, is-wh-agree, keccak-agree, in-field}
 

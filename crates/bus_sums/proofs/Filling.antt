@@ -27,7 +27,8 @@ use Rattle.bus_sums.specs.Sums.{Fillings, tupleAt, tableShare, isWhLayou
 use Rattle.bus_sums.proofs.Shares.{not-zero, shares-find}
 use Rattle.bus_sums.proofs.Buses.{no-core, no-round, no-is-wh}
 use Rattle.bus_sums.proofs.Constrained.{core-carried, round-carried}
-use Rattle.bitwise.proofs.Charge.{Placed, alu-placed, bytes-placed, half-placed}
+use Rattle.bitwise.specs.Charge.{Placed}
+use Rattle.bitwise.proofs.Charge.{alu-placed, bytes-placed, half-placed}
 use Rattle.bus_sums.proofs.Charged.{charged, charged-le, charged-received, chargedConstant, constant-received}
 use Rattle.bus_sums.proofs.Totals.{OnBitwise, alu-alone, bytes-alone, half-alone, twenty-alone, sent-total, bitwise-total, is-wh-total, constants-total, keccak-total}
 

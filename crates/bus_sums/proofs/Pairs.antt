@@ -11,7 +11,7 @@ use Rattle.lists.specs.Tab.{word, tableOf, cellsOf, pick}
 use Rattle.lists.specs.Sum.{sumBelow}
 use Rattle.lists.specs.Select.{wordsTest}
 use Rattle.lists.proofs.Laws.{rowAt-table, length-table, getD-tab}
-use Rattle.lists.proofs.Sum.{sum-same, sum-then, sum-part}
+use Rattle.lists.proofs.Sum.{sum-same, sum-then, sum-part, sum-zero, sum-place, sum-flat}
 use Rattle.lists.proofs.Then.{by-le, at-two}
 use Rattle.field.specs.Field.{p, fadd, fmul}
 use Rattle.tuple.specs.Tuple.{Tuple, receiver, sameBus, sameSide}
@@ -31,7 +31,7 @@ use Rattle.verdict.specs.Kind.{rows, row, Lookups, Whole, Elements}
 use Rattle.verdict.specs.CoreAndRound.{coreLayout, coreKind}
 use Rattle.verdict.proofs.Tables.{table-rows, table-whole}
 use Rattle.bus_sums.specs.Sums.{share, shares, isWhLayout, isWhKind, tupleAt, tableShare}
-use Rattle.bus_sums.proofs.Shares.{On, share-none, shares-find, sum-place, sum-flat, sum-zero}
+use Rattle.bus_sums.proofs.Shares.{On, share-none, shares-find}
 use Rattle.bus_sums.proofs.Constrained.{row-below}
 use Rattle.bus_sums.proofs.Rows.{sides-differ, pair-early}
 
@@ -43,7 +43,7 @@ unfoldable pub pairsOf : List ℕ → List ℕ
 pairsOf core = tableOf (rows coreLayout core * 25) 4 (λ k. pairOf (row coreLayout core (k / 25)) (k % 25))
 
 -- a tuple on another bus or side adds nothing
-off : (s : Side) (b : Bus) (v : List ℕ) (t : Tuple) → (sameSide s (t .side) && sameBus b (t .bus)) ≡ false → share s b v t ≡ 0
+pub off : (s : Side) (b : Bus) (v : List ℕ) (t : Tuple) → (sameSide s (t .side) && sameBus b (t .bus)) ≡ false → share s b v t ≡ 0
 unfolding share
 off s b v t e = ap (λ (x : Bool). pick (wordsTest v (t .values)) (pick x (t .multiplicity) 0) 0) e ∙ none (wordsTest v (t .values))
   where

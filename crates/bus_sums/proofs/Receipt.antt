@@ -93,24 +93,24 @@ witness-sums =
 module _ (nr : ℕ) (some : 1 ≤ nr) (most : nr ≤ 24) (core : List ℕ) (constrained : Constrained (coreKind nr) core)
     (few : actives coreLayout core ≤ MAX-OPS) (apart : DistinctTimestamps coreLayout core) (stamps : EachActive ShortTimestamp core) where
   -- our round table is not too high
-  ours-few : opCount (operations core) ≡ actives coreLayout core → rows roundLayout (ourRounds nr 4 core) ≤ MAX-ROWS
+  ours-few : (floor : ℕ) → floor ≤ 65536 → opCount (operations core) ≡ actives coreLayout core → rows roundLayout (ourRounds nr floor core) ≤ MAX-ROWS
   unfolding ourRounds roundTable
-  ours-few e =
+  ours-few floor low e =
       let n : ℕ = opCount (operations core) in
-      let a = table-rows roundLayout (omega arith) (roundHeight nr 4 n) (roundRowAt nr n (opAt (operations core))) in
-      let b = height-le 4 (n * nr) in
+      let a = table-rows roundLayout (omega arith) (roundHeight nr floor n) (roundRowAt nr n (opAt (operations core))) in
+      let b = height-le floor (n * nr) in
       let c : n * nr ≤ MAX-OPS * 24 = mul-le-mul (subst (λ (m : ℕ). m ≤ MAX-OPS) (sym e) few) most in
       omega (arith, a, b, c)
 
-  -- it has fillings where the core table's lookups pass and its active rows are computed
-  pub ours-filled : Lookups (coreKind nr) core → EachActive (Computed nr) core → Filled nr core (ourRounds nr 4 core)
-  ours-filled ok right =
+  -- it has fillings where the core table's lookups pass and its active rows are computed, for every floor
+  pub ours-filled : (floor : ℕ) → floor ≤ 65536 → Lookups (coreKind nr) core → EachActive (Computed nr) core → Filled nr core (ourRounds nr floor core)
+  ours-filled floor low ok right =
       let c : Passes (coreKind nr) core = record { whole = constrained .whole; below = constrained .below; values = constrained .values; lookups = ok } in
-      let d = demand3-at nr 4 some most core (record { passes = c; few = few; apart = apart; stamps = stamps }) in
-      complete nr core (ourRounds nr 4 core) c (d .ours right) (constrained .few) (ours-few (d .operations-count))
+      let d = demand3-at nr floor some most core (record { passes = c; few = few; apart = apart; stamps = stamps }) in
+      complete nr core (ourRounds nr floor core) c (d .ours right) (constrained .few) (ours-few floor low (d .operations-count))
 
   pub sums-demand : ((round : List ℕ) × Filled nr core round) ↔ (Lookups (coreKind nr) core × EachActive (Computed nr) core)
   sums-demand = (
     (λ (round, (w, f, h)). (sums-core nr core round w nobody h .lookups, λ r a. sums-computed nr core round w nobody h apart some most r a .0)),
-    (λ (ok, right). (ourRounds nr 4 core, ours-filled ok right)),
+    (λ (ok, right). (ourRounds nr 4 core, ours-filled 4 (omega arith) ok right)),
   )

@@ -5,18 +5,15 @@
 --     shares-line, no-line     a table adds at most what its rows have on that bus; where they have nothing, nothing
 use mathlib.Core.Bool.{Bool, true, false, _&&_}
 use mathlib.Core.List.{List}
-use mathlib.Core.Logic.{inl, inr}
-use mathlib.Core.Path.{_≡_, refl, sym, ap, ap₂, _∙_}
-use Prim.Native.Nat.{ℕ, zero, suc, _+_, _*_, _/_, _%_, _≤_, _<_}
-use native.Mathlib.Nat.{eq-or-lt-of-le, le-of-suc-le-suc, suc-mul, zero-mul, mul-zero}
+use mathlib.Core.Path.{_≡_, refl, sym, ap, _∙_}
+use Prim.Native.Nat.{ℕ, zero, suc, _*_, _%_, _≤_, _<_}
 use native.Mathlib.Omega.{arith}
-use lib.Arith.{digits-div, digits-mod}
 use lib.Dec.{T}
 use Rattle.lists.specs.Tab.{pick}
 use Rattle.lists.specs.Sum.{sumBelow}
 use Rattle.lists.specs.Select.{wordsTest}
 use Rattle.lists.proofs.Count.{sum-find}
-use Rattle.lists.proofs.Sum.{sum-add, sum-same, sum-const, and-left, and-right}
+use Rattle.lists.proofs.Sum.{sum-const, sum-hit, sum-le, and-left, and-right}
 use Rattle.lists.proofs.Select.{words-sound, words-same}
 use Rattle.lists.proofs.Tests.{true-not-false}
 use Rattle.lists.proofs.Then.{T-true}
@@ -27,41 +24,6 @@ use Rattle.tuple.specs.declared.Side.{Side}
 use Rattle.tuple.specs.declared.Side.the-variants.{Sender, Receiver}
 use Rattle.tuple.proofs.Buses.{bus-decides}
 use Rattle.bus_sums.specs.Sums.{share, shares}
-
--- ---- sums
-pub sum-hit : (n : ℕ) (f : ℕ → ℕ) (k : ℕ) → k < n → f k ≤ sumBelow n f
-unfolding sumBelow
-sum-hit zero f k l = absurd (omega arith)
-sum-hit (suc n) f k l = elim (eq-or-lt-of-le (le-of-suc-le-suc l)) [
-  | inl e ↦ let q : f k ≡ f n = ap f e in omega arith
-  | inr g ↦ omega (arith, sum-hit n f k g)
-]
-
-pub sum-le : (n : ℕ) (f g : ℕ → ℕ) → ((k : ℕ) → k < n → f k ≤ g k) → sumBelow n f ≤ sumBelow n g
-unfolding sumBelow
-sum-le zero f g h = omega arith
-sum-le (suc n) f g h = omega (arith, sum-le n f g (λ k l. h k (omega arith)), h n (omega arith))
-
-pub sum-zero : (n : ℕ) (f : ℕ → ℕ) → ((k : ℕ) → k < n → f k ≡ 0) → sumBelow n f ≡ 0
-sum-zero n f h = sum-same n f (λ k. 0) h ∙ sum-const n 0 ∙ mul-zero n
-
--- where f is 0 but at one index
-pub sum-place : (n k : ℕ) (f : ℕ → ℕ) → k < n → ((j : ℕ) → j < n → (j ≡ k → ⊥) → f j ≡ 0) → sumBelow n f ≡ f k
-unfolding sumBelow
-sum-place zero k f l h = absurd (omega arith)
-sum-place (suc n) k f l h = elim (eq-or-lt-of-le (le-of-suc-le-suc l)) [
-  | inl e ↦ let q : f k ≡ f n = ap f e in let z = sum-zero n f (λ j g. h j (omega arith) (λ c. omega arith)) in omega (arith, q, z)
-  | inr g ↦ let a = sum-place n k f g (λ j c d. h j (omega arith) d) in omega (arith, a, h n (omega arith) (λ c. omega arith))
-]
-
--- n times m entries, by their quotient and remainder
-pub sum-flat : (n m : ℕ) (f : ℕ → ℕ → ℕ) → sumBelow (n * m) (λ k. f (k / m) (k % m)) ≡ sumBelow n (λ r. sumBelow m (f r))
-unfolding sumBelow
-sum-flat zero m f = ap (λ (k : ℕ). sumBelow k (λ k. f (k / m) (k % m))) (zero-mul m)
-sum-flat (suc n) m f =
-    ap (λ (k : ℕ). sumBelow k (λ k. f (k / m) (k % m))) (suc-mul n m)
-    ∙ sum-add (n * m) m (λ k. f (k / m) (k % m))
-    ∙ ap₂ _+_ (sum-flat n m f) (sum-same m (λ k. f ((n * m + k) / m) ((n * m + k) % m)) (f n) (λ k l. ap₂ f (digits-div n l) (digits-mod n l)))
 
 -- a number that is not 0 mod p is not 0
 pub not-zero : (n : ℕ) → 1 ≤ n % p → 1 ≤ n

@@ -10,6 +10,7 @@ use native.Mathlib.Omega.{arith}
 use Rattle.lists.specs.Tab.{word, pick, tab, tabFrom, rowAt}
 use Rattle.lists.specs.Sum.{sumBelow}
 use Rattle.lists.specs.Select.{wordsTest}
+use Rattle.lists.proofs.Sum.{sum-place}
 use Rattle.lists.proofs.Tests.{not-true, T-of}
 use Rattle.lists.proofs.Select.{words-sound}
 use Rattle.field.specs.Field.{p}
@@ -21,7 +22,7 @@ use Rattle.is_wh.specs.Tuples.{isWhTuple}
 use Rattle.is_wh.proofs.Tuples.{mu-sent, half-sent, pair-received}
 use Rattle.verdict.specs.Kind.{rows, row}
 use Rattle.bus_sums.specs.Sums.{share, shares, isWhLayout, isWhKind, tupleAt, tableShare}
-use Rattle.bus_sums.proofs.Shares.{share-none, sum-place}
+use Rattle.bus_sums.proofs.Shares.{share-none}
 use Rattle.bus_sums.proofs.Rows.{sides-differ, pair-early}
 use Rattle.bus_sums_needs.specs.Forged.{forged}
 

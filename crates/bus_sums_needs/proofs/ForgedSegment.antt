@@ -46,7 +46,7 @@ use Rattle.verdict.specs.Claims.{Addressed}
 use Rattle.verdict.specs.declared.Verdict.the-variants.{Holds}
 use Rattle.verdict.specs.Honest.{RightOperation, flatState}
 use Rattle.verdict.proofs.Failures.{verdict-says}
-use Rattle.verdict.proofs.Honest.{written-holds}
+use Rattle.verdict.proofs.Honest.{table-holds}
 use Rattle.verdict.proofs.Tables.{table-rows, table-whole}
 use Rattle.verdict.proofs.Tuples.{place, activeTupleAt, active-tuples-count, core-bus}
 use Rattle.bus_sums.specs.Sums.{share, shares, Fillings, tupleAt, tableShare, isWhLayout, isWhKind, Ours, Constrained, Agree, nobody}
@@ -136,7 +136,7 @@ right =
     }
 
 holds : verdictAt 24 written bentRound ≡ Holds 1
-holds = written-holds 24 1 1 (omega arith) (omega arith) (omega arith) (λ i. operation) (λ i l. right) (λ i j l g e. omega arith)
+holds = table-holds 24 1 1 (omega arith) (omega arith) (omega arith) (λ i. operation) (λ i l. right) (λ i j l g e. omega arith)
 
 round-passes : Passes roundKind bentRound
 round-passes = verdict-says 24 written bentRound (Holds 1) .0 holds .2

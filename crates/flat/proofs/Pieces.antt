@@ -5,7 +5,7 @@ use mathlib.Core.Bool.{Bool}
 use mathlib.Core.List.{List, [], _∷_, _++_}
 use Rattle.answer.specs.Refusal.{refusalNumber, refusalDetail}
 use Rattle.answer.specs.declared.Refusal.{Refusal}
-use Rattle.answer.specs.declared.Refusal.the-variants.{PastEnd, NotWhole, TooShort, HighAddress, NotElement, BadRecord}
+use Rattle.answer.specs.declared.Refusal.the-variants.{PastEnd, NotWhole, TooShort, HighAddress, NotElement, BadRecord, Unaligned, Rounds, Floor}
 use Rattle.op_file.specs.File.{tallyOf}
 use Rattle.op_file.specs.Reader.{feedOf, finishOf, fileStart}
 use Rattle.op_file.specs.declared.Cursor.{Cursor}
@@ -22,17 +22,23 @@ refusal-again (TooShort d) = refl
 refusal-again (HighAddress d) = refl
 refusal-again (NotElement d) = refl
 refusal-again (BadRecord d) = refl
+refusal-again (Unaligned d) = refl
+refusal-again (Rounds d) = refl
+refusal-again (Floor d) = refl
 
 -- no reader is lost or changed between two calls
 pub cursor-again : (c : Cursor) → cursorOf (flatCursor c) ≡ c
 unfolding cursorOf flatCursor refusalOf
-cursor-again (cursor.Reading n at addr) = refl
+cursor-again (cursor.Reading n k at addr) = refl
 cursor-again (cursor.Refused (PastEnd d)) = refl
 cursor-again (cursor.Refused (NotWhole d)) = refl
 cursor-again (cursor.Refused (TooShort d)) = refl
 cursor-again (cursor.Refused (HighAddress d)) = refl
 cursor-again (cursor.Refused (NotElement d)) = refl
 cursor-again (cursor.Refused (BadRecord d)) = refl
+cursor-again (cursor.Refused (Unaligned d)) = refl
+cursor-again (cursor.Refused (Rounds d)) = refl
+cursor-again (cursor.Refused (Floor d)) = refl
 
 -- one call after the other, on the pieces in turn
 unfoldable pub fed : FlatCursor → List (List ℕ) → FlatCursor
@@ -51,5 +57,5 @@ fed-stands c (s ∷ ss) =
     ∙ fed-stands (feedOf c s) ss
     ∙ sym (feed-append c s (joined ss))
 
-pub calls-tally : (shipped : Bool) (syscall : ℕ) (ss : List (List ℕ)) → flatTally (finishOf shipped (cursorOf (fed (flatCursor fileStart) ss))) ≡ flatTally (tallyOf shipped syscall (joined ss))
-calls-tally shipped syscall ss = ap (λ (d : Cursor). flatTally (finishOf shipped d)) (fed-stands fileStart ss) ∙ ap flatTally (reads-file shipped syscall (joined ss))
+pub calls-tally : (floor : ℕ) (shipped : Bool) (syscall : ℕ) (ss : List (List ℕ)) → flatTally (finishOf floor shipped (cursorOf (fed (flatCursor fileStart) ss))) ≡ flatTally (tallyOf floor shipped syscall (joined ss))
+calls-tally floor shipped syscall ss = ap (λ (d : Cursor). flatTally (finishOf floor shipped d)) (fed-stands fileStart ss) ∙ ap flatTally (reads-file floor shipped syscall (joined ss))

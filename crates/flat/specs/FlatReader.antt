@@ -5,7 +5,7 @@ use lib.Dec.{eqb}
 use Rattle.lists.specs.Tab.{pick}
 use Rattle.answer.specs.Refusal.{refusalNumber, refusalDetail}
 use Rattle.answer.specs.declared.Refusal.{Refusal}
-use Rattle.answer.specs.declared.Refusal.the-variants.{PastEnd, NotWhole, TooShort, HighAddress, NotElement, BadRecord}
+use Rattle.answer.specs.declared.Refusal.the-variants.{PastEnd, NotWhole, TooShort, HighAddress, NotElement, BadRecord, Unaligned, Rounds, Floor}
 use Rattle.op_file.specs.declared.Cursor.{Cursor}
 use Rattle.op_file.specs.declared.Cursor.the-variants as cursor
 use Rattle.op_file.specs.declared.Tally.{Tally}
@@ -21,15 +21,18 @@ refusalOf number detail =
     (pick (eqb number 3) (TooShort detail)
     (pick (eqb number 4) (HighAddress detail)
     (pick (eqb number 5) (NotElement detail)
-    (BadRecord detail)))))
+    (pick (eqb number 7) (Unaligned detail)
+    (pick (eqb number 8) (Rounds detail)
+    (pick (eqb number 9) (Floor detail)
+    (BadRecord detail))))))))
 
 unfoldable pub cursorOf : FlatCursor → Cursor
 cursorOf c =
-    pick (eqb (c .number) 0) (cursor.Reading (c .records) (c .at) (c .address))
+    pick (eqb (c .number) 0) (cursor.Reading (c .records) (c .unaligned) (c .at) (c .address))
     (cursor.Refused (refusalOf (c .number) (c .detail)))
 
 unfoldable pub flatCursor : Cursor → FlatCursor
-flatCursor (cursor.Reading n at addr) = record { number = 0; detail = 0; records = n; at = at; address = addr }
+flatCursor (cursor.Reading n k at addr) = record { number = 0; detail = 0; records = n; at = at; address = addr; unaligned = k }
 flatCursor (cursor.Refused r) =
     record {
       number = refusalNumber r;
@@ -37,6 +40,7 @@ flatCursor (cursor.Refused r) =
       records = 0;
       at = 0;
       address = 0;
+      unaligned = 0;
     }
 
 unfoldable pub flatTally : Tally → FlatTally
@@ -54,6 +58,7 @@ flatTally (tally.Counted s) =
       «is_wh» = s .«is_wh»;
       memw = s .memw;
       ecall = s .ecall;
+      unaligned = s .unaligned;
     }
 flatTally (tally.Refused r) =
     record {
@@ -69,4 +74,5 @@ flatTally (tally.Refused r) =
       «is_wh» = 0;
       memw = 0;
       ecall = 0;
+      unaligned = 0;
     }

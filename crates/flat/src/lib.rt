@@ -55,7 +55,8 @@ pub struct FlatLookup {
 }
 
 // Where a reader stands: number and detail of the first fault, or 0 and 0 while there is none, and then the whole
-// records, the bytes of the next, and what its address bytes so far make.
+// records at multiples of 8, the bytes of the next, what its address bytes so far make, and the whole records at other
+// addresses.
 #[repr(C)]
 pub struct FlatCursor {
     pub number: u64,
@@ -63,9 +64,11 @@ pub struct FlatCursor {
     pub records: u64,
     pub at: usize,
     pub address: u64,
+    pub unaligned: u64,
 }
 
-// Number and detail of the first fault, or 0 and 0 and then the ten numbers.
+// Number and detail of the first fault, or 0 and 0 and then the ten numbers, and the number of records that they leave
+// out.
 #[repr(C)]
 pub struct FlatTally {
     pub number: u64,
@@ -80,6 +83,7 @@ pub struct FlatTally {
     pub is_wh: u64,
     pub memw: u64,
     pub ecall: u64,
+    pub unaligned: u64,
 }
 
 pub fn flat_answer(answer: Answer) -> FlatAnswer

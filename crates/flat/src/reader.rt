@@ -10,22 +10,17 @@ ghost use Rattle.flat.specs.FlatReader.{refusalOf, cursorOf, flatCursor,
 fn refusal_of(number: u64, detail: u64) -> Refusal
     ensures { λ r. ⌜ r ≡ refusalOf number detail ⌝ }
 {
-    if number == 1 {
-        return Refusal::PastEnd(detail);
+    match number {
+        1 => Refusal::PastEnd(detail),
+        2 => Refusal::NotWhole(detail),
+        3 => Refusal::TooShort(detail),
+        4 => Refusal::HighAddress(detail),
+        5 => Refusal::NotElement(detail),
+        7 => Refusal::Unaligned(detail),
+        8 => Refusal::Rounds(detail),
+        9 => Refusal::Floor(detail),
+        _ => Refusal::BadRecord(detail),
     }
-    if number == 2 {
-        return Refusal::NotWhole(detail);
-    }
-    if number == 3 {
-        return Refusal::TooShort(detail);
-    }
-    if number == 4 {
-        return Refusal::HighAddress(detail);
-    }
-    if number == 5 {
-        return Refusal::NotElement(detail);
-    }
-    Refusal::BadRecord(detail)
 }
 
 pub fn cursor_of(c: FlatCursor) -> Cursor
@@ -34,6 +29,7 @@ pub fn cursor_of(c: FlatCursor) -> Cursor
     if c.number == 0 {
         return Cursor::Reading {
             n: c.records,
+            unaligned: c.unaligned,
             at: c.at,
             addr: c.address,
         };
@@ -45,12 +41,18 @@ pub fn flat_cursor(c: Cursor) -> FlatCursor
     ensures { λ r. ⌜ r ≡ flatCursor c ⌝ }
 {
     match c {
-        Cursor::Reading { n, at, addr } => FlatCursor {
+        Cursor::Reading {
+            n,
+            unaligned,
+            at,
+            addr,
+        } => FlatCursor {
             number: 0,
             detail: 0,
             records: n,
             at,
             address: addr,
+            unaligned,
         },
         Cursor::Refused(refusal) => FlatCursor {
             number: refusal.number(),
@@ -58,6 +60,7 @@ pub fn flat_cursor(c: Cursor) -> FlatCursor
             records: 0,
             at: 0,
             address: 0,
+            unaligned: 0,
         },
     }
 }
@@ -79,6 +82,7 @@ pub fn flat_tally(tally: Tally) -> FlatTally
             is_wh: sums.is_wh,
             memw: sums.memw,
             ecall: sums.ecall,
+            unaligned: sums.unaligned,
         },
         Tally::Refused(refusal) => FlatTally {
             number: refusal.number(),
@@ -93,6 +97,7 @@ pub fn flat_tally(tally: Tally) -> FlatTally
             is_wh: 0,
             memw: 0,
             ecall: 0,
+            unaligned: 0,
         },
     }
 }

@@ -17,8 +17,8 @@ use Rattle.tuple.specs.Tuple.{Tuple, sender, receiver}
 use Rattle.tuple.specs.declared.Bus.{Bus}
 use Rattle.tuple.specs.declared.Bus.the-variants.{IsHalfword, IsB20}
 use Rattle.bitwise.specs.Columns.{NUM-COUNTERS}
-use Rattle.bitwise.specs.Charge.{counted, placeCounter, fallsOn, charged, chargedCounters}
-use Rattle.bitwise.proofs.Charge.{falls-is, falls-not, half-counted, twenty-counted, Added, added-none, added-same, added-one, added-below, added-all, charged-added}
+use Rattle.bitwise.specs.Charge.{counted, placeCounter, fallsOn, chargedRow, charged, chargedCounters}
+use Rattle.bitwise.proofs.Charge.{half-counted, twenty-counted, Added, added-none, added-same, added-one, added-below, added-all, elements-add, charged-elements, adds, sent-adds, received-adds}
 use Rattle.is_wh.specs.Row.{pairRow, padRow}
 use Rattle.is_wh.specs.Tuples.{isWhTuple}
 use Rattle.is_wh.proofs.Tuples.{mu-sent, half-sent, pair-received}
@@ -26,36 +26,6 @@ use Rattle.is_wh_rows.specs.Lists.{limitOf, GoodList}
 use Rattle.is_wh_trace.specs.Trace.{rowCount, traceRow, isWhHeight, isWhTable}
 use Rattle.is_wh_trace.proofs.Rows.{row-before, row-behind, written-row}
 use Rattle.bitwise.specs.Counters.{charge}
-
--- ---- one counter
--- the counters stay below p
-pub elements-add : {C : List ℕ} (at n : ℕ) → ElementRow NUM-COUNTERS C → at < NUM-COUNTERS → ElementRow NUM-COUNTERS (charge C at n)
-unfolding charge
-elements-add {C} at n e l =
-    record {
-      long = subst (λ (k : ℕ). NUM-COUNTERS ≤ k) (sym (length-set C at (fadd (word C at) n))) (e .long);
-      below = added-below (added-one (added-none C (e .below)) at n (e .long) l);
-    }
-
--- what adding asks for
-pub may-add : {C : List ℕ} (at : ℕ) → ElementRow NUM-COUNTERS C → at < NUM-COUNTERS → (at < length C) × (word C at < p)
-may-add at e l = let k = e .long in (omega arith, e .below at l)
-
-pub charged-elements : (C₀ : List ℕ) (f : ℕ → ℕ) → NUM-COUNTERS ≤ length C₀ → ElementRow NUM-COUNTERS (chargedCounters C₀ f)
-charged-elements C₀ f h =
-    let a = charged-added C₀ f h in
-    record { long = subst (λ (k : ℕ). NUM-COUNTERS ≤ k) (sym (a .long)) h; below = added-below a }
-
--- ---- a tuple
--- what a tuple adds to counter c
-abbrev adds : ℕ → Tuple → ℕ
-adds c t = pick (fallsOn t c) (t .multiplicity) 0
-
-sent-adds : (c : ℕ) (b : Bus) (m : ℕ) (v : List ℕ) (at : ℕ) → (counted b v ≡ true) × (placeCounter b v ≡ at) → adds c (sender b m v) ≡ pick (eqb c at) m 0
-sent-adds c b m v at e = ap (λ (t : Bool). pick t m 0) (falls-is b m v c (e .0)) ∙ ap (λ (k : ℕ). pick (eqb c k) m 0) (e .1)
-
-received-adds : (c : ℕ) (b : Bus) (m : ℕ) (v : List ℕ) → adds c (receiver b m v) ≡ 0
-received-adds c b m v = ap (λ (t : Bool). pick t m 0) (falls-not b m v c)
 
 -- ---- a row
 -- what its tuples add to counter c
@@ -95,7 +65,7 @@ module _ (rows : List ℕ) where
   listAdds n = charged n 5 (λ r. isWhTuple (traceRow rows r))
 
   more-adds : (i c : ℕ) → listAdds (i + 1) c ≡ listAdds i c + rowAdds (traceRow rows i) c
-  unfolding charged sumBelow
+  unfolding chargedRow charged sumBelow
   more-adds i c = ap (λ (k : ℕ). sumBelow k (λ r. rowAdds (traceRow rows r) c)) (add-one i)
 
   -- the words of row i
@@ -116,7 +86,7 @@ module _ (rows : List ℕ) where
     pub added : Added C₀ (listAdds i) C
 
   pub list-none : (C : List ℕ) → ElementRow NUM-COUNTERS C → ListAdded C C 0
-  unfolding charged sumBelow
+  unfolding chargedRow charged sumBelow
   list-none C e = record { bound = omega arith; added = added-none C (e .below) }
 
   module _ (C₀ : List ℕ) (long : NUM-COUNTERS ≤ length C₀) (g : GoodList 3 rows) where
@@ -151,7 +121,7 @@ module _ (rows : List ℕ) where
   -- ---- and the padding
   pub table-adds : (c : ℕ) → rowCount rows ≤ isWhHeight rows
       → charged (isWhHeight rows) 5 (λ r. isWhTuple (rowAt 4 (isWhTable rows) r)) c ≡ listAdds (rowCount rows) c + pick (eqb c 5) (isWhHeight rows - rowCount rows) 0
-  unfolding charged
+  unfolding chargedRow charged
   table-adds c le =
       let n = rowCount rows in
       let m = isWhHeight rows - rowCount rows in

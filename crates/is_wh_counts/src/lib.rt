@@ -1,6 +1,8 @@
 // tables/is_wh.rs: the bitwise lookups of the IS_WH table, charged to the counters.
 use answer::Answer;
 use answer::Refusal;
+use bitwise::IS_B20;
+use bitwise::IS_HALF;
 use bitwise::NUM_COUNTERS;
 use bitwise::NUM_LOOKUP_TYPES;
 use bitwise_counts::charge_word;
@@ -22,11 +24,6 @@ ghost use Rattle.is_wh.specs.Tuples.{isWhTuple};
 ghost use Rattle.is_wh_rows.specs.Lists.{GoodList};
 ghost use Rattle.is_wh_trace.specs.Trace.{traceRow};
 ghost use Rattle.is_wh_counts.specs.Counts.{collectRefusal, collectAfter};
-
-// The numbers of the kinds IS_HALF and IS_B20.
-const IS_HALF: usize = 4;
-
-const IS_B20: usize = 5;
 
 // The lookups of a row: its three halves mu times, and mu once.
 fn charge_row(counters: &mut [u64], word: u64, half: u64, mu: u64)

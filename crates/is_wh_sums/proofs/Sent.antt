@@ -15,13 +15,13 @@ use Rattle.lists.specs.First.{firstAt, countBelow}
 use Rattle.lists.specs.Sum.{sumBelow}
 use Rattle.lists.specs.Select.{wordsTest}
 use Rattle.lists.proofs.Count.{count-same, sum-tests}
-use Rattle.lists.proofs.Sum.{sum-same, sum-add}
+use Rattle.lists.proofs.Sum.{sum-same, sum-add, sum-zero, sum-place, sum-flat}
 use Rattle.lists.proofs.Then.{by-le}
 use Rattle.tuple.specs.Tuple.{Tuple, receiver}
 use Rattle.tuple.specs.declared.Bus.the-variants.{IsWh}
 use Rattle.tuple.specs.declared.Side.the-variants.{Sender, Receiver}
-use Rattle.bitwise.specs.Charge.{counted}
-use Rattle.bitwise.proofs.Charge.{half-counted, twenty-counted}
+use Rattle.bitwise.specs.Charge.{found}
+use Rattle.bitwise.proofs.Charge.{half-found, twenty-is-found, Sound, half-sound, twenty-sound, pair-sound}
 use Rattle.bitwise.proofs.Found.{half-occurs}
 use Rattle.is_wh.specs.Row.{pairRow}
 use Rattle.is_wh.specs.Tuples.{isWhTuple}
@@ -50,7 +50,7 @@ use Rattle.verdict.specs.Kind.{row}
 use Rattle.verdict.specs.CoreAndRound.{coreLayout, coreKind}
 use Rattle.verdict.proofs.Tables.{table-rows}
 use Rattle.bus_sums.specs.Sums.{share, shares, isWhLayout, isWhKind, tupleAt, tableShare}
-use Rattle.bus_sums.proofs.Shares.{share-none, sum-place, sum-zero, sum-flat}
+use Rattle.bus_sums.proofs.Shares.{share-none}
 use Rattle.bus_sums.proofs.Rows.{sides-differ, pair-early}
 use Rattle.bus_sums.proofs.Pairs.{core-sends}
 
@@ -295,6 +295,13 @@ module _ (n : ℕ) (op : ℕ → KeccakOperation) where
     pairs-balanced nr floor (a ∷ b ∷ []) = pair-balanced nr floor a b
     pairs-balanced nr floor (a ∷ b ∷ c ∷ v) = no-pair nr floor (a ∷ b ∷ c ∷ v) (three-pair a b c v)
 
+-- ---- a tuple of any row that is counted is found
+pub row-sound : (x : List ℕ) (i : ℕ) → Sound (isWhTuple x i)
+row-sound x zero = subst Sound (sym (mu-sent x 0 refl)) (twenty-sound 1 _)
+row-sound x (suc i) =
+    by-le 4 (suc i) (λ g. subst Sound (sym (pair-received x (suc i) g)) (pair-sound (word x 3) _))
+    (λ g. subst Sound (sym (half-sent x (suc i) (omega arith) g)) (half-sound (word x 3) _))
+
 -- ---- every tuple of the rows of a good list is found
 module _ (w h mu : ℕ) (lw : w < 2 ^ 32) (lh : h < 2 ^ 16) (lm : mu < 2 ^ 20) where
   limb : (j : ℕ) → j < 3 → word (pairRow w h mu) j < 2 ^ 16
@@ -304,11 +311,11 @@ module _ (w h mu : ℕ) (lw : w < 2 ^ 32) (lh : h < 2 ^ 16) (lm : mu < 2 ^ 20) w
   limb (suc (suc (suc j))) l = absurd (omega arith)
 
   abbrev Fine : Tuple → Type 0
-  Fine t = Found t × (t .side ≡ Sender → counted (t .bus) (t .values) ≡ true)
+  Fine t = Found t × (t .side ≡ Sender → found (t .bus) (t .values) ≡ true)
 
   row-fine : (i : ℕ) → i < 5 → Fine (isWhTuple (pairRow w h mu) i)
   unfolding FoundOn
-  row-fine zero l = subst Fine (sym (mu-sent (pairRow w h mu) 0 refl)) (tt, λ e. twenty-counted mu lm .0)
+  row-fine zero l = subst Fine (sym (mu-sent (pairRow w h mu) 0 refl)) (tt, λ e. twenty-is-found mu lm)
   row-fine (suc i) l =
       by-le 4 (suc i)
       (λ g.
@@ -318,22 +325,22 @@ module _ (w h mu : ℕ) (lw : w < 2 ^ 32) (lh : h < 2 ^ 16) (lm : mu < 2 ^ 20) w
       (λ g.
       let e = half-sent (pairRow w h mu) (suc i) (omega arith) g in
       let b = limb (suc i - 1) (omega arith) in
-      subst Fine (sym e) (half-occurs (word (pairRow w h mu) (suc i - 1)) b, λ q. half-counted (word (pairRow w h mu) (suc i - 1)) b .0))
+      subst Fine (sym e) (half-occurs (word (pairRow w h mu) (suc i - 1)) b, λ q. half-found (word (pairRow w h mu) (suc i - 1)) b))
 
 module _ (rows₁ : List ℕ) (g : GoodList 3 rows₁) where
   table-fine : (r i : ℕ) → r < isWhHeight rows₁ → i < 5
-      → Found (isWhTuple (rowAt 4 (isWhTable rows₁) r) i) × (isWhTuple (rowAt 4 (isWhTable rows₁) r) i .side ≡ Sender → counted (isWhTuple (rowAt 4 (isWhTable rows₁) r) i .bus) (isWhTuple (rowAt 4 (isWhTable rows₁) r) i .values) ≡ true)
+      → Found (isWhTuple (rowAt 4 (isWhTable rows₁) r) i) × (isWhTuple (rowAt 4 (isWhTable rows₁) r) i .side ≡ Sender → found (isWhTuple (rowAt 4 (isWhTable rows₁) r) i .bus) (isWhTuple (rowAt 4 (isWhTable rows₁) r) i .values) ≡ true)
   unfolding traceRow
   table-fine r i l k =
       by-le (rowCount rows₁) r
-      (λ c. subst (λ (x : List ℕ). Found (isWhTuple x i) × (isWhTuple x i .side ≡ Sender → counted (isWhTuple x i .bus) (isWhTuple x i .values) ≡ true)) (sym (written-row rows₁ r l ∙ row-behind rows₁ (rowCount rows₁) r c)) (row-fine 0 0 0 (omega arith) (omega arith) (omega arith) i k))
-      (λ c. let b = good-row rows₁ g r c in subst (λ (x : List ℕ). Found (isWhTuple x i) × (isWhTuple x i .side ≡ Sender → counted (isWhTuple x i .bus) (isWhTuple x i .values) ≡ true)) (sym (written-row rows₁ r l ∙ row-before rows₁ (rowCount rows₁) r c)) (row-fine (word rows₁ (3 * r)) (word rows₁ (3 * r + 1)) (word rows₁ (3 * r + 2)) (b .0) (b .1) (b .2) i k))
+      (λ c. subst (λ (x : List ℕ). Found (isWhTuple x i) × (isWhTuple x i .side ≡ Sender → found (isWhTuple x i .bus) (isWhTuple x i .values) ≡ true)) (sym (written-row rows₁ r l ∙ row-behind rows₁ (rowCount rows₁) r c)) (row-fine 0 0 0 (omega arith) (omega arith) (omega arith) i k))
+      (λ c. let b = good-row rows₁ g r c in subst (λ (x : List ℕ). Found (isWhTuple x i) × (isWhTuple x i .side ≡ Sender → found (isWhTuple x i .bus) (isWhTuple x i .values) ≡ true)) (sym (written-row rows₁ r l ∙ row-before rows₁ (rowCount rows₁) r c)) (row-fine (word rows₁ (3 * r)) (word rows₁ (3 * r + 1)) (word rows₁ (3 * r + 2)) (b .0) (b .1) (b .2) i k))
 
   -- found where it is looked up, whatever its multiplicity
   pub rows-matched : (r i : ℕ) → r < isWhHeight rows₁ → i < 5 → Matched (isWhTuple (rowAt 4 (isWhTable rows₁) r) i)
   rows-matched r i l k = λ m. table-fine r i l k .0
 
-  -- and what is sent falls on a counter of the bitwise table
+  -- and what is sent stands in a row of the bitwise table
   pub rows-sent : (r i : ℕ) → r < isWhHeight rows₁ → i < 5 → isWhTuple (rowAt 4 (isWhTable rows₁) r) i .side ≡ Sender
-      → counted (isWhTuple (rowAt 4 (isWhTable rows₁) r) i .bus) (isWhTuple (rowAt 4 (isWhTable rows₁) r) i .values) ≡ true
+      → found (isWhTuple (rowAt 4 (isWhTable rows₁) r) i .bus) (isWhTuple (rowAt 4 (isWhTable rows₁) r) i .values) ≡ true
   rows-sent r i l k = table-fine r i l k .1

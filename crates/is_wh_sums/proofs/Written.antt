@@ -14,16 +14,16 @@ use Rattle.answer.proofs.Laws.{new-words}
 use Rattle.tuple.specs.declared.Bus.{Bus}
 use Rattle.tuple.specs.declared.Bus.the-variants.{IsWh}
 use Rattle.tuple.specs.declared.Side.the-variants.{Sender, Receiver}
-use Rattle.bitwise.specs.Charge.{placeCounter, counted, charged}
+use Rattle.bitwise.specs.Charge.{placeCounter, found, charged}
 use Rattle.is_wh.specs.Tuples.{isWhTuple}
-use Rattle.keccak.specs.Height.{height, MIN-ROWS}
-use Rattle.keccak.specs.Row.{opAt, keyWords, coreTable}
+use Rattle.keccak.specs.Height.{height}
+use Rattle.keccak.specs.Row.{opAt, keyWords}
 use Rattle.keccak.specs.Refusals.{opCount, keysRefusal, coreTraceRefusal}
 use Rattle.keccak.specs.Calls.{keysAfter, coreTraceAfter}
 use Rattle.keccak.proofs.Cells.{last-address}
 use Rattle.keccak.proofs.Keys.{length-keys}
 use Rattle.keccak.proofs.Refusals.{accepted-is}
-use Rattle.keccak.proofs.Table.{length-core-table}
+use Rattle.keccak.proofs.Calls.{table-left}
 use Rattle.is_wh_rows.specs.Rows.{codes, rowsOf, flat}
 use Rattle.is_wh_rows.specs.Lists.{GoodList}
 use Rattle.is_wh_rows.specs.Calls.{dedupRefusal, rowsAfter}
@@ -35,7 +35,7 @@ use Rattle.verdict.specs.CoreAndRound.{coreKind}
 use Rattle.verdict.proofs.Tables.{table-rows}
 use Rattle.bus_sums.specs.Sums.{shares, tupleAt, tableShare, isWhLayout, isWhKind}
 use Rattle.is_wh_sums.proofs.Charge.{charged-is-sent}
-use Rattle.is_wh_sums.proofs.Sent.{keys-good, pairs-balanced}
+use Rattle.is_wh_sums.proofs.Sent.{keys-good, pairs-balanced, row-sound}
 
 -- ---- the keys of a list of operations
 module _ (ops out : List ℕ) (wrote-keys : keysRefusal (length out) ops ≡ accepted) where
@@ -62,25 +62,25 @@ module _ (ops out : List ℕ) (wrote-keys : keysRefusal (length out) ops ≡ acc
     abbrev pub rowsWritten : List ℕ
     rowsWritten = take (3 * length (rowsOf (codes keysOf))) (rowsAfter (length C) (length S) keysOf R)
 
-    rows-are : rowsWritten ≡ flat (rowsOf (codes (keyWords (opCount ops) (opAt ops))))
+    pub rows-are : rowsWritten ≡ flat (rowsOf (codes (keyWords (opCount ops) (opAt ops))))
     rows-are = rows-start keysOf C S R wrote-rows ∙ ap (λ (k : List ℕ). flat (rowsOf (codes k))) keys-are
 
-    pub written-balanced : (T core : List ℕ) → isWhTraceRefusal (length T) rowsWritten ≡ accepted → coreTraceRefusal (length core) ops ≡ accepted
+    pub written-balanced : (floor : ℕ) (T core : List ℕ) → isWhTraceRefusal (length T) rowsWritten ≡ accepted → coreTraceRefusal floor (length core) ops ≡ accepted
         → (nr : ℕ) (v : List ℕ)
         → tableShare Receiver IsWh v isWhKind (take (isWhHeight rowsWritten * 4) (isWhTraceAfter rowsWritten T))
-        ≡ tableShare Sender IsWh v (coreKind nr) (take (height MIN-ROWS (opCount ops) * 486) (coreTraceAfter ops core))
-    written-balanced T core wrote-table wrote-core nr v =
+        ≡ tableShare Sender IsWh v (coreKind nr) (take (height floor (opCount ops) * 486) (coreTraceAfter floor ops core))
+    written-balanced floor T core wrote-table wrote-core nr v =
         let n = opCount ops in
         let op = opAt ops in
         ap (tableShare Receiver IsWh v isWhKind) (table-start rowsWritten T wrote-table ∙ ap isWhTable rows-are)
-        ∙ pairs-balanced n op few low nr MIN-ROWS v
-        ∙ sym (ap (tableShare Sender IsWh v (coreKind nr)) (ap (λ (k : ℕ). take k (coreTraceAfter ops core)) (sym (length-core-table n op MIN-ROWS)) ∙ new-words (coreTable MIN-ROWS n op) core wrote-core))
+        ∙ pairs-balanced n op few low nr floor v
+        ∙ sym (ap (tableShare Sender IsWh v (coreKind nr)) (table-left floor ops core wrote-core))
 
 -- ---- the counter of given values grows by how often the table sends them
-pub collected-is-sent : (rows : List ℕ) → (rowCount rows ≡ 0 → ⊥) → (b : Bus) (v : List ℕ) → counted b v ≡ true
+pub collected-is-sent : (rows : List ℕ) → (rowCount rows ≡ 0 → ⊥) → (b : Bus) (v : List ℕ) → found b v ≡ true
     → isWhCharged rows (placeCounter b v) ≡ tableShare Sender b v isWhKind (isWhTable rows)
 unfolding isWhCharged sendingRows shares tupleAt isWhTable
 collected-is-sent rows has b v h =
     ap (λ (t : Bool). charged (pick t 0 (isWhHeight rows)) 5 (λ r. isWhTuple (rowAt 4 (isWhTable rows) r)) (placeCounter b v)) (ne-eqb (rowCount rows) 0 has)
-    ∙ charged-is-sent b v h (isWhHeight rows) 5 (λ r. isWhTuple (rowAt 4 (isWhTable rows) r))
+    ∙ charged-is-sent b v h (isWhHeight rows) 5 (λ r. isWhTuple (rowAt 4 (isWhTable rows) r)) (λ r i l k _. row-sound (rowAt 4 (isWhTable rows) r) i)
     ∙ ap (λ (k : ℕ). shares Sender b v k 5 (λ r. isWhTuple (rowAt 4 (isWhTable rows) r))) (sym (table-rows isWhLayout (omega arith) (isWhHeight rows) _))

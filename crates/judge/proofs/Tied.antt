@@ -1,123 +1,147 @@
 -- Demand 3 of what the two calls answer and write. Of a call nothing is known but its contract: `Learnt` is what the
 -- `ensures` clauses in `src/` tell a caller, as the toolchain reads them, so from weaker clauses `answered` and `wrote`
 -- would not follow.
---     Answered    a call of `verdict` on a core table and a round table, and its answer
---     Wrote       a call of `generate_keccak_rnd_trace` on a list and a slice, and what the slice holds when it ends
--- In both `lent` is the parameters when the call begins and `ended` when it ends, `.0` the first and `.1 .0` the second;
--- their lifetimes, and where in memory they are, may be any.
-use mathlib.Core.Path.{_≡_, refl, sym, ap, ap₂, subst, _∙_}
+--     Answered    a call of `verdict` for nr rounds on a core table and a round table, and its answer
+--     Wrote       a call of `generate_keccak_rnd_trace` for nr rounds and a floor on a list and a slice, and what the slice holds when it ends
+-- In both `lent` is the parameters when the call begins and `ended` when it ends, `.0` the first, `.1 .0` the second and
+-- `.1 .1 .0` the third; their lifetimes, and where in memory they are, may be any.
+use mathlib.Core.Path.{_≡_, refl, sym, ap, subst, _∙_}
 use mathlib.Core.Logic.{_↔_}
 use mathlib.Core.List.{List, [], _++_}
 use mathlib.Core.Option.{Option}
-use Prim.Native.Nat.{ℕ, _*_, _≤_}
-use native.Mathlib.Omega.{arith}
+use Prim.Native.Nat.{ℕ, _≤_}
 use lib.ListN.{length, take, drop}
 use lib.Seq.{take-append-seam, drop-append-seam}
 use contract.Lifetimes.{Lfts}
 use denote.Triple.Clauses.{AtExit}
 use borrow.Fn.Kinds.{Dens, endedOf}
-use Rattle.lists.proofs.Laws.{length-table}
-use Rattle.answer.specs.Refusal.{overwrite, afterwards, answerOf}
+use Rattle.answer.specs.Refusal.{accepted, overwrite, afterwards, answerOf, PowerFloor}
 use Rattle.answer.specs.declared.Refusal.{Refusal}
+use Rattle.answer.specs.declared.Refusal.the-variants.{Rounds}
 use Rattle.answer.specs.declared.Answer.{Answer}
-use Rattle.keccak.specs.Row.{opAt}
-use Rattle.keccak.specs.Refusals.{opCount}
-use Rattle.keccak_rnd.specs.Row.{roundTable, roundHeight, roundRowAt}
 use Rattle.keccak_rnd.specs.Refusals.{roundTraceRefusal}
 use Rattle.keccak_rnd.specs.Calls.{roundTraceAfter}
+use Rattle.keccak_rnd.proofs.Refusals.{trace-later}
 use Rattle.verdict.specs.Kind.{actives}
-use Rattle.verdict.specs.CoreAndRound.{coreLayout, verdictOf}
-use Rattle.verdict.specs.Claims.{Supposed, Claims, Answers, EachActive, Computed, operations, ourRounds}
+use Rattle.verdict.specs.CoreAndRound.{coreLayout, verdictAt, verdictFor}
+use Rattle.verdict.specs.Failures.{NoRounds}
+use Rattle.verdict.specs.Claims.{SupposedAt, ClaimsAt, Answers, EachActive, Computed, Addressed, operations, ourRounds}
 use Rattle.verdict.specs.declared.Verdict.{Verdict}
-use Rattle.verdict.specs.declared.Verdict.the-variants.{Holds}
-use Rattle.verdict.proofs.Demand3.{demand3}
+use Rattle.verdict.specs.declared.Verdict.the-variants.{Refused, Holds}
+use Rattle.verdict.proofs.AnyRounds.{verdict-in-range, verdict-no-rounds, holds-in-range}
+use Rattle.verdict.proofs.Demand3.{demand3-at, holds-computed}
 use Rattle.keccak_rnd_trace.proofs.generate_keccak_rnd_trace.Kinds as trace-kinds
 use Rattle.keccak_rnd_trace.proofs.generate_keccak_rnd_trace.Reads as trace
 use Rattle.judge.proofs.verdict.Kinds as verdict-kinds
 use Rattle.judge.proofs.verdict.Reads as verdict
 
-pub record Answered (core round : List ℕ) (v : Verdict) : Type 0 where
+pub record Answered (nr : ℕ) (core round : List ℕ) (v : Verdict) : Type 0 where
   pub lifetimes : Lfts 2
   pub lent : Dens lifetimes verdict-kinds.ps
   pub ended : AtExit (endedOf 2 verdict-kinds.ps verdict-kinds.r) lifetimes
-  pub core-is : lent .0 .now ≡ core
-  pub round-is : lent .1 .0 .now ≡ round
+  pub rounds-are : lent .0 ≡ nr
+  pub core-is : lent .1 .0 .now ≡ core
+  pub round-is : lent .1 .1 .0 .now ≡ round
   pub says : verdict.Learnt lifetimes lent v ended
 
-pub answered : {core round : List ℕ} {v : Verdict} → Answered core round v → v ≡ verdictOf core round
-answered c = c .says ∙ ap₂ verdictOf (c .core-is) (c .round-is)
+pub answered : {nr : ℕ} {core round : List ℕ} {v : Verdict} → Answered nr core round v → v ≡ verdictFor nr core round
+answered c = c .says ∙ λ t. verdictFor (c .rounds-are t) (c .core-is t) (c .round-is t)
 
-pub record Wrote (ops before after : List ℕ) : Type 0 where
+-- refusal 8 first of all; else it is the verdict for so many rounds
+module _ {nr : ℕ} {core round : List ℕ} {v : Verdict} (a : Answered nr core round v) where
+  pub answered-no-rounds : NoRounds nr → v ≡ Refused (Rounds nr)
+  answered-no-rounds h = answered a ∙ verdict-no-rounds nr core round h
+
+  pub answered-at : 1 ≤ nr → nr ≤ 24 → v ≡ verdictAt nr core round
+  answered-at some most = answered a ∙ verdict-in-range nr core round some most
+
+  -- with nothing supposed: where it answers 'holds', every active core row is computed by Keccak-p[1600, nr], at its
+  -- addresses, and nr is from 1 to 24
+  pub answered-computed : (n : ℕ) → v ≡ Holds n → (1 ≤ nr) × (nr ≤ 24) × EachActive (λ x. Computed nr x × Addressed x) core
+  answered-computed n e =
+      let h = holds-in-range nr core round n (sym (answered a) ∙ e) in
+      (h .0, h .1, holds-computed nr (h .0) (h .1) core round n (sym (answered-at (h .0) (h .1)) ∙ e))
+
+pub record Wrote (nr floor : ℕ) (ops before after : List ℕ) : Type 0 where
   pub lifetimes : Lfts 2
   pub lent : Dens lifetimes trace-kinds.ps
   pub answer : Answer
   pub ended : AtExit (endedOf 2 trace-kinds.ps trace-kinds.r) lifetimes
-  pub ops-are : lent .0 .now ≡ ops
-  pub before-is : lent .1 .0 .now ≡ before
-  pub after-is : ended .1 .0 .now ≡ after
+  pub rounds-are : lent .0 ≡ nr
+  pub floor-is : lent .1 .0 ≡ floor
+  pub ops-are : lent .1 .1 .0 .now ≡ ops
+  pub before-is : lent .1 .1 .1 .0 .now ≡ before
+  pub after-is : ended .1 .1 .1 .0 .now ≡ after
   pub says : trace.Learnt lifetimes lent answer ended
 
-pub wrote : {ops before after : List ℕ} → Wrote ops before after → after ≡ roundTraceAfter ops before
-wrote c = sym (c .after-is) ∙ c .says .1 ∙ ap₂ roundTraceAfter (c .ops-are) (c .before-is)
+pub wrote : {nr floor : ℕ} {ops before after : List ℕ} → Wrote nr floor ops before after → after ≡ roundTraceAfter nr floor ops before
+wrote c = sym (c .after-is) ∙ c .says .1 ∙ λ t. roundTraceAfter (c .rounds-are t) (c .floor-is t) (c .ops-are t) (c .before-is t)
 
--- and nothing else is asked of a call: on any two tables one that answers `verdictOf`, on any list and slice one that
+-- and nothing else is asked of a call: on any two tables one that answers `verdictFor`, on any list and slice one that
 -- leaves `roundTraceAfter` in it, meets the contract
-pub some-answered : (core round : List ℕ) → Answered core round (verdictOf core round)
-some-answered core round =
+pub some-answered : (nr : ℕ) (core round : List ℕ) → Answered nr core round (verdictFor nr core round)
+some-answered nr core round =
     record {
       lifetimes = ([], ([], tt));
-      lent = (record { ptr = (0, 0); name = 0; now = core }, (record { ptr = (0, 0); name = 0; now = round }, tt));
-      ended = (record { ptr = (0, 0); name = 0; now = core }, (record { ptr = (0, 0); name = 0; now = round }, tt));
+      lent = (nr, (record { ptr = (0, 0); name = 0; now = core }, (record { ptr = (0, 0); name = 0; now = round }, tt)));
+      ended = (nr, (record { ptr = (0, 0); name = 0; now = core }, (record { ptr = (0, 0); name = 0; now = round }, tt)));
+      rounds-are = refl;
       core-is = refl;
       round-is = refl;
       says = refl;
     }
 
-pub some-wrote : (ops before : List ℕ) → Wrote ops before (roundTraceAfter ops before)
-some-wrote ops before =
+pub some-wrote : (nr floor : ℕ) (ops before : List ℕ) → Wrote nr floor ops before (roundTraceAfter nr floor ops before)
+some-wrote nr floor ops before =
     record {
       lifetimes = ([], ([], tt));
-      lent = (record { ptr = (0, 0); name = 0; now = ops }, (record { ptr = (0, 0); name = 0; now = before }, tt));
-      answer = answerOf (roundTraceRefusal (length before) ops);
-      ended = (record { ptr = (0, 0); name = 0; now = ops }, (record { ptr = (0, 0); name = 0; now = roundTraceAfter ops before }, tt));
+      lent = (nr, (floor, (record { ptr = (0, 0); name = 0; now = ops }, (record { ptr = (0, 0); name = 0; now = before }, tt))));
+      answer = answerOf (roundTraceRefusal nr floor (length before) ops);
+      ended = (nr, (floor, (record { ptr = (0, 0); name = 0; now = ops }, (record { ptr = (0, 0); name = 0; now = roundTraceAfter nr floor ops before }, tt))));
+      rounds-are = refl;
+      floor-is = refl;
       ops-are = refl;
       before-is = refl;
       after-is = refl;
       says = (refl, refl);
     }
 
-module _ (core : List ℕ) (supposed : Supposed core) where
-  abbrev claims : Claims core
-  claims = demand3 core supposed
+-- the demand for each number of rounds from 1 to 24
+module _ (nr : ℕ) (some : 1 ≤ nr) (most : nr ≤ 24) (core : List ℕ) (supposed : SupposedAt nr core) where
+  abbrev claims : (floor : ℕ) → ClaimsAt nr floor core
+  claims floor = demand3-at nr floor some most core supposed
 
   -- exactly for a round table that passes and balances does the call answer 'holds', with the number of active core rows
-  pub holds-answered : (round : List ℕ) (v : Verdict) → Answered core round v → (v ≡ Holds (actives coreLayout core)) ↔ Answers 24 core round
+  pub holds-answered : (round : List ℕ) (v : Verdict) → Answered nr core round v → (v ≡ Holds (actives coreLayout core)) ↔ Answers nr core round
   holds-answered round v a = (
-    (λ e. claims .verdict round .0 (sym (answered a) ∙ e)),
-    λ h. answered a ∙ claims .verdict round .1 h,
+    (λ e. claims 4 .verdict round .0 (sym (answered-at a some most) ∙ e)),
+    λ h. answered-at a some most ∙ claims 4 .verdict round .1 h,
   )
 
-  pub number-answered : (round : List ℕ) (v : Verdict) (n : ℕ) → Answered core round v → v ≡ Holds n → n ≡ actives coreLayout core
-  number-answered round v n a e = claims .number round n (sym (answered a) ∙ e)
+  pub number-answered : (round : List ℕ) (v : Verdict) (n : ℕ) → Answered nr core round v → v ≡ Holds n → n ≡ actives coreLayout core
+  number-answered round v n a e = claims 4 .number round n (sym (answered-at a some most) ∙ e)
 
-  -- the writer, called with the active core rows as operations and a slice that our table fits, writes our table at its
-  -- front and keeps the words past it
-  pub ours-written : (before after : List ℕ) → length (ourRounds 24 4 core) ≤ length before → Wrote (operations core) before after →
-      (take (length (ourRounds 24 4 core)) after ≡ ourRounds 24 4 core)
-      × (drop (length (ourRounds 24 4 core)) after ≡ drop (length (ourRounds 24 4 core)) before)
-  unfolding roundTraceRefusal afterwards overwrite ourRounds roundTable
-  ours-written before after e w =
-      let h : ℕ = roundHeight 24 4 (opCount (operations core)) in
-      let n : h * 1480 ≤ length before = omega (arith, e, length-table h 1480 (roundRowAt 24 (opCount (operations core)) (opAt (operations core)))) in
-      let o : List ℕ = ourRounds 24 4 core in
-      let q : after ≡ o ++ drop (length o) before = wrote w ∙ ap (λ (r : Option Refusal). afterwards r (overwrite o before) before) (claims .none-refused (length before) _ n) in
-      (ap (take (length o)) q ∙ take-append-seam o (drop (length o) before), ap (drop (length o)) q ∙ drop-append-seam o (drop (length o) before))
+  -- and for each floor that is accepted
+  module _ (floor : ℕ) (power : PowerFloor floor) where
+    abbrev ours : List ℕ
+    ours = ourRounds nr floor core
 
-  -- and where every active core row is computed, that table answers, and on it the verdict holds
-  pub written-answers : EachActive (Computed 24) core → (before after : List ℕ) → length (ourRounds 24 4 core) ≤ length before →
-      Wrote (operations core) before after → (v : Verdict) → Answered core (take (length (ourRounds 24 4 core)) after) v →
-      Answers 24 core (take (length (ourRounds 24 4 core)) after) × (v ≡ Holds (actives coreLayout core))
-  written-answers each before after e w v a =
-      let t : List ℕ = take (length (ourRounds 24 4 core)) after in
-      let h : Answers 24 core t = subst (Answers 24 core) (sym (ours-written before after e w .0)) (claims .ours each) in
-      (h, holds-answered t v a .1 h)
+    -- the writer, called with the active core rows as operations and a slice that our table fits, writes our table at its
+    -- front and keeps the words past it
+    pub ours-written : (before after : List ℕ) → length ours ≤ length before → Wrote nr floor (operations core) before after →
+        (take (length ours) after ≡ ours) × (drop (length ours) after ≡ drop (length ours) before)
+    unfolding afterwards overwrite ourRounds
+    ours-written before after e w =
+        let p : roundTraceRefusal nr floor (length before) (operations core) ≡ accepted =
+        trace-later nr floor (length before) (operations core) some most power ∙ claims floor .none-refused (length before) (length ours) e in
+        let q : after ≡ ours ++ drop (length ours) before = wrote w ∙ ap (λ (r : Option Refusal). afterwards r (overwrite ours before) before) p in
+        (ap (take (length ours)) q ∙ take-append-seam ours (drop (length ours) before), ap (drop (length ours)) q ∙ drop-append-seam ours (drop (length ours) before))
+
+    -- and where every active core row is computed, that table answers, and on it the verdict holds
+    pub written-answers : EachActive (Computed nr) core → (before after : List ℕ) → length ours ≤ length before →
+        Wrote nr floor (operations core) before after → (v : Verdict) → Answered nr core (take (length ours) after) v →
+        Answers nr core (take (length ours) after) × (v ≡ Holds (actives coreLayout core))
+    written-answers each before after e w v a =
+        let t : List ℕ = take (length ours) after in
+        let h : Answers nr core t = subst (Answers nr core) (sym (ours-written before after e w .0)) (claims floor .ours each) in
+        (h, holds-answered t v a .1 h)

@@ -1,6 +1,8 @@
-// The verdict on a core table and a round table: the stages of `verdictOf`, one after the other, for nr rounds; `verdict`
-// passes 24.
+// The verdict on a core table and a round table for nr rounds: refusal 8, then the stages of `verdictAt`, one after the
+// other.
+use answer::Answer;
 use answer::Refusal;
+use answer::check_rounds;
 use field::elements::first_not_element;
 use judge_bus::first_unbalanced;
 use judge_chains::every_chain;
@@ -19,7 +21,7 @@ use verdict::Verdict;
 ghost use mathlib.Core.Path.{_≡_};
 ghost use Prim.Native.Nat.{_≤_};
 ghost use Rattle.verdict.specs.Kind.{rows, DistinctTimestamps};
-ghost use Rattle.verdict.specs.CoreAndRound.{coreKind, roundKind, coreLayout, roundLayout, verdictOf};
+ghost use Rattle.verdict.specs.CoreAndRound.{coreKind, roundKind, coreLayout, roundLayout, verdictAt, verdictFor};
 ghost use Rattle.verdict.specs.Kind.{Elements};
 ghost use Rattle.verdict.specs.Verdict.{fromCoreValue, fromRoundValue, fromCoreBalance, fromRoundBalance};
 ghost use Rattle.judge_links.specs.Even.{Even};
@@ -124,9 +126,10 @@ fn from_core_value(nr: usize, core: &[u64], round: &[u64]) -> Verdict
     from_round_value(nr, core, round)
 }
 
-// The verdict on a core table and a round table.
-pub fn verdict(core: &[u64], round: &[u64]) -> Verdict
-    ensures { λ v. ⌜ v ≡ verdictOf (now (core .entry)) (now (round .entry)) ⌝ }
+// The verdict for a number of rounds that is not refused: whole rows, then words, then the rows.
+fn judged(nr: usize, core: &[u64], round: &[u64]) -> Verdict
+    requires { ⌜ nr ≤ 24 ⌝ }
+    ensures { λ v. ⌜ v ≡ verdictAt nr (now (core .entry)) (now (round .entry)) ⌝ }
 {
     if core.len() % keccak::NUM_COLUMNS != 0 {
         return Verdict::Refused(Refusal::NotWhole(0));
@@ -140,5 +143,15 @@ pub fn verdict(core: &[u64], round: &[u64]) -> Verdict
     if let Place::At(k) = first_not_element(round, round.len()) {
         return Verdict::Refused(Refusal::NotElement(k as u64));
     }
-    from_core_value(keccak_rnd::ROUNDS, core, round)
+    from_core_value(nr, core, round)
+}
+
+// The verdict on a core table and a round table for nr rounds.
+pub fn verdict(nr: u64, core: &[u64], round: &[u64]) -> Verdict
+    ensures { λ v. ⌜ v ≡ verdictFor nr (now (core .entry)) (now (round .entry)) ⌝ }
+{
+    if let Answer::Refused(refusal) = check_rounds(nr) {
+        return Verdict::Refused(refusal);
+    }
+    judged(nr as usize, core, round)
 }

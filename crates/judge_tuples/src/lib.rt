@@ -1,11 +1,12 @@
 // The Keccak tuples of core rows and round rows, compared by the columns that they are made of.
 use field::Fe;
+use fips202::first_round;
 use judge_scan::same_stamp;
 use keccak;
 use keccak_rnd;
 ghost use mathlib.Core.Path.{_≡_};
 ghost use mathlib.Core.Bool.{not};
-ghost use Prim.Native.Nat.{_+_, _-_, _≤_};
+ghost use Prim.Native.Nat.{_+_, _≤_};
 ghost use lib.ListN.{length};
 ghost use Rattle.lists.specs.First.{anyBelow};
 ghost use Rattle.lists.specs.Select.{wordsTest};
@@ -53,17 +54,6 @@ fn next(round: u64) -> u64
         round + 1
     } else {
         round - (Fe::P - 1)
-    }
-}
-
-// The round at which nr rounds begin: the last one is always round 23.
-fn first_round(nr: usize) -> u64
-    ensures { λ r. ⌜ r ≡ 24 - nr ⌝ }
-{
-    if nr < keccak_rnd::ROUNDS {
-        (keccak_rnd::ROUNDS - nr) as u64
-    } else {
-        0
     }
 }
 

@@ -4,13 +4,13 @@ use mathlib.Core.Path.{_≡_, sym, ap, subst, _∙_}
 use mathlib.Core.List.{List}
 use Prim.Native.Nat.{ℕ, _+_, _*_, _/_, _%_, _^_, _<_}
 use native.Mathlib.Omega.{arith}
-use lib.ListN.{length, drop}
+use lib.ListN.{length, take, drop}
 use Rattle.lists.specs.Tab.{word}
 use Rattle.lists.proofs.Laws.{getD-tab, word-rowAt}
 use Rattle.bits.specs.Bits.{wordAt}
 use Rattle.answer.specs.Refusal.{accepted}
-use Rattle.answer.proofs.Laws.{new-word, old-words}
-use Rattle.keccak.specs.Height.{MIN-ROWS}
+use Rattle.answer.proofs.Laws.{new-word, new-words, old-words}
+use Rattle.keccak.specs.Height.{height}
 use Rattle.keccak.specs.Row.{opAt, coreRow, coreTable, keyWord, is-wh-keys, keyWords, pointerKey}
 use Rattle.keccak.specs.Refusals.{opCount, coreRowRefusal, coreTraceRefusal, keysRefusal}
 use Rattle.keccak.specs.Calls.{coreRowAfter, coreTraceAfter, keysAfter}
@@ -39,18 +39,23 @@ module _ (ops : List ℕ) (index : ℕ) (row : List ℕ) (passed : coreRowRefusa
   row-past = subst (λ (n : ℕ). drop n (coreRowAfter ops index row) ≡ drop n row) (length-core (opAt ops index)) (old-words new row passed)
 
 -- `generate_keccak_trace`
-module _ (ops table : List ℕ) (passed : coreTraceRefusal (length table) ops ≡ accepted) where
+module _ (floor : ℕ) (ops table : List ℕ) (passed : coreTraceRefusal floor (length table) ops ≡ accepted) where
   abbrev made : List ℕ
-  made = coreTable MIN-ROWS (opCount ops) (opAt ops)
+  made = coreTable floor (opCount ops) (opAt ops)
 
-  pub table-starts : (i : ℕ) → i < opCount ops → word (coreTraceAfter ops table) (486 * i) ≡ word ops (52 * i) % 2 ^ 32
+  pub table-starts : (i : ℕ) → i < opCount ops → word (coreTraceAfter floor ops table) (486 * i) ≡ word ops (52 * i) % 2 ^ 32
   table-starts i l =
       let n = opCount ops in
-      let h = height-ge MIN-ROWS n in
+      let h = height-ge floor n in
       let e : i * 486 + 0 ≡ 486 * i = omega arith in
-      new-word made table passed (486 * i) (omega (arith, length-core-table n (opAt ops) MIN-ROWS))
+      new-word made table passed (486 * i) (omega (arith, length-core-table n (opAt ops) floor))
       ∙ ap (word made) (sym e) ∙ sym (word-rowAt 486 made i 0 (omega arith))
-      ∙ ap (λ (r : List ℕ). word r 0) (core-table-row n (opAt ops) MIN-ROWS i (omega arith) ∙ core-row-op n (opAt ops) i l) ∙ row-stamp ops i
+      ∙ ap (λ (r : List ℕ). word r 0) (core-table-row n (opAt ops) floor i (omega arith) ∙ core-row-op n (opAt ops) i l) ∙ row-stamp ops i
+
+  -- its front is the table, word by word
+  pub table-left : take (height floor (opCount ops) * 486) (coreTraceAfter floor ops table) ≡ made
+  table-left =
+      ap (λ (k : ℕ). take k (coreTraceAfter floor ops table)) (sym (length-core-table (opCount ops) (opAt ops) floor)) ∙ new-words made table passed
 
 -- `is_wh_keys`: the key of the first lane, whose pointer is the address
 module _ (ops out : List ℕ) (passed : keysRefusal (length out) ops ≡ accepted) where

@@ -1,10 +1,11 @@
 -- A core row's values and tuples read only its 486 columns.
-use mathlib.Core.Path.{_≡_, refl, ap}
+use mathlib.Core.Path.{_≡_, refl, sym, ap, _∙_}
 use mathlib.Core.List.{List, [], _∷_, _++_}
+use mathlib.Core.Option.{Option}
 use Prim.Native.Nat.{ℕ, zero, suc, _+_, _*_, _/_, _%_, _^_, _<_}
 use native.Mathlib.Omega.{arith}
 use lib.IntN.{pos}
-use lib.ListN.{length}
+use lib.ListN.{length, take}
 use Rattle.lists.specs.Tab.{tab, word}
 use Rattle.lists.proofs.Laws.{tab-same, length-tab}
 use Rattle.lists.proofs.Reading.{Alike, ReadsFirst, then-same}
@@ -14,11 +15,18 @@ use Rattle.templates.specs.declared.AddTerms.{AddTerms}
 use Rattle.is_wh.specs.Tuples.{is-whh}
 use Rattle.tuple.specs.Tuple.{sender, receiver}
 use Rattle.tuple.specs.declared.Bus.the-variants.{ByteAlu, AreBytes, Memw, Keccak, Ecall, IsWh, IsHalfword}
-use Rattle.tuple.specs.Call.{RestNotRead}
+use Rattle.tuple.specs.Call.{tupleAnswer}
+use Rattle.tuple.specs.declared.TupleAnswer.{TupleAnswer}
+use Rattle.tuple.proofs.Call.{tuple-refused}
+use Rattle.answer.specs.Refusal.{overwrite, afterwards}
+use Rattle.answer.specs.declared.Refusal.{Refusal}
+use Rattle.answer.proofs.Refusals.{by-rounds}
 use Rattle.tuple.proofs.Reading.{tuple-rest}
 use Rattle.keccak.specs.Columns.{NUM-COLUMNS, TIMESTAMP-0, TIMESTAMP-1, ADDR, MU, addr, state-ptr, input-state, output-state, byXYB}
 use Rattle.keccak.specs.Values.{NUM-VALUES, pointerValue, wordOfBytes, wordOfHalves, topValue, coreValue}
 use Rattle.keccak.specs.Tuples.{NUM-TUPLES, ecallTuple, addrMemw, keccakValues, coreSent, coreReceived, pointerTuple, alignTuple, addrBytesTuple, laneMemw, coreTuple}
+use Rattle.keccak.specs.TupleCalls.{coreTupleRefusal, coreTupleAnswer, coreTupleAfter}
+use Rattle.keccak.proofs.TupleCalls.{tuple-later}
 
 -- ---- for any table: entries by x, y and b, and the 203 values of a Keccak tuple
 pub by-xyb-same : {A : Type 0} (f g : ℕ → ℕ → ℕ → A) → ((x y b : ℕ) → x < 5 → y < 5 → b < 8 → f x y b ≡ g x y b)
@@ -180,5 +188,29 @@ tuple-reads nr syscall row other same =
     (then-same 1 29 _ _ _ _ (λ i l. align row other same)
     (then-same 4 25 _ _ _ _ (addr-bytes row other same) (lane row other same)))))))
 
-pub rest-not-read : (nr syscall : ℕ) → RestNotRead NUM-COLUMNS NUM-TUPLES (coreTuple nr syscall)
-rest-not-read nr syscall = tuple-rest NUM-COLUMNS NUM-TUPLES (coreTuple nr syscall) (tuple-reads nr syscall)
+-- "A row may be lent longer than its columns; the rest is neither read nor written": not read, whether the call is refused
+-- or not
+pub rest-not-read : (nr syscall : ℕ) (row : List ℕ) (i : ℕ) (out : List ℕ) →
+    (coreTupleAnswer nr syscall (take NUM-COLUMNS row) i out ≡ coreTupleAnswer nr syscall row i out)
+    × (coreTupleAfter nr syscall (take NUM-COLUMNS row) i out ≡ coreTupleAfter nr syscall row i out)
+unfolding coreTupleRefusal
+rest-not-read nr syscall row i out =
+    by-rounds nr
+    (λ l h.
+    let rest = tuple-rest NUM-COLUMNS NUM-TUPLES (coreTuple nr syscall) (tuple-reads nr syscall) row i out in
+    let e = tuple-later nr syscall front i out l h in
+    let f = tuple-later nr syscall row i out l h in
+    (ap (answered front) e ∙ rest .0 ∙ sym (ap (answered row) f), ap (left front) e ∙ rest .1 ∙ sym (ap (left row) f)))
+    (λ no.
+    let a = tuple-refused (coreTuple nr syscall front i) _ out (no _) in
+    let b = tuple-refused (coreTuple nr syscall row i) _ out (no _) in
+    (sym (a .0) ∙ b .0, sym (a .1) ∙ b .1))
+  where
+    front : List ℕ
+    front = take NUM-COLUMNS row
+
+    answered : List ℕ → Option Refusal → TupleAnswer
+    answered r o = tupleAnswer (coreTuple nr syscall r i) o
+
+    left : List ℕ → Option Refusal → List ℕ
+    left r o = afterwards o (overwrite (coreTuple nr syscall r i .values) out) out

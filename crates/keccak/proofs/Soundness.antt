@@ -25,6 +25,11 @@ use Rattle.keccak.specs.Passes.{CorePasses, CoreCells}
 use Rattle.keccak.proofs.Places.{tuple-at}
 use Rattle.keccak.proofs.Words.{Ranged, addrLo, addrHi, ptrLo, ptrHi, address-split, limb-next, pointer-split, lo-lt, hi-lt, ptr-lo-lt, carry0-is, carry1-is, top-is}
 
+-- where the alignment lookup has a match, the lowest byte of the address is a multiple of 8
+pub aligned-of : (row : List ℕ) → Found (alignTuple row) → word row (addr 0) % 8 ≡ 0
+unfolding alignTuple aluOp
+aligned-of row f = sym (and-mask (word row (addr 0)) 3) ∙ sym (alu-of _ _ _ _ f .2)
+
 module _ (nr syscall : ℕ) (row : List ℕ) (ok : CorePasses nr syscall row) (on : word row MU ≡ 1) where
   look : (i : ℕ) (t : Tuple) → i < 84 → coreTuple nr syscall row i ≡ t → (t .multiplicity ≡ word row MU) → Found t
   look i t h e m = subst Matched e (ok .lookups i h) (λ z. mu-due (sym m ∙ z))
@@ -121,12 +126,8 @@ module _ (nr syscall : ℕ) (row : List ℕ) (ok : CorePasses nr syscall row) (o
       let g = high i h in
       omega (arith, address-split row, pointer-split row i, l .sum-is, g .sum-is, high-zero i h)
 
-  byte-aligned : word row (addr 0) % 8 ≡ 0
-  unfolding alignTuple aluOp
-  byte-aligned = sym (and-mask (word row (addr 0)) 3) ∙ sym (alu-of _ _ _ _ f-align .2)
-
   address-aligned : coreAddress row % 8 ≡ 0
-  address-aligned = omega (arith, address-split row, byte-aligned)
+  address-aligned = omega (arith, address-split row, aligned-of row f-align)
 
   pub core-sound : CoreCells row
   core-sound =

@@ -4,7 +4,6 @@ use Prim.Native.Nat.{ℕ}
 use mathlib.Core.List.{List}
 use lib.ListN.{length}
 use Rattle.answer.specs.Refusal.{overwrite, afterwards}
-use Rattle.keccak.specs.Height.{MIN-ROWS}
 use Rattle.keccak.specs.Row.{opAt, coreRow, coreRows, coreTable, keyWords}
 use Rattle.keccak.specs.Refusals.{opCount, coreRowRefusal, coreTraceRefusal, coreRowsRefusal, keysRefusal}
 
@@ -13,11 +12,11 @@ abbrev pub coreRowAfter : List ℕ → ℕ → List ℕ → List ℕ
 coreRowAfter ops index row =
     afterwards (coreRowRefusal (length row) ops index) (overwrite (coreRow (opAt ops index)) row) row
 
--- `generate_keccak_trace`: the table of a list
-abbrev pub coreTraceAfter : List ℕ → List ℕ → List ℕ
-coreTraceAfter ops table =
-    afterwards (coreTraceRefusal (length table) ops)
-    (overwrite (coreTable MIN-ROWS (opCount ops) (opAt ops)) table) table
+-- `generate_keccak_trace`: the table of a list, of `floor` rows or more
+abbrev pub coreTraceAfter : ℕ → List ℕ → List ℕ → List ℕ
+coreTraceAfter floor ops table =
+    afterwards (coreTraceRefusal floor (length table) ops)
+    (overwrite (coreTable floor (opCount ops) (opAt ops)) table) table
 
 -- `keccak_rows`: the rows of a list, with no padding
 abbrev pub coreRowsAfter : List ℕ → List ℕ → List ℕ

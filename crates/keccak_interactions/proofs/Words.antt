@@ -16,13 +16,13 @@ pointers : (row : List ℕ) → sumBelow 50 (λ i. length (tupleWords (pointerTu
 unfolding sumBelow pointerTuple tupleWords
 pointers row = omega arith
 
-pub words-length : (syscall : ℕ) (row : List ℕ) → length (tuplesWords (coreTuple 24 syscall row) NUM-TUPLES) ≡ NUM-WORDS
+pub words-length : (nr syscall : ℕ) (row : List ℕ) → length (tuplesWords (coreTuple nr syscall row) NUM-TUPLES) ≡ NUM-WORDS
 unfolding coreTuple
-words-length syscall row =
-    tuples-length (coreTuple 24 syscall row) 84
+words-length nr syscall row =
+    tuples-length (coreTuple nr syscall row) 84
     ∙ words-then 1 83 _ _ (words-same 1 4 _ (λ i. sym (ecall-length row syscall)))
     (words-then 1 82 _ _ (words-same 1 24 _ (λ i. sym (addr-length row)))
-    (words-then 1 81 _ _ (words-same 1 203 _ (λ i. sym (sent-length row 24)))
+    (words-then 1 81 _ _ (words-same 1 203 _ (λ i. sym (sent-length row nr)))
     (words-then 1 80 _ _ (words-same 1 203 _ (λ i. sym (received-length row)))
     (words-then 50 30 _ _ (pointers row)
     (words-then 1 29 _ _ (words-same 1 4 _ (λ i. sym (align-length row)))

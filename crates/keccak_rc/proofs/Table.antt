@@ -18,6 +18,7 @@ use Rattle.keccak_rc.specs.Columns.{MU, NUM-COLUMNS, NUM-REAL-ROWS, NUM-
 use Rattle.keccak_rc.specs.Row.{rcRow, rcRowRefusal, rcRowAfter}
 use Rattle.keccak_rc.specs.Table.{rcTable, withMu, timesLookedUp, updated, rcTraceRefusal, rcTraceAfter, updateRefusal, updateAfter}
 use Rattle.keccak_rc.proofs.Found.{rc-length, rc-round}
+use Rattle.keccak_rc.proofs.Refusals.{update-accepted}
 
 -- ---- MU of the rows below m
 
@@ -54,10 +55,15 @@ withMu-at f (suc m) table r l h =
     ∙ ap f e)
     (λ g. getD-set-other (withMu f m table) (m * NUM-COLUMNS + MU) (r * NUM-COLUMNS + MU) (f m) 0 (λ e. omega arith) ∙ withMu-at f m table r g (omega arith))
 
--- today every round is looked up by every operation
-pub lookups-24 : (n r : ℕ) → n ≡ timesLookedUp 24 n r
-unfolding timesLookedUp
-lookups-24 n r = sym (ap (λ (t : Bool). pick t 0 n) (le-ltb r 0 (omega arith)))
+-- how often round r is looked up
+module _ (nr n r : ℕ) where
+  pub looked-up-never : r < NUM-REAL-ROWS - nr → 0 ≡ timesLookedUp nr n r
+  unfolding timesLookedUp
+  looked-up-never l = sym (ap (λ (t : Bool). pick t 0 n) (lt-ltb r (NUM-REAL-ROWS - nr) l))
+
+  pub looked-up-each : NUM-REAL-ROWS - nr ≤ r → n ≡ timesLookedUp nr n r
+  unfolding timesLookedUp
+  looked-up-each l = sym (ap (λ (t : Bool). pick t 0 n) (le-ltb r (NUM-REAL-ROWS - nr) l))
 
 -- ---- the table updated for n operations of nr rounds
 
@@ -69,16 +75,14 @@ module _ (nr n : ℕ) (table : List ℕ) where
   -- the rounds 24 - nr to 23 are looked up n times
   pub updated-used : TABLE-WORDS ≤ length table → (r : ℕ) → NUM-REAL-ROWS - nr ≤ r → r < NUM-REAL-ROWS
       → getD (updated nr n table) (r * NUM-COLUMNS + MU) 0 ≡ n
-  unfolding updated timesLookedUp
-  updated-used h r l g =
-      withMu-at (timesLookedUp nr n) NUM-REAL-ROWS table r g (omega arith) ∙ ap (λ (t : Bool). pick t 0 n) (le-ltb r (NUM-REAL-ROWS - nr) l)
+  unfolding updated
+  updated-used h r l g = withMu-at (timesLookedUp nr n) NUM-REAL-ROWS table r g (omega arith) ∙ sym (looked-up-each nr n r l)
 
   -- the rounds before them never
   pub updated-early : TABLE-WORDS ≤ length table → (r : ℕ) → r < NUM-REAL-ROWS - nr
       → getD (updated nr n table) (r * NUM-COLUMNS + MU) 0 ≡ 0
-  unfolding updated timesLookedUp
-  updated-early h r l =
-      withMu-at (timesLookedUp nr n) NUM-REAL-ROWS table r (omega arith) (omega arith) ∙ ap (λ (t : Bool). pick t 0 n) (lt-ltb r (NUM-REAL-ROWS - nr) l)
+  unfolding updated
+  updated-early h r l = withMu-at (timesLookedUp nr n) NUM-REAL-ROWS table r (omega arith) (omega arith) ∙ sym (looked-up-never nr n r l)
 
   -- the rows from 24 on keep their MU
   pub updated-late : (r : ℕ) → NUM-REAL-ROWS ≤ r
@@ -92,14 +96,18 @@ module _ (nr n : ℕ) (table : List ℕ) where
   unfolding updated
   updated-fixed r k h = withMu-other (timesLookedUp nr n) NUM-REAL-ROWS table (r * NUM-COLUMNS + k) (λ q l e. omega arith)
 
--- "`update_multiplicities` there sets MU of rounds 0 to 23 to the operation count": in what the call leaves, where it is
--- accepted
-pub update-sets : (table : List ℕ) (n : ℕ) → updateRefusal table n ≡ accepted → 320 ≤ length table → (r : ℕ) → r < 24
-    → getD (updateAfter table n) (10 * r + 9) 0 ≡ n
-unfolding afterwards
-update-sets table n passed h r l =
-    let e : 10 * r + 9 ≡ r * NUM-COLUMNS + MU = omega arith in
-    rw passed (ap (λ (k : ℕ). getD (updated 24 n table) k 0) e ∙ updated-used 24 n table h r (omega arith) l)
+-- "`update_multiplicities` sets MU of rounds 24 − nr to 23 to the count, of lower ones to 0": in what the call leaves, where
+-- it is accepted
+module _ (nr : ℕ) (table : List ℕ) (n : ℕ) (passed : updateRefusal nr table n ≡ accepted) where
+  mu-word : (r : ℕ) → getD (updateAfter nr table n) (10 * r + 9) 0 ≡ getD (updated nr n table) (r * NUM-COLUMNS + MU) 0
+  unfolding afterwards
+  mu-word r = let e : 10 * r + 9 ≡ r * NUM-COLUMNS + MU = omega arith in rw passed (ap (λ (k : ℕ). getD (updated nr n table) k 0) e)
+
+  pub update-sets : (r : ℕ) → 24 - nr ≤ r → r < 24 → getD (updateAfter nr table n) (10 * r + 9) 0 ≡ n
+  update-sets r l g = mu-word r ∙ updated-used nr n table (update-accepted nr table n .0 passed .3) r l g
+
+  pub update-clears : (r : ℕ) → r < 24 - nr → getD (updateAfter nr table n) (10 * r + 9) 0 ≡ 0
+  update-clears r l = mu-word r ∙ updated-early nr n table (update-accepted nr table n .0 passed .3) r l
 
 -- ---- the table as it is generated
 

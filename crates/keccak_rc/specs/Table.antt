@@ -5,7 +5,7 @@ use mathlib.Core.Option.{Option}
 use lib.Dec.{ltb}
 use lib.ListN.{length, set}
 use Rattle.lists.specs.Tab.{tableOf, pick}
-use Rattle.answer.specs.Refusal.{accepted, overwrite, afterwards, overLimit, tooShort}
+use Rattle.answer.specs.Refusal.{accepted, overwrite, afterwards, overLimit, tooShort, notRounds}
 use Rattle.answer.specs.declared.Refusal.{Refusal}
 use Rattle.keccak_rc.specs.Columns.{MU, NUM-COLUMNS, NUM-REAL-ROWS, NUM-ROWS, TABLE-WORDS}
 use Rattle.keccak_rc.specs.Row.{rcRow}
@@ -31,18 +31,15 @@ withMu f (suc r) table = set (withMu f r table) (r * NUM-COLUMNS + MU) (f r)
 unfoldable pub timesLookedUp : ℕ → ℕ → ℕ → ℕ
 timesLookedUp nr n r = pick (ltb r (NUM-REAL-ROWS - nr)) 0 n
 
--- "`update_multiplicities` there sets MU of rounds 0 to 23 to the operation count", for n operations of nr rounds; and
--- nothing else.
+-- "`update_multiplicities` sets MU of rounds 24 − nr to 23 to the count, of lower ones to 0"; and nothing else.
 unfoldable pub updated : ℕ → ℕ → List ℕ → List ℕ
 updated nr n table = withMu (timesLookedUp nr n) NUM-REAL-ROWS table
 
--- What it refuses: 1 more operations than the limit, 3 a table shorter than 32 rows.
-unfoldable pub updateRefusal : List ℕ → ℕ → Option Refusal
-updateRefusal table n =
-    overLimit n
-    (tooShort (length table) TABLE-WORDS
-    accepted)
+-- What it refuses: 8 a number of rounds that is 0 or above 24, 1 more operations than the limit, 3 a table shorter than 32
+-- rows.
+unfoldable pub updateRefusal : ℕ → List ℕ → ℕ → Option Refusal
+updateRefusal nr table n = notRounds nr (overLimit n (tooShort (length table) TABLE-WORDS accepted))
 
 -- What it leaves: the table with its MU, or the old words where it is refused.
-abbrev pub updateAfter : List ℕ → ℕ → List ℕ
-updateAfter table n = afterwards (updateRefusal table n) (updated 24 n table) table
+abbrev pub updateAfter : ℕ → List ℕ → ℕ → List ℕ
+updateAfter nr table n = afterwards (updateRefusal nr table n) (updated nr n table) table

@@ -2,6 +2,7 @@
 use answer::Answer;
 use answer::MAX_OPS;
 use answer::Refusal;
+use answer::check_rounds;
 use bits::put_dword_bl;
 use fips202::round_constant;
 use keccak_rc::MU;
@@ -17,7 +18,7 @@ ghost use lib.ListN.{length};
 ghost use lib.Seq.{sets};
 ghost use Rattle.answer.specs.Refusal.{answerOf};
 ghost use Rattle.keccak_rc.specs.Row.{rcRow, rcRowRefusal, rcRowAfter};
-ghost use Rattle.keccak_rc.specs.Table.{rcTable, rcTraceRefusal, updated, updateRefusal, rcTraceAfter, updateAfter};
+ghost use Rattle.keccak_rc.specs.Table.{rcTable, timesLookedUp, rcTraceRefusal, updated, updateRefusal, rcTraceAfter, updateAfter};
 
 // The nine fixed words of a row, from `at` on.
 fn put_row(row: &mut [u64], at: usize, round: usize)
@@ -76,28 +77,42 @@ pub fn generate_keccak_rc_trace(table: &mut [u64]) -> Answer
     Answer::Done
 }
 
-fn put_multiplicities(table: &mut [u64], n: u64)
-    requires { ⌜ 320 ≤ length (now table) ⌝ }
-    ensures { λ _. ⌜ now (table .exit) ≡ updated 24 n (now (table .entry)) ⌝ }
+// How often n operations of nr rounds look up a round: those before round 24 - nr never.
+fn times_looked_up(nr: usize, n: u64, round: usize) -> u64
+    requires { ⌜ nr ≤ 24 ⌝ }
+    ensures { λ r. ⌜ r ≡ timesLookedUp nr n round ⌝ }
+{
+    if round < NUM_REAL_ROWS - nr {
+        return 0;
+    }
+    n
+}
+
+fn put_multiplicities(nr: usize, table: &mut [u64], n: u64)
+    requires { ⌜ (nr ≤ 24) × (320 ≤ length (now table)) ⌝ }
+    ensures { λ _. ⌜ now (table .exit) ≡ updated nr n (now (table .entry)) ⌝ }
 {
     let mut round: usize = 0;
     while round < NUM_REAL_ROWS {
-        table[round * NUM_COLUMNS + MU] = n;
+        table[round * NUM_COLUMNS + MU] = times_looked_up(nr, n, round);
         round += 1;
     }
 }
 
-// MU of the rounds 0 to 23 set to the number of operations.
-pub fn update_multiplicities(table: &mut [u64], n: u64) -> Answer
-    ensures answer { λ r. ⌜ r ≡ answerOf (updateRefusal (now (table .entry)) n) ⌝ }
-    ensures words { λ r. ⌜ now (table .exit) ≡ updateAfter (now (table .entry)) n ⌝ }
+// MU of the rounds 24 - nr to 23 set to the number of operations, that of the rounds before them to 0.
+pub fn update_multiplicities(nr: u64, table: &mut [u64], n: u64) -> Answer
+    ensures answer { λ r. ⌜ r ≡ answerOf (updateRefusal nr (now (table .entry)) n) ⌝ }
+    ensures words { λ r. ⌜ now (table .exit) ≡ updateAfter nr (now (table .entry)) n ⌝ }
 {
+    if let Answer::Refused(refusal) = check_rounds(nr) {
+        return Answer::Refused(refusal);
+    }
     if n > MAX_OPS {
         return Answer::Refused(Refusal::PastEnd(MAX_OPS + 1));
     }
     if table.len() < TABLE_WORDS {
         return Answer::Refused(Refusal::TooShort(TABLE_WORDS as u64));
     }
-    put_multiplicities(table, n);
+    put_multiplicities(nr as usize, table, n);
     Answer::Done
 }

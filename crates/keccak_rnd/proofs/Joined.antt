@@ -3,6 +3,7 @@
 use mathlib.Core.Path.{_≡_, ap, ap₂, _∙_}
 use mathlib.Core.List.{List, _++_}
 use Prim.Native.Nat.{ℕ, _+_, _*_, _/_, _%_, _<_}
+use native.Mathlib.Nat.{add-comm, add-mul, add-mul-div-right, add-mul-mod-self-right, div-lt-iff-lt-mul}
 use native.Mathlib.Omega.{arith}
 use lib.ListN.{length}
 use Rattle.lists.specs.Tab.{tableOf}
@@ -13,21 +14,21 @@ use Rattle.keccak.specs.declared.KeccakOperation.{KeccakOperation}
 use Rattle.keccak.proofs.Joined.{count-joined, op-first, op-second}
 use Rattle.keccak_rnd.specs.Row.{opRow, roundRows}
 
-module _ (a b : List ℕ) (whole : length a % OP-WORDS ≡ 0) where
-  pub round-rows-joined : roundRows 24 (opCount (a ++ b)) (opAt (a ++ b)) ≡ roundRows 24 (opCount a) (opAt a) ++ roundRows 24 (opCount b) (opAt b)
+module _ (nr : ℕ) (some : 0 < nr) (a b : List ℕ) (whole : length a % OP-WORDS ≡ 0) where
+  pub round-rows-joined : roundRows nr (opCount (a ++ b)) (opAt (a ++ b)) ≡ roundRows nr (opCount a) (opAt a) ++ roundRows nr (opCount b) (opAt b)
   unfolding roundRows
   round-rows-joined =
-      ap (λ (n : ℕ). roundRows 24 n (opAt (a ++ b))) (count-joined a b whole)
-      ∙ ap (λ (m : ℕ). tableOf m 1480 row) (split (opCount a) (opCount b))
-      ∙ table-add (opCount a * 24) (opCount b * 24) 1480 row (λ q. opRow 24 (opAt a (q / 24)) (q % 24)) (λ q. opRow 24 (opAt b (q / 24)) (q % 24)) (omega arith)
-      (λ q h. ap (λ (o : KeccakOperation). opRow 24 o (q % 24)) (op-first a b whole (q / 24) (omega arith)))
-      (λ q _. ap₂ (λ (i j : ℕ). opRow 24 (opAt (a ++ b) i) j) (places (opCount a) q .0) (places (opCount a) q .1) ∙ ap (λ (o : KeccakOperation). opRow 24 o (q % 24)) (op-second a b whole (q / 24)))
+      ap (λ (n : ℕ). roundRows nr n (opAt (a ++ b))) (count-joined a b whole)
+      ∙ ap (λ (m : ℕ). tableOf m 1480 row) (add-mul (opCount a) (opCount b) nr)
+      ∙ table-add (opCount a * nr) (opCount b * nr) 1480 row (λ q. opRow nr (opAt a (q / nr)) (q % nr)) (λ q. opRow nr (opAt b (q / nr)) (q % nr)) (omega arith)
+      (λ q h. ap (λ (o : KeccakOperation). opRow nr o (q % nr)) (op-first a b whole (q / nr) (div-lt-iff-lt-mul some .1 h)))
+      (λ q _. ap₂ (λ (i j : ℕ). opRow nr (opAt (a ++ b) i) j) (places (opCount a) q .0) (places (opCount a) q .1) ∙ ap (λ (o : KeccakOperation). opRow nr o (q % nr)) (op-second a b whole (q / nr)))
     where
       row : ℕ → List ℕ
-      row q = opRow 24 (opAt (a ++ b) (q / 24)) (q % 24)
+      row q = opRow nr (opAt (a ++ b) (q / nr)) (q % nr)
 
-      split : (m n : ℕ) → (m + n) * 24 ≡ m * 24 + n * 24
-      split m n = omega arith
-
-      places : (m q : ℕ) → ((m * 24 + q) / 24 ≡ m + q / 24) × ((m * 24 + q) % 24 ≡ q % 24)
-      places m q = (omega arith, omega arith)
+      places : (m q : ℕ) → ((m * nr + q) / nr ≡ m + q / nr) × ((m * nr + q) % nr ≡ q % nr)
+      places m q = (
+        ap (λ (k : ℕ). k / nr) (add-comm (m * nr) q) ∙ add-mul-div-right q m some ∙ add-comm (q / nr) m,
+        ap (λ (k : ℕ). k % nr) (add-comm (m * nr) q) ∙ add-mul-mod-self-right q m nr,
+      )

@@ -14,8 +14,8 @@ use Rattle.lists.proofs.Laws.{tab-same}
 use Rattle.lists.proofs.Reading.{Alike, ReadsFirst, front-same, then-same, pick-lt}
 use Rattle.field.specs.Field.{fadd, fsub, fmul}
 use Rattle.bits.specs.Bits.{wordAt}
-use Rattle.answer.specs.Refusal.{refuseIf, refuseAt, accepted, overwrite, afterwards, tooShort}
-use Rattle.answer.specs.declared.Refusal.the-variants.{PastEnd, NotWhole, TooShort, HighAddress}
+use Rattle.answer.specs.Refusal.{refuseIf, refuseAt, accepted, overwrite, afterwards, tooShort, notRounds, notFloor}
+use Rattle.answer.specs.declared.Refusal.the-variants.{PastEnd, NotWhole, TooShort, HighAddress, Unaligned}
 use Rattle.answer.specs.Limits.{MAX-OPS}
 use Rattle.fips202.specs.Lanes.{roundsL}
 use Rattle.templates.specs.Templates.{isBit}
@@ -24,9 +24,8 @@ use Rattle.tuple.specs.declared.Bus.the-variants.{ByteAlu, KeccakRc, Keccak}
 use Rattle.tuple.specs.Call.{RestNotRead}
 use Rattle.tuple.proofs.Values.{long-enough}
 use Rattle.tuple.proofs.Reading.{tuple-rest}
-use Rattle.keccak.specs.Height.{MIN-ROWS}
 use Rattle.keccak.specs.Row.{OP-WORDS, LAST-ADDRESS, opAt}
-use Rattle.keccak.specs.Refusals.{opCount, addressAt, highAt, operationsRefusal}
+use Rattle.keccak.specs.Refusals.{opCount, addressAt, highAt, unalignedAt, operationsRefusal}
 use Rattle.keccak.proofs.Reading.{by-xyb-same, keccak-same}
 use Rattle.keccak_rnd.specs.Columns.{NUM-COLUMNS, TIMESTAMP-0, TIMESTAMP-1, ROUND, MU, start, cxz, cxz-left, cxz-right-bit, cxz-right-bit-for-byte, dxz, theta, rot-left, rot-right, chi-ands, chi, rc, iota, pi-left, pi-right}
 use Rattle.keccak_rnd.specs.Row.{rnc, roundRow, roundPad, opRow, roundRowAt, roundHeight, roundTable}
@@ -188,7 +187,7 @@ module _ (timestamp round : ℕ) (row : List ℕ) where
 
 -- ---- '`generate_keccak_rnd_trace` never reads the operation's output': it is the same for two lists that are as long as
 -- each other and whose operations have the same first 27 words: timestamp, address and input
-module _ (ops other : List ℕ) (long : length ops ≡ length other)
+module _ (nr floor : ℕ) (ops other : List ℕ) (long : length ops ≡ length other)
     (same : (i k : ℕ) → k < 27 → word ops (OP-WORDS * i + k) ≡ word other (OP-WORDS * i + k)) where
   timestamp-same : (i : ℕ) → opAt ops i .timestamp ≡ opAt other i .timestamp
   unfolding opAt
@@ -202,23 +201,24 @@ module _ (ops other : List ℕ) (long : length ops ≡ length other)
   unfolding opAt
   input-same i = tab-same 25 _ _ (λ k h. let e : OP-WORDS * i + 2 + k ≡ OP-WORDS * i + (2 + k) = omega arith in rw e (same i (2 + k) (omega arith)))
 
-  refusal-output : (room : ℕ) → roundTraceRefusal room ops ≡ roundTraceRefusal room other
-  unfolding roundTraceRefusal operationsRefusal highAt
+  refusal-output : (room : ℕ) → roundTraceRefusal nr floor room ops ≡ roundTraceRefusal nr floor room other
+  unfolding roundTraceRefusal operationsRefusal highAt unalignedAt
   refusal-output room =
-      λ t. refuseIf (ltb MAX-OPS (long t / OP-WORDS)) (PastEnd (MAX-OPS + 1))
+      λ t. notRounds nr (notFloor floor (refuseIf (ltb MAX-OPS (long t / OP-WORDS)) (PastEnd (MAX-OPS + 1))
       (refuseIf (not (eqb (long t % OP-WORDS) 0)) (NotWhole 2)
-      (tooShort room (roundHeight 24 MIN-ROWS (long t / OP-WORDS) * NUM-COLUMNS)
-      (refuseAt (firstAt (λ i. ltb LAST-ADDRESS (address-same i t)) (long t / OP-WORDS)) (λ i. HighAddress (address-same i t)) accepted)))
+      (tooShort room (roundHeight nr floor (long t / OP-WORDS) * NUM-COLUMNS)
+      (refuseAt (firstAt (λ i. ltb LAST-ADDRESS (address-same i t)) (long t / OP-WORDS)) (λ i. HighAddress (address-same i t))
+      (refuseAt (firstAt (λ i. not (eqb (address-same i t % 8) 0)) (long t / OP-WORDS)) (λ i. Unaligned (address-same i t)) accepted))))))
 
-  table-output : roundTable 24 MIN-ROWS (opCount ops) (opAt ops) ≡ roundTable 24 MIN-ROWS (opCount other) (opAt other)
+  table-output : roundTable nr floor (opCount ops) (opAt ops) ≡ roundTable nr floor (opCount other) (opAt other)
   unfolding roundTable roundRowAt opRow
   table-output =
-      λ t. tableOf (roundHeight 24 MIN-ROWS (long t / OP-WORDS)) NUM-COLUMNS (λ q.
-      pick (ltb q (long t / OP-WORDS * 24))
-      (roundRow (wordAt (timestamp-same (q / 24) t)) (24 - 24 + q % 24) (roundsL (24 - 24) (q % 24) (input-same (q / 24) t))) roundPad)
+      λ t. tableOf (roundHeight nr floor (long t / OP-WORDS)) NUM-COLUMNS (λ q.
+      pick (ltb q (long t / OP-WORDS * nr))
+      (roundRow (wordAt (timestamp-same (q / nr) t)) (24 - nr + q % nr) (roundsL (24 - nr) (q % nr) (input-same (q / nr) t))) roundPad)
 
   pub output-not-read : (table : List ℕ)
-      → (roundTraceRefusal (length table) ops ≡ roundTraceRefusal (length table) other) × (roundTraceAfter ops table ≡ roundTraceAfter other table)
+      → (roundTraceRefusal nr floor (length table) ops ≡ roundTraceRefusal nr floor (length table) other) × (roundTraceAfter nr floor ops table ≡ roundTraceAfter nr floor other table)
   output-not-read table =
       let c = refusal-output (length table) in
       (c, λ t. afterwards (c t) (overwrite (table-output t) table) table)

@@ -6,7 +6,6 @@ use lib.ListN.{length}
 use Rattle.lists.specs.Tab.{tab, word}
 use Rattle.bits.specs.Bits.{wordAt}
 use Rattle.answer.specs.Refusal.{overwrite, afterwards}
-use Rattle.keccak.specs.Height.{MIN-ROWS}
 use Rattle.keccak.specs.Row.{opAt}
 use Rattle.keccak.specs.Refusals.{opCount}
 use Rattle.keccak_rnd.specs.Row.{roundRow, roundRows, roundTable}
@@ -18,14 +17,14 @@ roundRowAfter timestamp start round row =
     afterwards (roundRowRefusal round start row)
     (overwrite (roundRow (wordAt timestamp) round (tab 25 (word start))) row) row
 
--- `generate_keccak_rnd_trace`: the table of a list
-abbrev pub roundTraceAfter : List ℕ → List ℕ → List ℕ
-roundTraceAfter ops table =
-    afterwards (roundTraceRefusal (length table) ops)
-    (overwrite (roundTable 24 MIN-ROWS (opCount ops) (opAt ops)) table) table
+-- `generate_keccak_rnd_trace`: the table of a list, nr rows to an operation, of `floor` rows or more
+abbrev pub roundTraceAfter : ℕ → ℕ → List ℕ → List ℕ → List ℕ
+roundTraceAfter nr floor ops table =
+    afterwards (roundTraceRefusal nr floor (length table) ops)
+    (overwrite (roundTable nr floor (opCount ops) (opAt ops)) table) table
 
 -- `keccak_rnd_rows`: the rows of a list, with no padding
-abbrev pub roundRowsAfter : List ℕ → List ℕ → List ℕ
-roundRowsAfter ops table =
-    afterwards (roundRowsRefusal (length table) ops)
-    (overwrite (roundRows 24 (opCount ops) (opAt ops)) table) table
+abbrev pub roundRowsAfter : ℕ → List ℕ → List ℕ → List ℕ
+roundRowsAfter nr ops table =
+    afterwards (roundRowsRefusal nr (length table) ops)
+    (overwrite (roundRows nr (opCount ops) (opAt ops)) table) table

@@ -102,6 +102,6 @@ unfoldable pub rightLane : List ℕ → ℕ → ℕ → ℕ
 rightLane t x y = laneOf (rotRightByte t x y)
 
 -- ---- the rows of one operation
--- row j of 24: START is the lanes s after j rounds
-unfoldable pub rowAfter : ℕ → List ℕ → ℕ → List ℕ
-rowAfter timestamp s j = roundRow (wordAt timestamp) j (roundsL 0 j s)
+-- row j of those from round `first` on: START is the lanes s after j rounds
+unfoldable pub rowAfter : ℕ → ℕ → List ℕ → ℕ → List ℕ
+rowAfter first timestamp s j = roundRow (wordAt timestamp) (first + j) (roundsL first j s)

@@ -3,9 +3,8 @@ use Prim.Native.Nat.{ℕ, _*_}
 use mathlib.Core.List.{List}
 use mathlib.Core.Option.{Option}
 use lib.ListN.{length}
-use Rattle.answer.specs.Refusal.{accepted, pastEnd, tooShort}
+use Rattle.answer.specs.Refusal.{accepted, pastEnd, tooShort, notRounds, notFloor, countRefusal}
 use Rattle.answer.specs.declared.Refusal.{Refusal}
-use Rattle.keccak.specs.Height.{MIN-ROWS}
 use Rattle.keccak.specs.Refusals.{opCount, operationsRefusal}
 use Rattle.keccak_rnd.specs.Columns.{NUM-COLUMNS}
 use Rattle.keccak_rnd.specs.Row.{roundHeight}
@@ -19,10 +18,19 @@ roundRowRefusal round start row =
     (tooShort (length row) NUM-COLUMNS
     accepted))
 
+-- The calls that take a number of rounds refuse it first: "Refused: 8, nr is 0 or above 24, detail nr, before 1."
+-- and then a floor: "9, any other floor, detail the floor, after 8 and before 1."
 -- `generate_keccak_rnd_trace`: a table of `room` words is to hold the rows up to the height
-unfoldable pub roundTraceRefusal : ℕ → List ℕ → Option Refusal
-roundTraceRefusal room ops = operationsRefusal room (roundHeight 24 MIN-ROWS (opCount ops) * NUM-COLUMNS) ops
+unfoldable pub roundTraceRefusal : ℕ → ℕ → ℕ → List ℕ → Option Refusal
+roundTraceRefusal nr floor room ops =
+    notRounds nr
+    (notFloor floor
+    (operationsRefusal room (roundHeight nr floor (opCount ops) * NUM-COLUMNS) ops))
 
--- `keccak_rnd_rows`: the same without padding
-unfoldable pub roundRowsRefusal : ℕ → List ℕ → Option Refusal
-roundRowsRefusal room ops = operationsRefusal room (opCount ops * 24 * NUM-COLUMNS) ops
+-- `keccak_rnd_rows`: the same without padding, so that there is no floor
+unfoldable pub roundRowsRefusal : ℕ → ℕ → List ℕ → Option Refusal
+roundRowsRefusal nr room ops = notRounds nr (operationsRefusal room (opCount ops * nr * NUM-COLUMNS) ops)
+
+-- `keccak_rnd_height`, `padding_are_bytes`: 8, then 9, then 1 on the number of operations
+unfoldable pub roundCountRefusal : ℕ → ℕ → ℕ → Option Refusal
+roundCountRefusal nr floor n = notRounds nr (notFloor floor (countRefusal n))

@@ -1,5 +1,6 @@
 // tables/keccak.rs, bus_interactions: the tuples of a core row that carry the state: here those on the Keccak bus, which
 // are timestamp, round and the 200 words of a state, x outermost; in `memw` those of the memory.
+use fips202::first_round;
 use keccak::INPUT_STATE;
 use keccak::MU;
 use keccak::OUTPUT_STATE;
@@ -59,13 +60,14 @@ fn put_keccak_values(out: &mut [u64], row: &[u64], round: u64, base: usize)
     put_state(out, 3, row, base);
 }
 
-// 2: INPUT is sent at round 0.
-pub fn keccak_sent(row: &[u64], out: &mut [u64]) -> BusInteraction
+// 2: INPUT is sent at round 24 - nr.
+pub fn keccak_sent(nr: usize, row: &[u64], out: &mut [u64]) -> BusInteraction
     requires { ⌜ (NUM-COLUMNS ≤ length (now row)) × (203 ≤ length (now out)) ⌝ }
-    ensures answer { λ r. ⌜ r ≡ interactionOf (sender Keccak (word (now (row .entry)) MU) (coreSent 24 (now (row .entry)))) ⌝ }
-    ensures words { λ _. ⌜ now (out .exit) ≡ overwrite (coreSent 24 (now (row .entry))) (now (out .entry)) ⌝ }
+    ensures answer { λ r. ⌜ r ≡ interactionOf (sender Keccak (word (now (row .entry)) MU) (coreSent nr (now (row .entry)))) ⌝ }
+    ensures words { λ _. ⌜ now (out .exit) ≡ overwrite (coreSent nr (now (row .entry))) (now (out .entry)) ⌝ }
 {
-    put_keccak_values(out, row, 0, INPUT_STATE);
+    let round = first_round(nr);
+    put_keccak_values(out, row, round, INPUT_STATE);
     BusInteraction {
         bus: Bus::Keccak,
         side: Side::Sender,

@@ -5,9 +5,9 @@ use flat::flat_answer;
 use flat::flat_number;
 ghost use mathlib.Core.Path.{_≡_};
 ghost use lib.ListN.{length};
-ghost use Rattle.answer.specs.Refusal.{answerOf, numberOf, countRefusal};
-ghost use Rattle.keccak.specs.Height.{height, MIN-ROWS};
-ghost use Rattle.keccak.specs.Refusals.{coreRowRefusal, coreTraceRefusal, coreRowsRefusal, keysRefusal};
+ghost use Rattle.answer.specs.Refusal.{answerOf, numberOf};
+ghost use Rattle.keccak.specs.Height.{height};
+ghost use Rattle.keccak.specs.Refusals.{coreRowRefusal, coreTraceRefusal, coreRowsRefusal, keysRefusal, coreCountRefusal};
 ghost use Rattle.keccak.specs.Calls.{coreRowAfter, coreTraceAfter, coreRowsAfter, keysAfter};
 ghost use Rattle.flat.specs.Flat.{flatAnswer, flatNumber};
 
@@ -20,11 +20,15 @@ pub extern "C" fn keccak_tables_keccak_row(ops: &[u64], index: usize, row: &mut 
 }
 
 #[no_mangle]
-pub extern "C" fn keccak_tables_generate_keccak_trace(ops: &[u64], table: &mut [u64]) -> FlatAnswer
-    ensures answer { λ r. ⌜ r ≡ flatAnswer (answerOf (coreTraceRefusal (length (now (table .entry))) (now (ops .entry)))) ⌝ }
-    ensures words { λ _. ⌜ now (table .exit) ≡ coreTraceAfter (now (ops .entry)) (now (table .entry)) ⌝ }
+pub extern "C" fn keccak_tables_generate_keccak_trace(
+    floor: u64,
+    ops: &[u64],
+    table: &mut [u64],
+) -> FlatAnswer
+    ensures answer { λ r. ⌜ r ≡ flatAnswer (answerOf (coreTraceRefusal floor (length (now (table .entry))) (now (ops .entry)))) ⌝ }
+    ensures words { λ _. ⌜ now (table .exit) ≡ coreTraceAfter floor (now (ops .entry)) (now (table .entry)) ⌝ }
 {
-    flat_answer(keccak_trace::generate_keccak_trace(ops, table))
+    flat_answer(keccak_trace::generate_keccak_trace(floor, ops, table))
 }
 
 #[no_mangle]
@@ -44,8 +48,8 @@ pub extern "C" fn keccak_tables_is_wh_keys(ops: &[u64], out: &mut [u64]) -> Flat
 }
 
 #[no_mangle]
-pub extern "C" fn keccak_tables_keccak_height(n: usize) -> FlatNumber
-    ensures { λ r. ⌜ r ≡ flatNumber (numberOf (height MIN-ROWS n) (countRefusal n)) ⌝ }
+pub extern "C" fn keccak_tables_keccak_height(floor: u64, n: usize) -> FlatNumber
+    ensures { λ r. ⌜ r ≡ flatNumber (numberOf (height floor n) (coreCountRefusal floor n)) ⌝ }
 {
-    flat_number(keccak_trace::keccak_height(n))
+    flat_number(keccak_trace::keccak_height(floor, n))
 }

@@ -9,8 +9,7 @@ ghost use Rattle.tuple.specs.Values.{valuesAnswer, valuesAfter};
 ghost use Rattle.keccak.specs.Columns as core;
 ghost use Rattle.keccak.specs.Values.{coreValue};
 ghost use Rattle.keccak.specs.Values as core-values;
-ghost use Rattle.keccak.specs.Tuples.{coreTuple};
-ghost use Rattle.keccak.specs.Tuples as core-tuples;
+ghost use Rattle.keccak.specs.TupleCalls.{coreTupleAnswer, coreTupleAfter};
 ghost use Rattle.keccak_rnd.specs.Columns as round;
 ghost use Rattle.keccak_rnd.specs.Values.{roundValue};
 ghost use Rattle.keccak_rnd.specs.Values as round-values;
@@ -36,18 +35,19 @@ pub extern "C" fn keccak_tables_keccak_rnd_values(row: &[u64], out: &mut [u64]) 
     flat_answer(keccak_rnd_values::round_values(row, out))
 }
 
-// The syscall number stands in the row's Ecall tuple.
+// The syscall number stands in the row's Ecall tuple, the number of rounds in the Keccak tuple that it sends.
 #[no_mangle]
 pub extern "C" fn keccak_tables_keccak_bus_interaction(
+    nr: u64,
     row: &[u64],
     index: usize,
     syscall: u64,
     out: &mut [u64],
 ) -> FlatTuple
-    ensures answer { λ r. ⌜ r ≡ flatTuple (tupleAnswerOf core.NUM-COLUMNS core-tuples.NUM-TUPLES (coreTuple 24 syscall) (now (row .entry)) index (now (out .entry))) ⌝ }
-    ensures words { λ _. ⌜ now (out .exit) ≡ tupleAfter core.NUM-COLUMNS core-tuples.NUM-TUPLES (coreTuple 24 syscall) (now (row .entry)) index (now (out .entry)) ⌝ }
+    ensures answer { λ r. ⌜ r ≡ flatTuple (coreTupleAnswer nr syscall (now (row .entry)) index (now (out .entry))) ⌝ }
+    ensures words { λ _. ⌜ now (out .exit) ≡ coreTupleAfter nr syscall (now (row .entry)) index (now (out .entry)) ⌝ }
 {
-    flat_tuple(keccak_tuples::bus_interaction(row, index, syscall, out))
+    flat_tuple(keccak_tuples::bus_interaction(nr, row, index, syscall, out))
 }
 
 #[no_mangle]
@@ -64,14 +64,15 @@ pub extern "C" fn keccak_tables_keccak_rnd_bus_interaction(
 
 #[no_mangle]
 pub extern "C" fn keccak_tables_keccak_bus_interactions(
+    nr: u64,
     row: &[u64],
     syscall: u64,
     out: &mut [u64],
 ) -> FlatAnswer
-    ensures answer { λ r. ⌜ r ≡ flatAnswer (valuesAnswer core.NUM-COLUMNS core-words.NUM-WORDS (now (row .entry)) (now (out .entry))) ⌝ }
-    ensures words { λ _. ⌜ now (out .exit) ≡ core-words.coreTuplesAfter syscall (now (row .entry)) (now (out .entry)) ⌝ }
+    ensures answer { λ r. ⌜ r ≡ flatAnswer (core-words.coreTuplesAnswer nr (now (row .entry)) (now (out .entry))) ⌝ }
+    ensures words { λ _. ⌜ now (out .exit) ≡ core-words.coreTuplesAfter nr syscall (now (row .entry)) (now (out .entry)) ⌝ }
 {
-    flat_answer(keccak_interactions::bus_interactions(row, syscall, out))
+    flat_answer(keccak_interactions::bus_interactions(nr, row, syscall, out))
 }
 
 #[no_mangle]

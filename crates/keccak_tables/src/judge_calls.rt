@@ -7,7 +7,7 @@ use verdict_line;
 ghost use mathlib.Core.Path.{_≡_};
 ghost use mathlib.Core.List.{[], _∷_};
 ghost use Rattle.verdict.specs.Verdict.{verdictWords};
-ghost use Rattle.verdict.specs.CoreAndRound.{verdictOf};
+ghost use Rattle.verdict.specs.CoreAndRound.{verdictFor};
 ghost use Rattle.flat.specs.Flat.{flatNumber};
 ghost use Rattle.verdict_line.specs.Line.{lineAnswer, lineAfter};
 
@@ -22,10 +22,10 @@ pub struct FlatVerdict {
 }
 
 #[no_mangle]
-pub extern "C" fn keccak_tables_verdict(core: &[u64], round: &[u64]) -> FlatVerdict
-    ensures { λ r. ⌜ r .kind ∷ r .first ∷ r .second ∷ r .third ∷ [] ≡ verdictWords (verdictOf (now (core .entry)) (now (round .entry))) ⌝ }
+pub extern "C" fn keccak_tables_verdict(nr: u64, core: &[u64], round: &[u64]) -> FlatVerdict
+    ensures { λ r. ⌜ r .kind ∷ r .first ∷ r .second ∷ r .third ∷ [] ≡ verdictWords (verdictFor nr (now (core .entry)) (now (round .entry))) ⌝ }
 {
-    let words = verdict_words(verdict(core, round));
+    let words = verdict_words(verdict(nr, core, round));
     FlatVerdict {
         kind: words[0],
         first: words[1],
@@ -36,12 +36,13 @@ pub extern "C" fn keccak_tables_verdict(core: &[u64], round: &[u64]) -> FlatVerd
 
 #[no_mangle]
 pub extern "C" fn keccak_tables_verdict_line(
+    nr: u64,
     core: &[u64],
     round: &[u64],
     line: &mut [u8],
 ) -> FlatNumber
-    ensures answer { λ r. ⌜ r ≡ flatNumber (lineAnswer 24 (now (core .entry)) (now (round .entry)) (now (line .entry))) ⌝ }
-    ensures bytes { λ _. ⌜ now (line .exit) ≡ lineAfter 24 (now (core .entry)) (now (round .entry)) (now (line .entry)) ⌝ }
+    ensures answer { λ r. ⌜ r ≡ flatNumber (lineAnswer nr (now (core .entry)) (now (round .entry)) (now (line .entry))) ⌝ }
+    ensures bytes { λ _. ⌜ now (line .exit) ≡ lineAfter nr (now (core .entry)) (now (round .entry)) (now (line .entry)) ⌝ }
 {
-    flat_number(verdict_line::verdict_line(core, round, line))
+    flat_number(verdict_line::verdict_line(nr, core, round, line))
 }

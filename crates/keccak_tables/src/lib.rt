@@ -10,4 +10,5 @@ pub mod key_rows;
 pub mod lookup_calls;
 pub mod lookups;
 pub mod round_calls;
+pub mod segment_calls;
 pub mod tally_calls;

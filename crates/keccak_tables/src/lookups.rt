@@ -85,13 +85,14 @@ pub extern "C" fn keccak_tables_generate_keccak_rc_trace(table: &mut [u64]) -> F
 
 #[no_mangle]
 pub extern "C" fn keccak_tables_keccak_rc_update_multiplicities(
+    nr: u64,
     table: &mut [u64],
     n: u64,
 ) -> FlatAnswer
-    ensures answer { λ r. ⌜ r ≡ flatAnswer (answerOf (updateRefusal (now (table .entry)) n)) ⌝ }
-    ensures words { λ _. ⌜ now (table .exit) ≡ updateAfter (now (table .entry)) n ⌝ }
+    ensures answer { λ r. ⌜ r ≡ flatAnswer (answerOf (updateRefusal nr (now (table .entry)) n)) ⌝ }
+    ensures words { λ _. ⌜ now (table .exit) ≡ updateAfter nr (now (table .entry)) n ⌝ }
 {
-    flat_answer(keccak_rc_trace::update_multiplicities(table, n))
+    flat_answer(keccak_rc_trace::update_multiplicities(nr, table, n))
 }
 
 #[no_mangle]

@@ -31,11 +31,15 @@ pub extern "C" fn keccak_tables_tally_feed(cursor: FlatCursor, bytes: &[u8]) -> 
 }
 
 #[no_mangle]
-pub extern "C" fn keccak_tables_tally_finish(shipped: bool, cursor: FlatCursor) -> FlatTally
-    ensures { λ r. ⌜ r ≡ flatTally (finishOf shipped (cursorOf cursor)) ⌝ }
+pub extern "C" fn keccak_tables_tally_finish(
+    floor: u64,
+    shipped: bool,
+    cursor: FlatCursor,
+) -> FlatTally
+    ensures { λ r. ⌜ r ≡ flatTally (finishOf floor shipped (cursorOf cursor)) ⌝ }
 {
     let c = cursor_of(cursor);
-    flat_tally(op_sums::finish(shipped, c))
+    flat_tally(op_sums::finish(floor, shipped, c))
 }
 
 #[no_mangle]

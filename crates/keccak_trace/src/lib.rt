@@ -3,7 +3,7 @@ use answer::Answer;
 use answer::MAX_OPS;
 use answer::Number;
 use answer::Refusal;
-use keccak::MIN_ROWS;
+use answer::check_floor;
 use keccak::NUM_COLUMNS;
 use keccak::OP_WORDS;
 pub use keccak_row::keccak_row;
@@ -19,11 +19,11 @@ ghost use lib.ListN.{length};
 ghost use lib.Seq.{sets};
 ghost use Rattle.lists.specs.Tab.{tableOf};
 ghost use Rattle.lists.specs.First.{firstAt};
-ghost use Rattle.answer.specs.Refusal.{answerOf, numberOf, countRefusal};
+ghost use Rattle.answer.specs.Refusal.{answerOf, numberOf};
 ghost use Rattle.keccak.specs.Columns.{NUM-COLUMNS};
-ghost use Rattle.keccak.specs.Height.{height, MIN-ROWS};
+ghost use Rattle.keccak.specs.Height.{height};
 ghost use Rattle.keccak.specs.Row.{OP-WORDS, coreRow, corePad, coreRowAt, opAt};
-ghost use Rattle.keccak.specs.Refusals.{highAt, coreTraceRefusal, coreRowsRefusal};
+ghost use Rattle.keccak.specs.Refusals.{highAt, coreTraceRefusal, coreRowsRefusal, coreCountRefusal};
 ghost use Rattle.keccak.specs.Calls.{coreTraceAfter, coreRowsAfter};
 
 // The rows of n operations.
@@ -60,16 +60,19 @@ fn put_core_rows(ops: &[u64], n: usize, h: usize, table: &mut [u64])
     put_pad_rows(table, n * NUM_COLUMNS, h - n);
 }
 
-// The core table of a list of operations.
-pub fn generate_keccak_trace(ops: &[u64], table: &mut [u64]) -> Answer
-    ensures answer { λ r. ⌜ r ≡ answerOf (coreTraceRefusal (length (now (table .entry))) (now (ops .entry))) ⌝ }
-    ensures words { λ r. ⌜ now (table .exit) ≡ coreTraceAfter (now (ops .entry)) (now (table .entry)) ⌝ }
+// The core table of a list of operations, of `floor` rows or more.
+pub fn generate_keccak_trace(floor: u64, ops: &[u64], table: &mut [u64]) -> Answer
+    ensures answer { λ r. ⌜ r ≡ answerOf (coreTraceRefusal floor (length (now (table .entry))) (now (ops .entry))) ⌝ }
+    ensures words { λ r. ⌜ now (table .exit) ≡ coreTraceAfter floor (now (ops .entry)) (now (table .entry)) ⌝ }
 {
+    if let Answer::Refused(refusal) = check_floor(floor) {
+        return Answer::Refused(refusal);
+    }
     let n = ops.len() / OP_WORDS;
     if n as u64 > MAX_OPS {
         return Answer::Refused(Refusal::PastEnd(MAX_OPS + 1));
     }
-    let h = table_height(MIN_ROWS, n);
+    let h = table_height(floor as usize, n);
     let room = table.len();
     if let Answer::Refused(refusal) = check_operations(ops, room, h * NUM_COLUMNS) {
         return Answer::Refused(refusal);
@@ -95,13 +98,16 @@ pub fn keccak_rows(ops: &[u64], table: &mut [u64]) -> Answer
     Answer::Done
 }
 
-// The height of the core table of n operations.
-pub fn keccak_height(n: usize) -> Number
-    ensures { λ r. ⌜ r ≡ numberOf (height MIN-ROWS n) (countRefusal n) ⌝ }
+// The height of the core table of n operations, `floor` or more.
+pub fn keccak_height(floor: u64, n: usize) -> Number
+    ensures { λ r. ⌜ r ≡ numberOf (height floor n) (coreCountRefusal floor n) ⌝ }
 {
+    if let Answer::Refused(refusal) = check_floor(floor) {
+        return Number::Refused(refusal);
+    }
     if n as u64 > MAX_OPS {
         return Number::Refused(Refusal::PastEnd(MAX_OPS + 1));
     }
-    let h = table_height(MIN_ROWS, n);
-    Number::Is(h as u64)
+    let rows = table_height(floor as usize, n);
+    Number::Is(rows as u64)
 }

@@ -3,6 +3,7 @@ use address::addr_bytes_tuple;
 use address::align_tuple;
 use address::pointer_tuple;
 use answer::Answer;
+use answer::check_rounds;
 use keccak::ADDR_TUPLES;
 use keccak::ALIGN_TUPLE;
 use keccak::LANE_TUPLES;
@@ -27,9 +28,10 @@ ghost use Prim.Native.Nat.{ℕ, _<_, _≤_};
 ghost use lib.ListN.{length};
 ghost use Rattle.field.specs.Elements.{ElementRow};
 ghost use Rattle.answer.specs.Refusal.{overwrite};
-ghost use Rattle.tuple.specs.Call.{interactionOf, tupleAnswerOf, tupleAfter};
+ghost use Rattle.tuple.specs.Call.{interactionOf};
 ghost use Rattle.keccak.specs.Columns.{NUM-COLUMNS};
 ghost use Rattle.keccak.specs.Tuples.{NUM-TUPLES, ecallTuple, coreTuple};
+ghost use Rattle.keccak.specs.TupleCalls.{coreTupleAnswer, coreTupleAfter};
 
 pub mod address;
 
@@ -52,10 +54,10 @@ fn ecall_tuple(row: &[u64], syscall: u64, out: &mut [u64]) -> BusInteraction
 }
 
 // 0 to 3.
-fn head_tuple(row: &[u64], index: usize, syscall: u64, out: &mut [u64]) -> BusInteraction
-    requires { ⌜ ElementRow NUM-COLUMNS (now row) × (index < 4) × (length (coreTuple 24 syscall (now row) index .values) ≤ length (now out)) ⌝ }
-    ensures answer { λ r. ⌜ r ≡ interactionOf (coreTuple 24 syscall (now (row .entry)) index) ⌝ }
-    ensures words { λ _. ⌜ now (out .exit) ≡ overwrite (coreTuple 24 syscall (now (row .entry)) index .values) (now (out .entry)) ⌝ }
+fn head_tuple(nr: usize, row: &[u64], index: usize, syscall: u64, out: &mut [u64]) -> BusInteraction
+    requires { ⌜ ElementRow NUM-COLUMNS (now row) × (index < 4) × (length (coreTuple nr syscall (now row) index .values) ≤ length (now out)) ⌝ }
+    ensures answer { λ r. ⌜ r ≡ interactionOf (coreTuple nr syscall (now (row .entry)) index) ⌝ }
+    ensures words { λ _. ⌜ now (out .exit) ≡ overwrite (coreTuple nr syscall (now (row .entry)) index .values) (now (out .entry)) ⌝ }
 {
     if index == 0 {
         return ecall_tuple(row, syscall, out);
@@ -64,16 +66,16 @@ fn head_tuple(row: &[u64], index: usize, syscall: u64, out: &mut [u64]) -> BusIn
         return addr_memw(row, out);
     }
     if index == 2 {
-        return keccak_sent(row, out);
+        return keccak_sent(nr, row, out);
     }
     keccak_received(row, out)
 }
 
 // 54 to 83.
-fn tail_tuple(row: &[u64], index: usize, syscall: u64, out: &mut [u64]) -> BusInteraction
-    requires { ⌜ ElementRow NUM-COLUMNS (now row) × (54 ≤ index) × (index < NUM-TUPLES) × (length (coreTuple 24 syscall (now row) index .values) ≤ length (now out)) ⌝ }
-    ensures answer { λ r. ⌜ r ≡ interactionOf (coreTuple 24 syscall (now (row .entry)) index) ⌝ }
-    ensures words { λ _. ⌜ now (out .exit) ≡ overwrite (coreTuple 24 syscall (now (row .entry)) index .values) (now (out .entry)) ⌝ }
+fn tail_tuple(nr: usize, row: &[u64], index: usize, syscall: u64, out: &mut [u64]) -> BusInteraction
+    requires { ⌜ ElementRow NUM-COLUMNS (now row) × (54 ≤ index) × (index < NUM-TUPLES) × (length (coreTuple nr syscall (now row) index .values) ≤ length (now out)) ⌝ }
+    ensures answer { λ r. ⌜ r ≡ interactionOf (coreTuple nr syscall (now (row .entry)) index) ⌝ }
+    ensures words { λ _. ⌜ now (out .exit) ≡ overwrite (coreTuple nr syscall (now (row .entry)) index .values) (now (out .entry)) ⌝ }
 {
     if index == ALIGN_TUPLE {
         return align_tuple(row, out);
@@ -85,25 +87,31 @@ fn tail_tuple(row: &[u64], index: usize, syscall: u64, out: &mut [u64]) -> BusIn
 }
 
 // Tuple `index` of a row that the checks passed.
-pub fn row_tuple(row: &[u64], index: usize, syscall: u64, out: &mut [u64]) -> BusInteraction
-    requires { ⌜ ElementRow NUM-COLUMNS (now row) × (index < NUM-TUPLES) × (length (coreTuple 24 syscall (now row) index .values) ≤ length (now out)) ⌝ }
-    ensures answer { λ r. ⌜ r ≡ interactionOf (coreTuple 24 syscall (now (row .entry)) index) ⌝ }
-    ensures words { λ _. ⌜ now (out .exit) ≡ overwrite (coreTuple 24 syscall (now (row .entry)) index .values) (now (out .entry)) ⌝ }
+pub fn row_tuple(
+    nr: usize,
+    row: &[u64],
+    index: usize,
+    syscall: u64,
+    out: &mut [u64],
+) -> BusInteraction
+    requires { ⌜ ElementRow NUM-COLUMNS (now row) × (index < NUM-TUPLES) × (length (coreTuple nr syscall (now row) index .values) ≤ length (now out)) ⌝ }
+    ensures answer { λ r. ⌜ r ≡ interactionOf (coreTuple nr syscall (now (row .entry)) index) ⌝ }
+    ensures words { λ _. ⌜ now (out .exit) ≡ overwrite (coreTuple nr syscall (now (row .entry)) index .values) (now (out .entry)) ⌝ }
 {
     if index < POINTER_TUPLES {
-        return head_tuple(row, index, syscall, out);
+        return head_tuple(nr, row, index, syscall, out);
     }
     if index < ALIGN_TUPLE {
         let k = index - POINTER_TUPLES;
         return pointer_tuple(row, k / 2, k % 2, out);
     }
-    tail_tuple(row, index, syscall, out)
+    tail_tuple(nr, row, index, syscall, out)
 }
 
 // How many values tuples 0 to 3 have.
 fn head_length(index: usize) -> usize
     requires { ⌜ index < 4 ⌝ }
-    ensures { λ r. ⌜ ((syscall : ℕ) (row : List ℕ) → r ≡ length (coreTuple 24 syscall row index .values)) ⌝ }
+    ensures { λ r. ⌜ ((nr syscall : ℕ) (row : List ℕ) → r ≡ length (coreTuple nr syscall row index .values)) ⌝ }
 {
     if index == 0 {
         return 4;
@@ -113,7 +121,7 @@ fn head_length(index: usize) -> usize
 
 // How many values tuple `index` has.
 fn tuple_length(index: usize) -> usize
-    ensures { λ r. ⌜ ((syscall : ℕ) (row : List ℕ) → r ≡ length (coreTuple 24 syscall row index .values)) ⌝ }
+    ensures { λ r. ⌜ ((nr syscall : ℕ) (row : List ℕ) → r ≡ length (coreTuple nr syscall row index .values)) ⌝ }
 {
     if index < POINTER_TUPLES {
         return head_length(index);
@@ -127,11 +135,20 @@ fn tuple_length(index: usize) -> usize
     if index < LANE_TUPLES { 2 } else { 24 }
 }
 
-// Tuple `index` of a core row: its values go into `out`. The syscall number is handed over.
-pub fn bus_interaction(row: &[u64], index: usize, syscall: u64, out: &mut [u64]) -> TupleAnswer
-    ensures answer { λ r. ⌜ r ≡ tupleAnswerOf NUM-COLUMNS NUM-TUPLES (coreTuple 24 syscall) (now (row .entry)) index (now (out .entry)) ⌝ }
-    ensures words { λ _. ⌜ now (out .exit) ≡ tupleAfter NUM-COLUMNS NUM-TUPLES (coreTuple 24 syscall) (now (row .entry)) index (now (out .entry)) ⌝ }
+// Tuple `index` of a core row, of nr rounds: its values go into `out`. The syscall number is handed over.
+pub fn bus_interaction(
+    nr: u64,
+    row: &[u64],
+    index: usize,
+    syscall: u64,
+    out: &mut [u64],
+) -> TupleAnswer
+    ensures answer { λ r. ⌜ r ≡ coreTupleAnswer nr syscall (now (row .entry)) index (now (out .entry)) ⌝ }
+    ensures words { λ _. ⌜ now (out .exit) ≡ coreTupleAfter nr syscall (now (row .entry)) index (now (out .entry)) ⌝ }
 {
+    if let Answer::Refused(refusal) = check_rounds(nr) {
+        return TupleAnswer::Refused(refusal);
+    }
     let length = tuple_length(index);
     let room = out.len();
     if let Answer::Refused(refusal) = check_tuple(
@@ -144,5 +161,5 @@ pub fn bus_interaction(row: &[u64], index: usize, syscall: u64, out: &mut [u64])
     ) {
         return TupleAnswer::Refused(refusal);
     }
-    TupleAnswer::Is(row_tuple(row, index, syscall, out))
+    TupleAnswer::Is(row_tuple(nr as usize, row, index, syscall, out))
 }

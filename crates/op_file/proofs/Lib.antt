@@ -1,3 +1,4 @@
 pub mod Totals
 pub mod Laws
 pub mod Cases
+pub mod Counted

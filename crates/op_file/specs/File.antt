@@ -1,21 +1,22 @@
 -- The operation file: records of 418 bytes, the first faulty one, the operations, and what `tally` says of a file.
-use Prim.Native.Nat.{ℕ, zero, suc, _+_, _*_}
+use Prim.Native.Nat.{ℕ, zero, suc, _+_, _*_, _%_}
 use mathlib.Core.Bool.{Bool, true, false, not}
 use mathlib.Core.List.{List, [], _∷_}
 use mathlib.Core.Option.{Option, none, some, orElse}
 use lib.ListN.{length, take, drop, getD}
 use lib.Dec.{ltb, leb, eqb}
 use Rattle.lists.specs.Tab.{pick, tab, tableOf, word}
+use Rattle.lists.specs.Select.{selected}
 use Rattle.bits.specs.Bits.{pack}
 use Rattle.answer.specs.Limits.{MAX-OPS}
-use Rattle.answer.specs.Refusal.{refuseIf, accepted}
+use Rattle.answer.specs.Refusal.{refuseIf, accepted, notFloor}
 use Rattle.answer.specs.declared.Refusal.{Refusal}
 use Rattle.answer.specs.declared.Refusal.the-variants.{PastEnd, HighAddress, BadRecord}
 use Rattle.tuple.specs.declared.Bus.{Bus}
 use Rattle.tuple.specs.declared.Bus.the-variants.{ByteAlu, AreBytes, IsHalfword, IsWh, KeccakRc, Memw, Ecall}
 use Rattle.tuple.specs.declared.Side.{Side}
 use Rattle.tuple.specs.declared.Side.the-variants.{Sender, Receiver}
-use Rattle.keccak.specs.Height.{MIN-ROWS, height}
+use Rattle.keccak.specs.Height.{height}
 use Rattle.keccak.specs.Row.{OP-WORDS, LAST-ADDRESS, opAt}
 use Rattle.keccak.specs.Tuples.{coreTableSum}
 use Rattle.keccak.specs.declared.KeccakOperation.{KeccakOperation}
@@ -75,31 +76,53 @@ operationWords r = tab OP-WORDS (recordWord r)
 unfoldable pub fileWords : List ℕ → List ℕ
 fileWords file = tableOf (length (recordsOf file)) OP-WORDS (λ i. operationWords (drop (i * RECORD-BYTES) file))
 
+-- ---- the records that are counted
+-- "`tally` counts such records in a last line `unaligned N`, .. and leaves them out of the record count, both heights and
+-- all sums.": such a record has an address that is no multiple of 8
+unfoldable pub isAligned : List ℕ → Bool
+isAligned r = eqb (addressOf r % 8) 0
+
+unfoldable pub isUnaligned : List ℕ → Bool
+isUnaligned r = not (isAligned r)
+
+abbrev pub alignedOf : List ℕ → List (List ℕ)
+alignedOf file = selected isAligned (recordsOf file)
+
+abbrev pub unalignedOf : List ℕ → List (List ℕ)
+unalignedOf file = selected isUnaligned (recordsOf file)
+
+-- the flat list of some records
+unfoldable pub recordsWords : List (List ℕ) → List ℕ
+recordsWords rs = tableOf (length rs) OP-WORDS (λ i. operationWords (getD rs i []))
+
 -- ---- the sums
 -- "the sum of multiplicities that both tables send (Ecall: receive)" on a bus, over the rows of the tables of n
--- operations as they are written. No multiplicity depends on the syscall number.
-unfoldable pub writtenSum : ℕ → Side → Bus → ℕ → (ℕ → KeccakOperation) → ℕ
-writtenSum syscall s b n op = coreTableSum s b 24 syscall MIN-ROWS n op + roundTableSum s b 24 MIN-ROWS n op
+-- operations as they are written. No multiplicity depends on the syscall number. "New verifiers have a floor of their own:
+-- the height rule takes it in place of 4, and so do .. `tally`.": it is the floor of both tables
+unfoldable pub writtenSum : ℕ → ℕ → Side → Bus → ℕ → (ℕ → KeccakOperation) → ℕ
+writtenSum floor syscall s b n op = coreTableSum s b 24 syscall floor n op + roundTableSum s b 24 floor n op
 
 -- what `tally` says of a bus. "In shipped mode AreBytes equals the sum over the rows as written, for every n.": so does
 -- every bus. Otherwise: "An empty file counts as one whose tables are not shipped: it gives 0, 4, 4, then zeros."
-unfoldable pub busTotal : Bool → ℕ → Side → Bus → ℕ → (ℕ → KeccakOperation) → ℕ
-busTotal true syscall s b n op = writtenSum syscall s b n op
-busTotal false syscall s b n op = pick (eqb n 0) 0 (writtenSum syscall s b n op)
+unfoldable pub busTotal : ℕ → Bool → ℕ → Side → Bus → ℕ → (ℕ → KeccakOperation) → ℕ
+busTotal floor true syscall s b n op = writtenSum floor syscall s b n op
+busTotal floor false syscall s b n op = pick (eqb n 0) 0 (writtenSum floor syscall s b n op)
 
-unfoldable pub sumsOf : Bool → ℕ → ℕ → (ℕ → KeccakOperation) → Sums
-sumsOf shipped syscall n op =
+-- the sums of n operations, where `left` records are left out
+unfoldable pub sumsOf : ℕ → Bool → ℕ → ℕ → (ℕ → KeccakOperation) → ℕ → Sums
+sumsOf floor shipped syscall n op left =
     record {
       ops = n;
-      «core_rows» = height MIN-ROWS n;
-      «round_rows» = roundHeight 24 MIN-ROWS n;
-      «byte_alu» = busTotal shipped syscall Sender ByteAlu n op;
-      «are_bytes» = busTotal shipped syscall Sender AreBytes n op;
-      «keccak_rc» = busTotal shipped syscall Sender KeccakRc n op;
-      «is_halfword» = busTotal shipped syscall Sender IsHalfword n op;
-      «is_wh» = busTotal shipped syscall Sender IsWh n op;
-      memw = busTotal shipped syscall Sender Memw n op;
-      ecall = busTotal shipped syscall Receiver Ecall n op;
+      «core_rows» = height floor n;
+      «round_rows» = roundHeight 24 floor n;
+      «byte_alu» = busTotal floor shipped syscall Sender ByteAlu n op;
+      «are_bytes» = busTotal floor shipped syscall Sender AreBytes n op;
+      «keccak_rc» = busTotal floor shipped syscall Sender KeccakRc n op;
+      «is_halfword» = busTotal floor shipped syscall Sender IsHalfword n op;
+      «is_wh» = busTotal floor shipped syscall Sender IsWh n op;
+      memw = busTotal floor shipped syscall Sender Memw n op;
+      ecall = busTotal floor shipped syscall Receiver Ecall n op;
+      unaligned = left;
     }
 
 -- the first fault, or the sums
@@ -107,6 +130,8 @@ abbrev pub unless : Option Refusal → Sums → Tally
 unless none s = Counted s
 unless (some r) s = Refused r
 
-unfoldable pub tallyOf : Bool → ℕ → List ℕ → Tally
-tallyOf shipped syscall file =
-    unless (firstFault 0 0 (recordsOf file)) (sumsOf shipped syscall (length (recordsOf file)) (opAt (fileWords file)))
+-- "Refused: 9, any other floor, detail the floor, after 8 and before 1.": before anything that is wrong with the file
+unfoldable pub tallyOf : ℕ → Bool → ℕ → List ℕ → Tally
+tallyOf floor shipped syscall file =
+    unless (notFloor floor (firstFault 0 0 (recordsOf file)))
+    (sumsOf floor shipped syscall (length (alignedOf file)) (opAt (recordsWords (alignedOf file))) (length (unalignedOf file)))

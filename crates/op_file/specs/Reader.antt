@@ -1,5 +1,5 @@
 -- Reading a file in pieces: where a reader stands after each byte, and what the end of the file makes of it.
-use Prim.Native.Nat.{ℕ, _+_, _-_, _*_, _/_, _<_, _≤_}
+use Prim.Native.Nat.{ℕ, _+_, _-_, _*_, _/_, _%_, _<_, _≤_}
 use mathlib.Core.Path.{_≡_}
 use mathlib.Core.Bool.{Bool, true, false, not}
 use mathlib.Core.List.{List, [], _∷_}
@@ -8,9 +8,10 @@ use lib.ListN.{length, take}
 use lib.Dec.{ltb, leb, eqb}
 use Rattle.lists.specs.Tab.{pick}
 use Rattle.answer.specs.Limits.{MAX-OPS}
+use Rattle.answer.specs.Refusal.{accepted, notFloor}
 use Rattle.answer.specs.declared.Refusal.{Refusal}
 use Rattle.answer.specs.declared.Refusal.the-variants.{PastEnd, HighAddress, BadRecord}
-use Rattle.keccak.specs.Height.{MIN-ROWS, height}
+use Rattle.keccak.specs.Height.{height}
 use Rattle.keccak.specs.Row.{LAST-ADDRESS}
 use Rattle.keccak_rnd.specs.Row.{ARE-BYTES-PER-ROW, roundHeight, padding-are-bytes}
 use Rattle.op_file.specs.File.{RECORD-BYTES}
@@ -32,18 +33,22 @@ inAddress at = pick (leb 10 at) (ltb at 18) false
 unfoldable pub shifted : ℕ → ℕ → ℕ
 shifted a b = a / 256 + b * 72057594037927936
 
--- a reader after one more byte. `Reading n at addr`: n whole records are read, and `at` bytes of the next, whose
--- address bytes so far make addr
+-- a reader after a whole record at this address, behind n at multiples of 8 and k at other addresses
+unfoldable pub recordRead : ℕ → ℕ → ℕ → Cursor
+recordRead n k addr = pick (eqb (addr % 8) 0) (cursor.Reading (n + 1) k 0 0) (cursor.Reading n (k + 1) 0 0)
+
+-- a reader after one more byte. `Reading n k at addr`: n whole records at multiples of 8 and k at other addresses are
+-- read, and `at` bytes of the next, whose address bytes so far make addr
 unfoldable pub stepOf : Cursor → ℕ → Cursor
 stepOf (cursor.Refused r) b = cursor.Refused r
-stepOf (cursor.Reading n at addr) b =
-    pick (leb MAX-OPS n)
+stepOf (cursor.Reading n k at addr) b =
+    pick (leb MAX-OPS (n + k))
     (cursor.Refused (PastEnd (MAX-OPS + 1)))
     (pick (wrong at b)
-    (cursor.Refused (BadRecord (RECORD-BYTES * n)))
+    (cursor.Refused (BadRecord (RECORD-BYTES * (n + k))))
     (pick (leb 417 at)
-    (pick (ltb LAST-ADDRESS addr) (cursor.Refused (HighAddress addr)) (cursor.Reading (n + 1) 0 0))
-    (cursor.Reading n (at + 1) (pick (inAddress at) (shifted addr b) addr))))
+    (pick (ltb LAST-ADDRESS addr) (cursor.Refused (HighAddress addr)) (recordRead n k addr))
+    (cursor.Reading n k (at + 1) (pick (inAddress at) (shifted addr b) addr))))
 
 -- a reader after a piece of the file
 unfoldable pub feedOf : Cursor → List ℕ → Cursor
@@ -52,52 +57,63 @@ feedOf c (b ∷ bs) = feedOf (stepOf c b) bs
 
 -- the reader at the start of a file
 abbrev pub fileStart : Cursor
-fileStart = cursor.Reading 0 0 0
+fileStart = cursor.Reading 0 0 0 0
 
 -- whether a reader has met a fault
 abbrev pub isRefused : Cursor → Bool
 isRefused (cursor.Refused r) = true
-isRefused (cursor.Reading n at addr) = false
+isRefused (cursor.Reading n k at addr) = false
 
 -- what the padding rows of the round table of n operations send on AreBytes: in shipped mode those of an empty table
--- too, "The four zero round rows then each send 220 AreBytes tuples."
-unfoldable pub paddingSum : Bool → ℕ → ℕ
-paddingSum true n = (roundHeight 24 MIN-ROWS n - n * 24) * ARE-BYTES-PER-ROW
-paddingSum false n = padding-are-bytes 24 MIN-ROWS n
+-- too, "The four zero round rows then each send 220 AreBytes tuples.", and "The 880 of shipped mode becomes 220 times the
+-- floor."
+unfoldable pub paddingSum : ℕ → Bool → ℕ → ℕ
+paddingSum floor true n = (roundHeight 24 floor n - n * 24) * ARE-BYTES-PER-ROW
+paddingSum floor false n = padding-are-bytes 24 floor n
 
--- the sums as they are computed (proofs/Totals.antt: `counts-are-sums`)
-unfoldable pub countsOf : Bool → ℕ → Sums
-countsOf shipped n =
+-- the sums as they are computed (proofs/Totals.antt: `counts-are-sums`), of n operations, where `left` records are left out
+unfoldable pub countsOf : ℕ → Bool → ℕ → ℕ → Sums
+countsOf floor shipped n left =
     record {
       ops = n;
-      «core_rows» = height MIN-ROWS n;
-      «round_rows» = roundHeight 24 MIN-ROWS n;
+      «core_rows» = height floor n;
+      «round_rows» = roundHeight 24 floor n;
       «byte_alu» = 19393 * n;
-      «are_bytes» = 5284 * n + paddingSum shipped n;
+      «are_bytes» = 5284 * n + paddingSum floor shipped n;
       «keccak_rc» = 24 * n;
       «is_halfword» = 25 * n;
       «is_wh» = 25 * n;
       memw = 26 * n;
       ecall = n;
+      unaligned = left;
     }
 
 -- what the end of the file makes of a reader: a record that it breaks off is cut, and one too many where the file has
 -- all the records that it may have
-unfoldable pub finishOf : Bool → Cursor → Tally
-finishOf shipped (cursor.Refused r) = tally.Refused r
-finishOf shipped (cursor.Reading n at addr) =
-    pick (ltb MAX-OPS n)
+unfoldable pub endOf : ℕ → Bool → Cursor → Tally
+endOf floor shipped (cursor.Refused r) = tally.Refused r
+endOf floor shipped (cursor.Reading n k at addr) =
+    pick (ltb MAX-OPS (n + k))
     (tally.Refused (PastEnd (MAX-OPS + 1)))
     (pick (eqb at 0)
-    (tally.Counted (countsOf shipped n))
-    (pick (leb MAX-OPS n)
+    (tally.Counted (countsOf floor shipped n k))
+    (pick (leb MAX-OPS (n + k))
     (tally.Refused (PastEnd (MAX-OPS + 1)))
-    (tally.Refused (BadRecord (RECORD-BYTES * n)))))
+    (tally.Refused (BadRecord (RECORD-BYTES * (n + k))))))
 
--- a reader after the whole record n: at its fault, or before the next record
-abbrev pub after : Option Refusal → ℕ → Cursor
-after none n = cursor.Reading n 0 0
-after (some r) n = cursor.Refused r
+-- the refusal of a check that comes first, or what is said where it passes
+abbrev pub checked : Option Refusal → Tally → Tally
+checked none t = t
+checked (some r) t = tally.Refused r
+
+-- the same where the floor is checked first
+unfoldable pub finishOf : ℕ → Bool → Cursor → Tally
+finishOf floor shipped c = checked (notFloor floor accepted) (endOf floor shipped c)
+
+-- a reader after a whole record: at its fault, or before the next record
+abbrev pub after : Option Refusal → Cursor → Cursor
+after none c = c
+after (some r) c = cursor.Refused r
 
 -- part of a piece is read: how much of it, and where the reader then stands
 pub record Advanced (c : Cursor) (s : List ℕ) (d : Cursor) (used : ℕ) : Type 0 where

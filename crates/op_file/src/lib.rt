@@ -3,14 +3,20 @@ use answer::Refusal;
 
 pub const RECORD_BYTES: usize = 418;
 
-// Where a reader stands: n whole records and `at` bytes of the next, whose address bytes so far make addr; or the first
-// fault.
+// Where a reader stands: n whole records at multiples of 8 and `unaligned` at other addresses are read, and `at` bytes of
+// the next, whose address bytes so far make addr; or the first fault.
 pub enum Cursor {
-    Reading { n: u64, at: usize, addr: u64 },
+    Reading {
+        n: u64,
+        unaligned: u64,
+        at: usize,
+        addr: u64,
+    },
     Refused(Refusal),
 }
 
-// What `tally` prints of a file: operations, heights, and per bus the sum of multiplicities.
+// What `tally` prints of a file: operations, heights, per bus the sum of multiplicities, and the records that these leave
+// out, because their addresses are no multiples of 8.
 pub struct Sums {
     pub ops: u64,
     pub core_rows: u64,
@@ -22,6 +28,7 @@ pub struct Sums {
     pub is_wh: u64,
     pub memw: u64,
     pub ecall: u64,
+    pub unaligned: u64,
 }
 
 pub enum Tally {

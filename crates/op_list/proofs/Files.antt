@@ -19,8 +19,9 @@ use Rattle.answer.proofs.Laws.{passed-if, refuse-yes, refuse-no, sets-overwrite
 use Rattle.keccak.specs.Row.{opAt}
 use Rattle.keccak.specs.Refusals.{opCount, Acceptable}
 use Rattle.keccak.proofs.Refusals.{accepted-is}
-use Rattle.op_file.specs.File.{split, recordsOf, recordWord, operationWords, fileWords, faultOf, firstFault, sumsOf, unless, tallyOf, isWhole}
+use Rattle.op_file.specs.File.{split, recordsOf, recordWord, operationWords, fileWords, faultOf, firstFault, alignedOf, unalignedOf, recordsWords, sumsOf, unless, tallyOf, isWhole}
 use Rattle.op_file.specs.declared.Sums.{Sums}
+use Rattle.op_file.proofs.Cases.{each-counted, four, floor-counts}
 use Rattle.op_file.specs.declared.Tally.the-variants as tally
 use Rattle.op_list.specs.Record.{recordBytes, wordsFrom}
 use Rattle.op_list.proofs.RecordAgain.{marked}
@@ -64,7 +65,7 @@ unfolding recordsOf
 file-whole file e = split-whole (length file) 0 0 file (omega arith) e
 
 -- what a tally says of the faults
-pub told-refused : {r : Refusal} (o : Option Refusal) (s : Sums) → tally.Refused r ≡ unless o s → o ≡ some r
+told-refused : {r : Refusal} (o : Option Refusal) (s : Sums) → tally.Refused r ≡ unless o s → o ≡ some r
 told-refused none s e = cc
 told-refused (some x) s e = cc
 
@@ -72,13 +73,15 @@ told-counted : {t : Sums} (o : Option Refusal) (s : Sums) → tally.Counted t �
 told-counted none s e = (refl, cc)
 told-counted (some x) s e = (cc, cc)
 
-pub told-file : (file : List ℕ) {t : Sums} → tally.Counted t ≡ tallyOf false 0 file
-    → (firstFault 0 0 (recordsOf file) ≡ none) × (t .ops ≡ length (recordsOf file))
-unfolding tallyOf sumsOf
+pub told-fault : (file : List ℕ) {r : Refusal} → tally.Refused r ≡ tallyOf 4 false 0 file → firstFault 0 0 (recordsOf file) ≡ some r
+told-fault file e = told-refused _ _ (e ∙ floor-counts 4 false four 0 file)
+
+pub told-file : (file : List ℕ) {t : Sums} → tally.Counted t ≡ tallyOf 4 false 0 file
+    → (firstFault 0 0 (recordsOf file) ≡ none) × (t .ops + t .unaligned ≡ length (recordsOf file))
+unfolding sumsOf
 told-file file e =
-    let n = length (recordsOf file) in
-    let q = told-counted (firstFault 0 0 (recordsOf file)) (sumsOf false 0 n (opAt (fileWords file))) e in
-    (q .0, ap (λ (s : Sums). s .ops) (q .1))
+    let q = told-counted (firstFault 0 0 (recordsOf file)) (sumsOf 4 false 0 (length (alignedOf file)) (opAt (recordsWords (alignedOf file))) (length (unalignedOf file))) (e ∙ floor-counts 4 false four 0 file) in
+    (q .0, ap (λ (s : Sums). s .ops + s .unaligned) (q .1) ∙ each-counted file)
 
 -- ---- the clauses of `read_operations`
 module _ (file : List ℕ) (room : ℕ) where

@@ -11,7 +11,8 @@ use Rattle.keccak.specs.Refusals.{opCount, operationsRefusal}
 use Rattle.op_file.specs.File.{RECORD-BYTES, recordsOf, firstFault, fileWords}
 use Rattle.op_list.specs.Record.{recordBytes, wordsFrom}
 
--- `read_operations`: the file as `tally` refuses it; then 3, a list too short for the words
+-- `read_operations`: the file as `tally` refuses it; then 3, a list too short for the words. "Old operation files that
+-- hold one stay readable": its words are those of every record, and what takes the list then refuses it
 unfoldable pub readRefusal : List ℕ → ℕ → Option Refusal
 readRefusal file room =
     orElse (firstFault 0 0 (recordsOf file)) (tooShort room (length (recordsOf file) * OP-WORDS) accepted)
@@ -24,7 +25,7 @@ readAfter file ops = afterwards (readRefusal file (length ops)) (overwrite (file
 unfoldable pub fileBytes : List ℕ → List ℕ
 fileBytes ops = tableOf (opCount ops) RECORD-BYTES (λ i. recordBytes (wordsFrom ops (i * OP-WORDS)))
 
--- `write_operations`: 1, 2, 3 and 4 as in every call that takes a list of operations
+-- `write_operations`: 1, 2, 3, 4 and 7 as in every call that takes a list of operations
 unfoldable pub writeRefusal : ℕ → List ℕ → Option Refusal
 writeRefusal room ops = operationsRefusal room (opCount ops * RECORD-BYTES) ops
 

@@ -2,6 +2,7 @@
 use answer::Answer;
 use answer::MAX_OPS;
 use answer::Refusal;
+use keccak::MIN_ROWS;
 use keccak::OP_WORDS;
 use op_file::RECORD_BYTES;
 use op_file::Tally;
@@ -35,16 +36,17 @@ fn put_operations(file: &[u8], n: usize, ops: &mut [u64])
     }
 }
 
-// The operations of a file, from the front of `ops` on.
+// The operations of a file, from the front of `ops` on: all of them, those that `tally` leaves out too.
 pub fn read_operations(file: &[u8], ops: &mut [u64]) -> Answer
     ensures answer { λ r. ⌜ r ≡ answerOf (readRefusal (now (file .entry)) (length (now (ops .entry)))) ⌝ }
     ensures words { λ r. ⌜ now (ops .exit) ≡ readAfter (now (file .entry)) (now (ops .entry)) ⌝ }
 {
     let read = feed(start(), file);
-    match finish(false, read) {
+    // Only the numbers of records count here, which are the same for every floor.
+    match finish(MIN_ROWS as u64, false, read) {
         Tally::Refused(refusal) => Answer::Refused(refusal),
         Tally::Counted(sums) => {
-            let n = sums.ops as usize;
+            let n = (sums.ops + sums.unaligned) as usize;
             if ops.len() < n * OP_WORDS {
                 return Answer::Refused(Refusal::TooShort((n * OP_WORDS) as u64));
             }

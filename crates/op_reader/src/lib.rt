@@ -4,6 +4,7 @@ use op_file::Cursor;
 use op_file::RECORD_BYTES;
 use step::byte;
 use step::read_record;
+pub use step::records_read;
 ghost use mathlib.Core.Path.{_≡_};
 ghost use Prim.Native.Nat.{_<_, _≤_};
 ghost use lib.ListN.{length};
@@ -16,6 +17,7 @@ pub fn start() -> Cursor
 {
     Cursor::Reading {
         n: 0,
+        unaligned: 0,
         at: 0,
         addr: 0,
     }
@@ -35,15 +37,15 @@ struct Part {
 
 // Reads on in a piece that is not empty: a whole record at once, or what follows the address of a record that the
 // piece's end splits, or else one byte.
-fn advance(n: u64, at: usize, addr: u64, s: &[u8]) -> Part
+fn advance(n: u64, unaligned: u64, at: usize, addr: u64, s: &[u8]) -> Part
     requires { ⌜ 0 < length (now s) ⌝ }
-    ensures { λ r. ⌜ Advanced (Cursor.Reading n at addr) (now (s .entry)) (r .cursor) (r .used) ⌝ }
+    ensures { λ r. ⌜ Advanced (Cursor.Reading n unaligned at addr) (now (s .entry)) (r .cursor) (r .used) ⌝ }
 {
-    if n < MAX_OPS {
+    if records_read(n, unaligned) < MAX_OPS {
         if at == 0 {
             if s.len() >= RECORD_BYTES {
                 return Part {
-                    cursor: read_record(n, &s[..RECORD_BYTES]),
+                    cursor: read_record(n, unaligned, &s[..RECORD_BYTES]),
                     used: RECORD_BYTES,
                 };
             }
@@ -53,6 +55,7 @@ fn advance(n: u64, at: usize, addr: u64, s: &[u8]) -> Part
                 return Part {
                     cursor: Cursor::Reading {
                         n,
+                        unaligned,
                         at: at + k,
                         addr,
                     },
@@ -62,7 +65,7 @@ fn advance(n: u64, at: usize, addr: u64, s: &[u8]) -> Part
         }
     }
     Part {
-        cursor: byte(n, at, addr, s[0]),
+        cursor: byte(n, unaligned, at, addr, s[0]),
         used: 1,
     }
 }
@@ -78,8 +81,13 @@ pub fn feed(c: Cursor, chunk: &[u8]) -> Cursor
             Cursor::Refused(refusal) => {
                 return Cursor::Refused(refusal);
             }
-            Cursor::Reading { n, at, addr } => {
-                let a = advance(n, at, addr, &chunk[i..]);
+            Cursor::Reading {
+                n,
+                unaligned,
+                at,
+                addr,
+            } => {
+                let a = advance(n, unaligned, at, addr, &chunk[i..]);
                 now = a.cursor;
                 i += a.used;
             }
@@ -94,6 +102,11 @@ pub fn is_refused(c: Cursor) -> bool
 {
     match c {
         Cursor::Refused(refusal) => true,
-        Cursor::Reading { n, at, addr } => false,
+        Cursor::Reading {
+            n,
+            unaligned,
+            at,
+            addr,
+        } => false,
     }
 }

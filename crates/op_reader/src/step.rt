@@ -8,8 +8,8 @@ ghost use Prim.Native.Nat.{_+_, _*_, _<_, _≤_};
 ghost use lib.ListN.{length};
 ghost use Rattle.lists.specs.Tab.{pick, word};
 ghost use Rattle.bits.specs.Bits.{pack};
-ghost use Rattle.op_file.specs.File.{faultOf};
-ghost use Rattle.op_file.specs.Reader.{after, wrong, inAddress, shifted, stepOf};
+ghost use Rattle.op_file.specs.File.{addressOf, faultOf};
+ghost use Rattle.op_file.specs.Reader.{after, wrong, inAddress, recordRead, shifted, stepOf};
 
 fn wide(b: u8) -> u64
     ensures { λ r. ⌜ r ≡ b ⌝ }
@@ -38,26 +38,57 @@ pub fn word_at(s: &[u8], k: usize) -> u64
     a
 }
 
-// A reader after the whole record r, its n-th.
-pub fn read_record(n: u64, r: &[u8]) -> Cursor
-    requires { ⌜ (n < 89478485) × (length (now r) ≡ 418) ⌝ }
-    ensures { λ c. ⌜ c ≡ after (faultOf n (418 * n) (now (r .entry))) (n + 1) ⌝ }
+// How many records are read, where they are no more than a file may have; else any number above that. A sum of two words
+// may be none, and a caller can make a reader up.
+pub fn records_read(n: u64, unaligned: u64) -> u64
+    ensures { λ r. ⌜ (r ≤ n + unaligned) × (r ≤ 89478485 → r ≡ n + unaligned) ⌝ }
+{
+    if n > MAX_OPS {
+        return n;
+    }
+    if unaligned > MAX_OPS {
+        return unaligned;
+    }
+    n + unaligned
+}
+
+// A reader after a record without a fault at this address: it is counted, or left out.
+fn count_record(n: u64, unaligned: u64, addr: u64) -> Cursor
+    requires { ⌜ n + unaligned < 89478485 ⌝ }
+    ensures { λ c. ⌜ c ≡ recordRead n unaligned addr ⌝ }
+{
+    if addr % 8 == 0 {
+        return Cursor::Reading {
+            n: n + 1,
+            unaligned,
+            at: 0,
+            addr: 0,
+        };
+    }
+    Cursor::Reading {
+        n,
+        unaligned: unaligned + 1,
+        at: 0,
+        addr: 0,
+    }
+}
+
+// A reader after the whole record r.
+pub fn read_record(n: u64, unaligned: u64, r: &[u8]) -> Cursor
+    requires { ⌜ (n + unaligned < 89478485) × (length (now r) ≡ 418) ⌝ }
+    ensures { λ c. ⌜ c ≡ after (faultOf (n + unaligned) (418 * (n + unaligned)) (now (r .entry))) (recordRead n unaligned (addressOf (now (r .entry)))) ⌝ }
 {
     if r[0] != 0x4B {
-        return Cursor::Refused(Refusal::BadRecord(418 * n));
+        return Cursor::Refused(Refusal::BadRecord(418 * (n + unaligned)));
     }
     if r[1] != 0x4F {
-        return Cursor::Refused(Refusal::BadRecord(418 * n));
+        return Cursor::Refused(Refusal::BadRecord(418 * (n + unaligned)));
     }
     let addr = word_at(r, 10);
     if addr > LAST_ADDRESS {
         return Cursor::Refused(Refusal::HighAddress(addr));
     }
-    Cursor::Reading {
-        n: n + 1,
-        at: 0,
-        addr: 0,
-    }
+    count_record(n, unaligned, addr)
 }
 
 // Byte `at` of a record contradicts its mark.
@@ -87,18 +118,20 @@ fn shift(at: usize, addr: u64, b: u8) -> u64
 }
 
 // A reader after one byte.
-pub fn byte(n: u64, at: usize, addr: u64, b: u8) -> Cursor
-    ensures { λ c. ⌜ c ≡ stepOf (Cursor.Reading n at addr) b ⌝ }
+pub fn byte(n: u64, unaligned: u64, at: usize, addr: u64, b: u8) -> Cursor
+    ensures { λ c. ⌜ c ≡ stepOf (Cursor.Reading n unaligned at addr) b ⌝ }
 {
-    if n >= MAX_OPS {
+    let records = records_read(n, unaligned);
+    if records >= MAX_OPS {
         return Cursor::Refused(Refusal::PastEnd(MAX_OPS + 1));
     }
     if is_wrong(at, b) {
-        return Cursor::Refused(Refusal::BadRecord(418 * n));
+        return Cursor::Refused(Refusal::BadRecord(418 * records));
     }
     if at < 417 {
         return Cursor::Reading {
             n,
+            unaligned,
             at: at + 1,
             addr: shift(at, addr, b),
         };
@@ -106,9 +139,5 @@ pub fn byte(n: u64, at: usize, addr: u64, b: u8) -> Cursor
     if addr > LAST_ADDRESS {
         return Cursor::Refused(Refusal::HighAddress(addr));
     }
-    Cursor::Reading {
-        n: n + 1,
-        at: 0,
-        addr: 0,
-    }
+    count_record(n, unaligned, addr)
 }

@@ -1,23 +1,25 @@
 // What the end of an operation file makes of its reader: the sums that `tally` prints, or a refusal.
+use answer::Answer;
 use answer::MAX_OPS;
 use answer::Refusal;
-use keccak::MIN_ROWS;
+use answer::check_floor;
 use keccak_rnd::ARE_BYTES_PER_ROW;
 use keccak_rnd::ROUNDS;
 use op_file::Cursor;
 use op_file::RECORD_BYTES;
 use op_file::Sums;
 use op_file::Tally;
+use op_reader::records_read;
 use operations::table_height;
 ghost use mathlib.Core.Path.{_≡_};
-ghost use Prim.Native.Nat.{_^_, _<_, _≤_};
+ghost use Prim.Native.Nat.{ℕ, _*_, _^_, _<_, _≤_};
 ghost use Rattle.keccak_rnd.specs.Row.{roundHeight};
-ghost use Rattle.op_file.specs.Reader.{paddingSum, countsOf, finishOf};
+ghost use Rattle.op_file.specs.Reader.{paddingSum, countsOf, endOf, finishOf};
 
 // What the padding rows of a round table of `rows` rows send; those of an empty one only where it is shipped.
 fn padding(shipped: bool, n: u64, rows: u64) -> u64
-    requires { ⌜ (n ≤ 89478485) × (rows ≡ roundHeight 24 4 n) ⌝ }
-    ensures { λ r. ⌜ (r ≡ paddingSum shipped n) × (r < 2 ^ 40) ⌝ }
+    requires { ⌜ (n ≤ 89478485) × (n * 24 ≤ rows) × (rows ≤ 2 ^ 33) ⌝ }
+    ensures { λ r. ⌜ ((floor : ℕ) → rows ≡ roundHeight 24 floor n → r ≡ paddingSum floor shipped n) × (r < 2 ^ 41) ⌝ }
 {
     let sent = (rows - n * (ROUNDS as u64)) * (ARE_BYTES_PER_ROW as u64);
     if shipped {
@@ -29,13 +31,13 @@ fn padding(shipped: bool, n: u64, rows: u64) -> u64
     sent
 }
 
-// The sums of n operations.
-fn sum_up(shipped: bool, n: u64) -> Sums
-    requires { ⌜ n ≤ 89478485 ⌝ }
-    ensures { λ r. ⌜ r ≡ countsOf shipped n ⌝ }
+// The sums of n operations, where `left` records are left out.
+fn sum_up(floor: usize, shipped: bool, n: u64, left: u64) -> Sums
+    requires { ⌜ (floor ≤ 65536) × (n ≤ 89478485) ⌝ }
+    ensures { λ r. ⌜ r ≡ countsOf floor shipped n left ⌝ }
 {
-    let core_rows = table_height(MIN_ROWS, n as usize);
-    let round_rows = table_height(MIN_ROWS, n as usize * ROUNDS) as u64;
+    let core_rows = table_height(floor, n as usize);
+    let round_rows = table_height(floor, n as usize * ROUNDS) as u64;
     Sums {
         ops: n,
         core_rows: core_rows as u64,
@@ -47,26 +49,44 @@ fn sum_up(shipped: bool, n: u64) -> Sums
         is_wh: 25 * n,
         memw: 26 * n,
         ecall: n,
+        unaligned: left,
     }
 }
 
 // What the end of the file makes of a reader, where the tables of an empty file are shipped or not.
-pub fn finish(shipped: bool, c: Cursor) -> Tally
-    ensures { λ r. ⌜ r ≡ finishOf shipped c ⌝ }
+fn ended(floor: usize, shipped: bool, c: Cursor) -> Tally
+    requires { ⌜ floor ≤ 65536 ⌝ }
+    ensures { λ r. ⌜ r ≡ endOf floor shipped c ⌝ }
 {
     match c {
         Cursor::Refused(refusal) => Tally::Refused(refusal),
-        Cursor::Reading { n, at, addr } => {
-            if n > MAX_OPS {
+        Cursor::Reading {
+            n,
+            unaligned,
+            at,
+            addr,
+        } => {
+            let records = records_read(n, unaligned);
+            if records > MAX_OPS {
                 return Tally::Refused(Refusal::PastEnd(MAX_OPS + 1));
             }
             if at == 0 {
-                return Tally::Counted(sum_up(shipped, n));
+                return Tally::Counted(sum_up(floor, shipped, n, unaligned));
             }
-            if n >= MAX_OPS {
+            if records >= MAX_OPS {
                 return Tally::Refused(Refusal::PastEnd(MAX_OPS + 1));
             }
-            Tally::Refused(Refusal::BadRecord((RECORD_BYTES as u64) * n))
+            Tally::Refused(Refusal::BadRecord((RECORD_BYTES as u64) * records))
         }
     }
+}
+
+// The same where both tables have `floor` rows or more; the floor is checked first.
+pub fn finish(floor: u64, shipped: bool, c: Cursor) -> Tally
+    ensures { λ r. ⌜ r ≡ finishOf floor shipped c ⌝ }
+{
+    if let Answer::Refused(refusal) = check_floor(floor) {
+        return Tally::Refused(refusal);
+    }
+    ended(floor as usize, shipped, c)
 }

@@ -10,7 +10,7 @@ ghost use lib.ListN.{length};
 ghost use Rattle.lists.specs.First.{firstAt, placeOf};
 ghost use Rattle.answer.specs.Refusal.{accepted, answerOf, tooShort};
 ghost use Rattle.keccak.specs.Row.{OP-WORDS};
-ghost use Rattle.keccak.specs.Refusals.{highAt, notWhole, tooHigh};
+ghost use Rattle.keccak.specs.Refusals.{badAddress, highAt, notWhole, unalignedAt};
 
 // The first of n operations whose address is above the last one.
 fn first_high(ops: &[u64], n: usize) -> Place
@@ -27,9 +27,38 @@ fn first_high(ops: &[u64], n: usize) -> Place
     Place::Nowhere
 }
 
+// The first of n operations whose address is no multiple of 8.
+fn first_unaligned(ops: &[u64], n: usize) -> Place
+    requires { ⌜ OP-WORDS * n ≤ length (now ops) ⌝ }
+    ensures { λ r. ⌜ r ≡ placeOf (firstAt (unalignedAt (now (ops .entry))) n) ⌝ }
+{
+    let mut i: usize = 0;
+    while i < n {
+        if ops[OP_WORDS * i + 1] % 8 != 0 {
+            return Place::At(i);
+        }
+        i += 1;
+    }
+    Place::Nowhere
+}
+
+// The checks of the addresses: no other is looked at before all of them are known not to be too high.
+pub fn check_addresses(ops: &[u64]) -> Answer
+    ensures { λ r. ⌜ r ≡ answerOf (badAddress (now (ops .entry)) accepted) ⌝ }
+{
+    let n = ops.len() / OP_WORDS;
+    if let Place::At(i) = first_high(ops, n) {
+        return Answer::Refused(Refusal::HighAddress(ops[OP_WORDS * i + 1]));
+    }
+    if let Place::At(i) = first_unaligned(ops, n) {
+        return Answer::Refused(Refusal::Unaligned(ops[OP_WORDS * i + 1]));
+    }
+    Answer::Done
+}
+
 // The checks of a call that takes a list of operations and a slice to write to, after those of its numbers.
 pub fn check_operations(ops: &[u64], room: usize, needed: usize) -> Answer
-    ensures { λ r. ⌜ r ≡ answerOf (notWhole (now (ops .entry)) (tooShort room needed (tooHigh (now (ops .entry)) accepted))) ⌝ }
+    ensures { λ r. ⌜ r ≡ answerOf (notWhole (now (ops .entry)) (tooShort room needed (badAddress (now (ops .entry)) accepted))) ⌝ }
 {
     if ops.len() % OP_WORDS != 0 {
         return Answer::Refused(Refusal::NotWhole(2));
@@ -37,9 +66,5 @@ pub fn check_operations(ops: &[u64], room: usize, needed: usize) -> Answer
     if room < needed {
         return Answer::Refused(Refusal::TooShort(needed as u64));
     }
-    let n = ops.len() / OP_WORDS;
-    if let Place::At(i) = first_high(ops, n) {
-        return Answer::Refused(Refusal::HighAddress(ops[OP_WORDS * i + 1]));
-    }
-    Answer::Done
+    check_addresses(ops)
 }

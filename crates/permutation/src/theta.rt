@@ -7,7 +7,7 @@ ghost use Rattle.lists.specs.Tab.{tab};
 ghost use Rattle.fips202.specs.Lanes.{grid, plane, parityL, thetaDL, thetaAt, thetaL};
 
 // C[x]: the parity of each column.
-fn parities(a: [u64; 25]) -> [u64; 5]
+pub fn parities(a: [u64; 25]) -> [u64; 5]
     ensures { λ c. ⌜ c ≡ tab 5 (parityL a) ⌝ }
 {
     let mut c = [0u64; 5];
@@ -18,7 +18,7 @@ fn parities(a: [u64; 25]) -> [u64; 5]
 }
 
 // D[x], from the parities C of the columns.
-fn theta_d(c: [u64; 5]) -> [u64; 5]
+pub fn theta_d(c: [u64; 5]) -> [u64; 5]
     ensures { λ d. ⌜ d ≡ tab 5 (thetaDL c) ⌝ }
 {
     let mut d = [0u64; 5];

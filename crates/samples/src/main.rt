@@ -22,6 +22,12 @@ const FACTOR: u64 = 6364136223846793005;
 // A number for the Keccak system call, 3 * 2^32 + 11: made up, since the real one is not published.
 const SYSCALL: u64 = 12884901899;
 
+// Of Keccak-f[1600].
+const ROUNDS: u64 = 24;
+
+// The published Rust's least height.
+const FLOOR: u64 = 4;
+
 // FACTOR · x + y mod p.
 fn step(x: u64, y: u64) -> u64 {
     let scaled = Fe { value: FACTOR }.mul(Fe { value: x });
@@ -144,7 +150,7 @@ fn core_rows(ops: &[u64]) {
     keccak_keys::is_wh_keys(ops, &mut keys);
     print_rows(10, &keys, 2);
     let mut table = [0u64; 3888];
-    keccak_trace::generate_keccak_trace(ops, &mut table);
+    keccak_trace::generate_keccak_trace(FLOOR, ops, &mut table);
     print_rows(11, &table, 486);
 }
 
@@ -152,7 +158,7 @@ fn round_rows(ops: &[u64])
     requires { ⌜ 104 ≤ length (now ops) ⌝ }
 {
     let mut table = [0u64; 94720];
-    keccak_rnd_trace::generate_keccak_rnd_trace(&ops[..104], &mut table);
+    keccak_rnd_trace::generate_keccak_rnd_trace(ROUNDS, FLOOR, &ops[..104], &mut table);
     print_digests(17, &table, 1480);
 }
 
@@ -233,7 +239,7 @@ fn print_constant(round: u64, row: &[u64]) {
 fn constant_lookups() {
     let mut table = [0u64; 320];
     keccak_rc_trace::generate_keccak_rc_trace(&mut table);
-    keccak_rc_trace::update_multiplicities(&mut table, 7);
+    keccak_rc_trace::update_multiplicities(ROUNDS, &mut table, 7);
     for round in 0..32 {
         print_constant(round as u64, &table[10 * round..10 * round + 10]);
     }
@@ -297,7 +303,7 @@ fn core_tuples(row: &[u64]) -> u64 {
     let mut i: usize = 0;
     while i < 84 {
         let mut out = [0u64; 203];
-        let tuple = keccak_tables_keccak_bus_interaction(row, i, SYSCALL, &mut out);
+        let tuple = keccak_tables_keccak_bus_interaction(ROUNDS, row, i, SYSCALL, &mut out);
         sum = tuple_digest(sum, tuple, &out);
         i += 1;
     }
@@ -336,7 +342,7 @@ fn print_round_row(number: u64, row: &[u64]) {
 // The core table of five operations, and three rows of drawn words.
 fn core_evaluations(ops: &[u64]) {
     let mut rows = [0u64; 5346];
-    keccak_trace::generate_keccak_trace(ops, &mut rows);
+    keccak_trace::generate_keccak_trace(FLOOR, ops, &mut rows);
     put_drawn(&mut rows, 3888, 1458, 3);
     for k in 0..11 {
         print_core_row(k as u64, &rows[486 * k..486 * k + 486]);
@@ -348,7 +354,7 @@ fn round_evaluations() {
     let mut ops = [0u64; 52];
     put_operation(&mut ops, 0, 4);
     let mut rows = [0u64; 50320];
-    keccak_rnd_trace::generate_keccak_rnd_trace(&ops, &mut rows);
+    keccak_rnd_trace::generate_keccak_rnd_trace(ROUNDS, FLOOR, &ops, &mut rows);
     put_drawn(&mut rows, 47360, 2960, 5);
     for k in 0..34 {
         print_round_row(k as u64, &rows[1480 * k..1480 * k + 1480]);

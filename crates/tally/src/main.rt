@@ -1,47 +1,57 @@
 // Reads an operation file on standard input and writes the sums of its lookups, or the first fault. With the argument
-// `shipped` the tables of an empty file are shipped.
-use libc::STDERR_FILENO;
+// `shipped` the tables of an empty file are shipped; a decimal is the floor of both tables' heights.
+use answer::Answer;
+use answer::check_floor;
 use libc::STDIN_FILENO;
 use libc::STDOUT_FILENO;
 use op_file::Cursor;
+use tally_arguments::Call;
+use tally_arguments::no_arguments;
+use tally_arguments::read_argument;
 use tally_text::put_tally;
 ghost use Prim.Native.Nat.{ℕ, _<_, _≤_};
-ghost use mathlib.Core.Bool.{true};
+ghost use mathlib.Core.Bool.{true, false};
 ghost use mathlib.Core.Path.{_≡_};
 ghost use mathlib.Core.List.{List};
 ghost use lib.ListN.{length, take};
 ghost use lib.Seq.{sets};
+ghost use Rattle.answer.specs.Refusal.{isFloor};
 ghost use Rattle.op_file.specs.Reader.{feedOf, fileStart, isRefused, finishOf};
 ghost use Rattle.tally_text.specs.Output.{textOf};
+ghost use Rattle.tally_arguments.specs.Arguments.{argumentsOf};
 
-// How the program was called: whether the tables of an empty file are shipped, and whether each argument is known.
-struct Call {
-    shipped: bool,
-    known: bool,
+// More bytes than an argument has: where a page has 4,096 bytes, Linux takes at most 131,071.
+fn argument_space() -> [u8; 131072]
+    ensures { λ r. ⌜ 131072 ≡ length r ⌝ }
+{
+    [0; 131072]
 }
 
-// Whether argument i is the word `shipped`. One that is longer than the lent bytes counts as no word.
-fn is_shipped(i: usize) -> bool {
-    let mut word = [0u8; 8];
-    let n = os::arg(i, &mut word);
-    check::same(&word[..n], b"shipped")
+// What the arguments say, and whether one could not be read.
+struct Arguments {
+    call: Call,
+    failed: bool,
 }
 
-// The arguments one by one; the first is the program's own name.
-fn read_arguments() -> Call {
-    let mut shipped = false;
+// The arguments one by one; the first is the program's own name. One that is longer than the lent bytes, of which they hold
+// the first alone, is not taken for a word: nothing is read after it. The contract says that there are words which say this,
+// not that they are those of the command: no contract speaks of those.
+fn read_arguments() -> Arguments
+    ensures { λ r. ⌜ ((words : List (List ℕ)) × (r .call ≡ argumentsOf words)) ⌝ }
+{
+    let mut space = argument_space();
+    let word: &mut [u8] = &mut space;
+    let mut call = no_arguments();
     for i in 1..os::arg_count() {
-        if !is_shipped(i) {
-            return Call {
-                shipped,
-                known: false,
-            };
+        let n = os::arg(i, word);
+        if os::errno() != 0 {
+            return Arguments { call, failed: true };
         }
-        shipped = true;
+        call = read_argument(call, &word[..n]);
     }
-    Call {
-        shipped,
-        known: true,
+    Arguments {
+        call,
+        failed: false,
     }
 }
 
@@ -86,36 +96,49 @@ fn read_all() -> Turn
     }
 }
 
+// Reads the file, but nothing of it where the floor is refused: whatever the file holds, that is told.
+fn read_file(floor: u64) -> Turn
+    ensures { λ r. ⌜ ((file : List ℕ) × (r .cursor ≡ feedOf fileStart file) × (0 < r .got → isRefused (r .cursor) ≡ true)) ⌝ }
+    ensures { λ r. ⌜ (isFloor floor ≡ false → (r .cursor ≡ fileStart) × (r .failed ≡ false)) ⌝ }
+{
+    if let Answer::Refused(_) = check_floor(floor) {
+        return Turn {
+            cursor: op_reader::start(),
+            got: 0,
+            failed: false,
+        };
+    }
+    read_all()
+}
+
 // Writes the lines of a reader at the end of its file, which it first puts in the lent bytes, and answers whether all were
 // taken; what reaches the file no contract says.
-fn write_tally(shipped: bool, c: Cursor, out: &mut [u8]) -> bool
+fn write_tally(floor: u64, shipped: bool, c: Cursor, out: &mut [u8]) -> bool
     requires { ⌜ 512 ≤ length (now out) ⌝ }
-    ensures { λ _. ⌜ now (out .exit) ≡ sets (now (out .entry)) 0 (textOf (finishOf shipped c)) ⌝ }
+    ensures { λ _. ⌜ now (out .exit) ≡ sets (now (out .entry)) 0 (textOf (finishOf floor shipped c)) ⌝ }
 {
-    let n = put_tally(op_sums::finish(shipped, c), out);
+    let n = put_tally(op_sums::finish(floor, shipped, c), out);
     io::write_all(STDOUT_FILENO, &out[..n])
 }
 
-// Without an `ensures`: it takes and answers nothing, and of arguments and files no contract speaks. An unknown argument is
-// told on standard error before anything is read, a failed read likewise, and no line is written; a failed write is told
-// there too.
+// Without an `ensures`: it takes and answers nothing, and of arguments and files no contract speaks. An argument that could
+// not be read is told on standard error before anything is read, a failed read likewise, and no line is written; a failed
+// write is told there too.
 fn main() {
     let mut space = [0u8; 512];
-    let call = read_arguments();
-    if !call.known {
-        io::write_all(
-            STDERR_FILENO,
-            b"tally takes the argument shipped, or none\n",
-        );
+    let arguments = read_arguments();
+    if arguments.failed {
+        os::fail(b"argument");
         return;
     }
-    let t = read_all();
+    let call = arguments.call;
+    let t = read_file(call.floor);
     if t.failed {
         os::fail(b"standard input");
         return;
     }
     let c = t.cursor;
-    if !write_tally(call.shipped, c, &mut space) {
+    if !write_tally(call.floor, call.shipped, c, &mut space) {
         os::fail(b"standard output");
     }
 }

@@ -1,15 +1,20 @@
 // Prints what `tally` says of files that are built here: a line with the file's name, then its lines. The file `stdout`
 // has the same lines from elsewhere.
-use keccak::LAST_ADDRESS;
 use libc::STDOUT_FILENO;
 use op_file::Cursor;
 use op_reader::feed;
 use op_reader::start;
 use op_sums::finish;
+use tally_arguments::no_arguments;
+use tally_arguments::read_argument;
 use tally_text::put_tally;
 ghost use Prim.Native.Nat.{_≤_};
 
-// The first address that is refused.
+// The highest address that is counted, the highest that is not refused, and the first that is.
+const COUNTED: u64 = 18446744073709551416;
+
+const LEFT_OUT: u64 = 18446744073709551423;
+
 const HIGH: u64 = 18446744073709551424;
 
 // Byte k of a number, lowest first.
@@ -42,15 +47,16 @@ fn changed(file: [u8; 836], at: usize, b: u8) -> [u8; 836]
     other
 }
 
-// The lines of a reader at the end of its file, where the tables of an empty one are shipped or not.
-fn print_mode(shipped: bool, c: Cursor) {
+// The lines of a reader at the end of its file, where both tables have `floor` rows or more, and those of an empty file are
+// shipped or not.
+fn print_call(floor: u64, shipped: bool, c: Cursor) {
     let mut space = [0u8; 512];
-    let n = put_tally(finish(shipped, c), &mut space);
+    let n = put_tally(finish(floor, shipped, c), &mut space);
     io::write_all(STDOUT_FILENO, &space[..n]);
 }
 
 fn print_tally(c: Cursor) {
-    print_mode(false, c);
+    print_call(4, false, c);
 }
 
 // The first n bytes of a file, read at once after so many good records.
@@ -58,6 +64,7 @@ fn print_after(name: &[u8], records: u64, file: &[u8], n: usize) {
     io::write_all(STDOUT_FILENO, name);
     let c = Cursor::Reading {
         n: records,
+        unaligned: 0,
         at: 0,
         addr: 0,
     };
@@ -78,8 +85,23 @@ fn print_first(name: &[u8], file: &[u8], n: usize) {
 fn print_shipped(name: &[u8], file: &[u8], n: usize) {
     io::write_all(STDOUT_FILENO, name);
     if n <= file.len() {
-        print_mode(true, feed(start(), &file[0..n]));
+        print_call(4, true, feed(start(), &file[0..n]));
     }
+}
+
+// The same, with a floor.
+fn print_floor(name: &[u8], floor: u64, shipped: bool, file: &[u8], n: usize) {
+    io::write_all(STDOUT_FILENO, name);
+    if n <= file.len() {
+        print_call(floor, shipped, feed(start(), &file[0..n]));
+    }
+}
+
+// An empty file, with two arguments.
+fn print_arguments(name: &[u8], first: &[u8], second: &[u8]) {
+    io::write_all(STDOUT_FILENO, name);
+    let call = read_argument(read_argument(no_arguments(), first), second);
+    print_call(call.floor, call.shipped, start());
 }
 
 // The same as `print_first`, byte by byte.
@@ -131,7 +153,7 @@ fn wrong_marks() {
 }
 
 fn high_addresses() {
-    let file = records(LAST_ADDRESS, HIGH);
+    let file = records(COUNTED, HIGH);
     print_first(b"highest address\n", &file, 418);
     print_first(b"high address in record 2\n", &file, 836);
     print_bytes(b"high address in record 2, byte by byte\n", &file);
@@ -171,12 +193,82 @@ fn last_records() {
     );
 }
 
-fn main() {
-    good_files();
-    shipped_files();
+// A record at an address that is no multiple of 8, alone and before another or a cut one.
+fn unaligned_files() {
+    let file = records(4097, 8192);
+    print_first(b"one unaligned record\n", &file, 418);
+    print_shipped(b"one unaligned record, shipped\n", &file, 418);
+    print_first(b"an unaligned record and another\n", &file, 836);
+    print_bytes(b"the same, byte by byte\n", &file);
+    print_first(b"an unaligned record, then a byte\n", &file, 419);
+}
+
+// Two of them, and one that is too high besides.
+fn unaligned_twice() {
+    print_first(b"two unaligned records\n", &records(4100, LEFT_OUT), 836);
+    let high = records(4097, HIGH + 1);
+    print_first(b"a high address and unaligned\n", &high, 836);
+}
+
+// The last record that a file may have is left out.
+fn last_unaligned() {
+    let file = records(4097, 8192);
+    print_after(b"last record, unaligned\n", 89478484, &file, 418);
+    print_after(b"a byte after it\n", 89478484, &file, 419);
+}
+
+fn faulty_files() {
     cut_files();
     wrong_marks();
     high_addresses();
     two_faults();
+}
+
+fn floors() {
+    let file = records(4096, 8192);
+    print_floor(b"empty, shipped, floor 8\n", 8, true, &file, 0);
+    print_floor(b"empty, floor 65536\n", 65536, false, &file, 0);
+    print_floor(b"one record, floor 32\n", 32, false, &file, 418);
+    print_floor(b"one record, floor 64\n", 64, false, &file, 418);
+    print_floor(b"one byte too few, floor 64\n", 64, true, &file, 417);
+}
+
+// A file that is wrong besides: the floor is told.
+fn wrong_floors() {
+    let file = records(HIGH, 8192);
+    print_floor(b"floor 0\n", 0, false, &file, 836);
+    print_floor(b"floor 2\n", 2, true, &file, 418);
+    print_floor(b"floor 6\n", 6, false, &file, 417);
+    print_floor(b"floor 131072\n", 131072, true, &file, 0);
+}
+
+fn arguments() {
+    print_arguments(b"arguments shipped, 0008\n", b"shipped", b"0008");
+    print_arguments(b"arguments 16, shipped\n", b"16", b"shipped");
+    print_arguments(b"arguments shipped twice\n", b"shipped", b"shipped");
+    print_arguments(b"arguments x, 8\n", b"x", b"8");
+    print_arguments(b"arguments 8, x\n", b"8", b"x");
+    print_arguments(b"arguments 8, the empty word\n", b"8", b"");
+}
+
+fn long_arguments() {
+    print_arguments(b"arguments 8, 2^64 - 1\n", b"8", b"18446744073709551615");
+    print_arguments(b"arguments 8, 2^64\n", b"8", b"18446744073709551616");
+    print_arguments(b"arguments 8, 2^64 + 8\n", b"8", b"18446744073709551624");
+    print_arguments(b"arguments 8, 8x\n", b"8", b"8x");
+    print_arguments(b"arguments 8, shippedx\n", b"8", b"shippedx");
+}
+
+fn main() {
+    good_files();
+    shipped_files();
+    faulty_files();
     last_records();
+    unaligned_files();
+    unaligned_twice();
+    last_unaligned();
+    floors();
+    wrong_floors();
+    arguments();
+    long_arguments();
 }

@@ -1,5 +1,5 @@
 -- What `tally` writes: the bytes of its lines.
-use Prim.Native.Nat.{ℕ}
+use Prim.Native.Nat.{ℕ, zero, suc}
 use mathlib.Core.List.{List, [], _∷_, _++_}
 use Rattle.text.specs.Text.{decimalOf, namedNumber}
 use Rattle.text.specs.Names.{busName}
@@ -26,6 +26,10 @@ round-rows-name = 114 ∷ 111 ∷ 117 ∷ 110 ∷ 100 ∷ 45 ∷ 114 ∷ 111 ∷
 abbrev pub busLabel : Bus → List ℕ
 busLabel b = busName b ++ (32 ∷ [])
 
+-- "unaligned "
+abbrev pub unaligned-name : List ℕ
+unaligned-name = 117 ∷ 110 ∷ 97 ∷ 108 ∷ 105 ∷ 103 ∷ 110 ∷ 101 ∷ 100 ∷ 32 ∷ []
+
 -- "refused "
 abbrev pub refused-name : List ℕ
 refused-name = 114 ∷ 101 ∷ 102 ∷ 117 ∷ 115 ∷ 101 ∷ 100 ∷ 32 ∷ []
@@ -45,7 +49,12 @@ lookupLines s =
 unfoldable pub otherLines : Sums → List ℕ
 otherLines s = namedNumber (busLabel IsWh) (s .«is_wh») ++ namedNumber (busLabel Memw) (s .memw) ++ namedNumber (busLabel Ecall) (s .ecall)
 
--- all ten, or `refused N D`
+-- "a last line `unaligned N`, which stands only when N is above zero"
+unfoldable pub unalignedLine : ℕ → List ℕ
+unalignedLine zero = []
+unalignedLine (suc k) = namedNumber unaligned-name (suc k)
+
+-- all ten and the last, or `refused N D`
 unfoldable pub textOf : Tally → List ℕ
-textOf (Counted s) = heightLines s ++ lookupLines s ++ otherLines s
+textOf (Counted s) = heightLines s ++ lookupLines s ++ otherLines s ++ unalignedLine (s .unaligned)
 textOf (Refused r) = refused-name ++ decimalOf (refusalNumber r) ++ namedNumber (32 ∷ []) (refusalDetail r)

@@ -8,7 +8,7 @@ use text::put_line;
 ghost use Prim.Native.Nat.{_+_, _≤_};
 ghost use lib.ListN.{length};
 ghost use Rattle.text.specs.Text.{Puts};
-ghost use Rattle.tally_text.specs.Output.{heightLines, lookupLines, otherLines, textOf};
+ghost use Rattle.tally_text.specs.Output.{heightLines, lookupLines, otherLines, unalignedLine, textOf};
 
 // The record count and the two heights.
 fn put_heights(s: Sums, out: &mut [u8]) -> usize
@@ -41,14 +41,26 @@ fn put_others(s: Sums, out: &mut [u8], at: usize) -> usize
     put_line(out, e1, b"Ecall ", s.ecall)
 }
 
-// The ten lines.
+// The last line, where records were left out.
+fn put_unaligned(left: u64, out: &mut [u8], at: usize) -> usize
+    requires { ⌜ at + 31 ≤ length (now out) ⌝ }
+    ensures { λ r. ⌜ Puts (now (out .entry)) at (unalignedLine left) (now (out .exit)) r × (r ≤ at + 31) ⌝ }
+{
+    if left == 0 {
+        return at;
+    }
+    put_line(out, at, b"unaligned ", left)
+}
+
+// The ten lines, and the last.
 fn put_sums(s: Sums, out: &mut [u8]) -> usize
     requires { ⌜ 512 ≤ length (now out) ⌝ }
     ensures { λ r. ⌜ Puts (now (out .entry)) 0 (textOf (Tally.Counted s)) (now (out .exit)) r × (r ≤ 512) ⌝ }
 {
     let a = put_heights(s, out);
     let b = put_lookups(s, out, a);
-    put_others(s, out, b)
+    let c = put_others(s, out, b);
+    put_unaligned(s.unaligned, out, c)
 }
 
 // The one line of a faulty file.

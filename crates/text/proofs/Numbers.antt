@@ -8,14 +8,14 @@ use native.Mathlib.Omega.{arith}
 use lib.ListN.{length, length-append}
 use borrow.Author.Tests.{lt-ltb, le-ltb}
 use Rattle.lists.proofs.Then.{by-le}
-use Rattle.text.specs.Text.{digitsOf, decimalOf}
+use Rattle.text.specs.Text.{digitsOf, decimalOf, readOn, numberIn}
 
 -- ---- one digit, and one more
-digits-one : (k n : ℕ) → n < 10 → digitsOf (suc k) n ≡ (48 + n) ∷ []
+pub digits-one : (k n : ℕ) → n < 10 → digitsOf (suc k) n ≡ (48 + n) ∷ []
 unfolding digitsOf
 digits-one k n h = simp (lt-ltb n 10 h)
 
-digits-next : (k n : ℕ) → 10 ≤ n → digitsOf (suc k) n ≡ digitsOf k (n / 10) ++ ((48 + n % 10) ∷ [])
+pub digits-next : (k n : ℕ) → 10 ≤ n → digitsOf (suc k) n ≡ digitsOf k (n / 10) ++ ((48 + n % 10) ∷ [])
 unfolding digitsOf
 digits-next k n h = simp (le-ltb n 10 h)
 
@@ -59,14 +59,7 @@ digits-long (suc k) n =
 pub decimal-long : (n : ℕ) → n < 18446744073709551616 → length (decimalOf n) ≤ 20
 decimal-long n h = omega (arith, ap length (decimal-digits 19 n (omega arith)), digits-long 20 n)
 
--- ---- read back: the number that digits make, behind those that make a
-readOn : ℕ → List ℕ → ℕ
-readOn a [] = a
-readOn a (d ∷ ds) = readOn (a * 10 + (d - 48)) ds
-
-pub numberIn : List ℕ → ℕ
-numberIn ds = readOn 0 ds
-
+-- ---- read back
 read-append : (s t : List ℕ) (a : ℕ) → readOn a (s ++ t) ≡ readOn (readOn a s) t
 unfolding readOn
 read-append [] t a = refl

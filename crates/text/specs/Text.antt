@@ -1,5 +1,5 @@
 -- Numbers and lines as bytes.
-use Prim.Native.Nat.{ℕ, zero, suc, _+_, _/_, _%_}
+use Prim.Native.Nat.{ℕ, zero, suc, _+_, _-_, _*_, _/_, _%_}
 use mathlib.Core.Path.{_≡_}
 use mathlib.Core.List.{List, [], _∷_, _++_}
 use lib.ListN.{length}
@@ -15,6 +15,14 @@ digitsOf (suc k) n = pick (ltb n 10) ((48 + n) ∷ []) (digitsOf k (n / 10) ++ (
 -- a whole number in decimal, with no leading zeros: n + 1 digits are always enough
 unfoldable pub decimalOf : ℕ → List ℕ
 decimalOf n = digitsOf (suc n) n
+
+-- the number that digits make, behind those that make a
+unfoldable pub readOn : ℕ → List ℕ → ℕ
+readOn a [] = a
+readOn a (d ∷ ds) = readOn (a * 10 + (d - 48)) ds
+
+unfoldable pub numberIn : List ℕ → ℕ
+numberIn ds = readOn 0 ds
 
 -- a name, which ends in a space, and a number, on a line
 unfoldable pub namedNumber : List ℕ → ℕ → List ℕ

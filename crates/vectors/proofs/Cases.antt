@@ -1,7 +1,7 @@
--- A published value of the definition itself, which the program's first line has of the code.
+-- Published values of the definition itself, which lines 1 and 10 of the program have of the code.
 use mathlib.Core.Path.{_≡_, refl}
-use mathlib.Core.List.{[], _∷_}
-use lib.ListN.{replicate}
+use mathlib.Core.List.{[], _∷_, _++_}
+use lib.ListN.{replicate, take}
 use Rattle.fips202.specs.Lanes.{keccakPL, roundsL}
 
 -- Keccak-f[1600] of the zero state, as the Keccak team publishes it (KeccakF-1600-IntermediateValues)
@@ -14,3 +14,11 @@ pub zero-permuted :
     ∷ 0x940C7922AE3A2614 ∷ 0x1841F924A2C509E4 ∷ 0x16F53526E70465C2 ∷ 0x75F644E97F30A13B ∷ 0xEAF1FF7B5CECA249 ∷ []
 unfolding roundsL
 zero-permuted = refl
+
+-- TurboSHAKE128 of the empty message with D = 1F, 32 bytes (the test vectors of RFC 9861): the first lanes after Keccak-p[1600, 12] of
+-- one block of 168 bytes
+pub turboshake-128 :
+    take 4 (keccakPL 12 (0x1F ∷ (replicate 19 0 ++ (0x8000000000000000 ∷ replicate 4 0))))
+    ≡ 0xF2AF83591C5F411E ∷ 0x53BB177D27179216 ∷ 0x54ECDD97A345D98C ∷ 0x4CB7C1F21AE41C1F ∷ []
+unfolding roundsL
+turboshake-128 = refl

@@ -1,5 +1,6 @@
 // Prints values of FIPS 202, which the file `stdout` has from elsewhere: Keccak-f[1600] of the zero state and of what
-// comes out, then SHA3-256 of seven messages. One line each, in lower-case hexadecimal.
+// comes out, then SHA3-256 of seven messages, then two of RFC 9861 that Keccak-p[1600, 12] gives. One line each, in
+// lower-case hexadecimal.
 use libc::STDOUT_FILENO;
 use permutation::State;
 use sha3::sha3_256;
@@ -50,6 +51,16 @@ fn print_digest(message: &[u8]) {
     print_line(&sha3_256(message));
 }
 
+// TurboSHAKE128 of a message of one block, 32 bytes of it. A block is 168 bytes, here zeros but for those that `first` has
+// as a lane, and 80, which padding adds to the last.
+fn print_turboshake(first: u64) {
+    let mut lanes = [0u64; 25];
+    lanes[0] = first;
+    lanes[20] = 0x8000000000000000;
+    let bytes = state_bytes(State { lanes }.keccak_p(12));
+    print_line(&bytes[..32]);
+}
+
 fn permutations() {
     let once = State { lanes: [0u64; 25] }.keccak_f();
     print_state(once);
@@ -72,8 +83,16 @@ fn long_messages() {
     print_digest(&bytes[..137]);
 }
 
+// TurboSHAKE128 of the empty message, which the byte D = 1F ends; and KangarooTwelve of the empty message, which is
+// TurboSHAKE128 of one byte 0, ended by D = 07.
+fn twelve_rounds() {
+    print_turboshake(0x1F);
+    print_turboshake(0x0700);
+}
+
 fn main() {
     permutations();
     short_messages();
     long_messages();
+    twelve_rounds();
 }

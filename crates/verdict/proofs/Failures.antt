@@ -33,7 +33,7 @@ use Rattle.keccak_rnd.specs.Tuples.{roundTuple}
 use Rattle.tuple.proofs.Buses.{bus-decides}
 use Rattle.matching.specs.Matching.{matched}
 use Rattle.matching.proofs.Matching.{matched-decides}
-use Rattle.answer.specs.declared.Refusal.the-variants.{PastEnd, NotWhole, TooShort, HighAddress, NotElement, BadRecord}
+use Rattle.answer.specs.declared.Refusal.the-variants.{PastEnd, NotWhole, TooShort, HighAddress, NotElement, BadRecord, Unaligned, Rounds, Floor}
 use Rattle.keccak.specs.Columns.{TIMESTAMP-0, TIMESTAMP-1}
 use Rattle.verdict.specs.Kind.{Layout, Kind, rows, row, isActive, active, actives, Active, SameTimestamp, sameStamp, DistinctTimestamps, Passes, onKeccak, sent, received, OnBus, BalancedAt, Balanced}
 use Rattle.verdict.specs.Verdict.{ragged, badValue, firstValue, badLookup, firstLookup, sameStampAt, repeats, firstRepeat, uneven, unevenTuple, badTuple, firstUnbalanced, stage, fromRoundBalance, fromCoreBalance, fromRoundLookup, fromRoundValue, fromRepeat, fromCoreLookup, fromCoreValue, fromRoundWords, fromCoreWords, judged}
@@ -299,6 +299,9 @@ module _ (K L : Kind) (core round : List ℕ) where
   said (Refused (TooShort d)) h = absurd h
   said (Refused (HighAddress d)) h = absurd h
   said (Refused (BadRecord d)) h = absurd h
+  said (Refused (Unaligned d)) h = absurd h
+  said (Refused (Rounds d)) h = absurd h
+  said (Refused (Floor d)) h = absurd h
 
   pub verdict-iff : (v : Verdict) → (judged K L core round ≡ v) ↔ Say v
   verdict-iff v = ((λ e. subst Say e says), said v)

@@ -210,6 +210,9 @@ module _ (core : List ℕ) where
           low = λ i l.
               let h : i < length rowsOf = omega (arith, ops-count) in
               omega (arith, address-at i h, of-active CoreCells cells i h .below);
+          aligned = λ i l.
+              let h : i < length rowsOf = omega (arith, ops-count) in
+              ap (λ (a : ℕ). a % 8) (address-at i h) ∙ of-active CoreCells cells i h .aligned;
         })
 
     pub lendable : EachActive States core → (k : ℕ) → k < length (operations core) → word (operations core) k < 2 ^ 64

@@ -3,7 +3,7 @@ use mathlib.Core.Path.{_≡_, refl, sym, ap, _∙_}
 use mathlib.Core.List.{List, [], _∷_}
 use Prim.Native.Nat.{ℕ, zero, suc}
 use Rattle.answer.specs.declared.Refusal.{Refusal}
-use Rattle.answer.specs.declared.Refusal.the-variants.{PastEnd, NotWhole, TooShort, HighAddress, NotElement, BadRecord}
+use Rattle.answer.specs.declared.Refusal.the-variants.{PastEnd, NotWhole, TooShort, HighAddress, NotElement, BadRecord, Unaligned, Rounds, Floor}
 use Rattle.verdict.specs.Verdict.{verdictWords}
 use Rattle.verdict.specs.declared.Table.{Table}
 use Rattle.verdict.specs.declared.Table.the-variants.{Core, Round}
@@ -56,7 +56,10 @@ refusalFrom (suc (suc zero)) d = NotWhole d
 refusalFrom (suc (suc (suc zero))) d = TooShort d
 refusalFrom (suc (suc (suc (suc zero)))) d = HighAddress d
 refusalFrom (suc (suc (suc (suc (suc zero))))) d = NotElement d
-refusalFrom (suc (suc (suc (suc (suc (suc n)))))) d = BadRecord d
+refusalFrom (suc (suc (suc (suc (suc (suc zero)))))) d = BadRecord d
+refusalFrom (suc (suc (suc (suc (suc (suc (suc zero))))))) d = Unaligned d
+refusalFrom (suc (suc (suc (suc (suc (suc (suc (suc zero)))))))) d = Rounds d
+refusalFrom (suc (suc (suc (suc (suc (suc (suc (suc (suc n))))))))) d = Floor d
 
 verdictFrom : List ℕ → Verdict
 verdictFrom (zero ∷ a ∷ b ∷ c ∷ ws) = Holds a
@@ -88,6 +91,9 @@ words-back (Refused (TooShort d)) = refl
 words-back (Refused (HighAddress d)) = refl
 words-back (Refused (NotElement d)) = refl
 words-back (Refused (BadRecord d)) = refl
+words-back (Refused (Unaligned d)) = refl
+words-back (Refused (Rounds d)) = refl
+words-back (Refused (Floor d)) = refl
 
 -- two verdicts with the same words are the same
 pub words-tell : (v w : Verdict) → verdictWords v ≡ verdictWords w → v ≡ w

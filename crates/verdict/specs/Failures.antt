@@ -1,6 +1,6 @@
 -- What each answer of the verdict says, with no search in it. proofs/Failures.antt: the verdict on two tables is an
 -- answer exactly where `Says` has it. So the order of the failures, and the table, row and index of each, are those of
--- the scope.
+-- the scope. What the call answers for any number of rounds is said by `SaysFor`.
 use mathlib.Core.Path.{_≡_}
 use mathlib.Core.Logic.{_⊎_}
 use mathlib.Core.List.{List}
@@ -10,9 +10,11 @@ use Rattle.lists.specs.Tab.{word}
 use Rattle.lists.specs.Failure.{FirstAt, FirstIn}
 use Rattle.field.specs.Field.{p}
 use Rattle.tuple.specs.declared.Bus.the-variants.{Keccak}
-use Rattle.answer.specs.declared.Refusal.the-variants.{PastEnd, NotWhole, TooShort, HighAddress, NotElement, BadRecord}
+use Rattle.answer.specs.declared.Refusal.the-variants.{PastEnd, NotWhole, TooShort, HighAddress, NotElement, BadRecord, Unaligned, Rounds, Floor}
+use Rattle.answer.specs.Limits.{MAX-ROUNDS}
 use Rattle.verdict.specs.Kind.{Layout, Kind, rows, row, actives, Active, SameTimestamp, DistinctTimestamps}
 use Rattle.verdict.specs.Kind.{Whole, Elements, ZeroAt, MatchedAt, Values, Lookups, Passes, BalancedAt, Balanced}
+use Rattle.verdict.specs.CoreAndRound.{coreKind, roundKind}
 use Rattle.verdict.specs.declared.Table.the-variants.{Core, Round}
 use Rattle.verdict.specs.declared.Verdict.{Verdict}
 use Rattle.verdict.specs.declared.Verdict.the-variants.{Refused, Value, Lookup, Repeated, Unbalanced, Holds}
@@ -123,9 +125,23 @@ module _ (K L : Kind) (core round : List ℕ) where
   Says (Holds n) =
       Passes K core × DistinctTimestamps (K .layout) core × Passes L round × Balanced K L core round
       × (n ≡ actives (K .layout) core)
-  -- the verdict has no other refusal
+  -- the verdict on two tables has no other refusal
   Says (Refused (NotWhole (suc (suc d)))) = ⊥
   Says (Refused (PastEnd d)) = ⊥
   Says (Refused (TooShort d)) = ⊥
   Says (Refused (HighAddress d)) = ⊥
   Says (Refused (BadRecord d)) = ⊥
+  Says (Refused (Unaligned d)) = ⊥
+  Says (Refused (Rounds d)) = ⊥
+  Says (Refused (Floor d)) = ⊥
+
+-- ---- the core table and the round table, for any number of rounds
+-- "nr is 0 or above 24"
+abbrev pub NoRounds : ℕ → Type 0
+NoRounds nr = (nr ≡ 0) ⊎ (MAX-ROUNDS < nr)
+
+-- what an answer of the call says: refusal 8 with its detail, or nr is 1 to 24 and the answer is that on the two tables
+abbrev pub SaysFor : ℕ → List ℕ → List ℕ → Verdict → Type 0
+SaysFor nr core round v =
+    (NoRounds nr × (v ≡ Refused (Rounds nr)))
+    ⊎ ((1 ≤ nr) × (nr ≤ MAX-ROUNDS) × Says (coreKind nr) roundKind core round v)

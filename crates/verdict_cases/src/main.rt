@@ -27,6 +27,12 @@ const ADDRESS: u64 = 140737488355136;
 // p, the first word that is no field element.
 const P: u64 = 18446744069414584321;
 
+// Of Keccak-f[1600].
+const ROUNDS: u64 = 24;
+
+// The least height of both tables.
+const FLOOR: u64 = 4;
+
 fn print_next(n: u64) {
     io::write_all(STDOUT_FILENO, b" ");
     io::print_decimal(STDOUT_FILENO, n);
@@ -42,7 +48,7 @@ fn print_words(words: [u64; 4]) {
 
 fn print_case(name: &[u8], core: &[u64], round: &[u64]) {
     io::write_all(STDOUT_FILENO, name);
-    print_words(verdict_words(verdict(core, round)));
+    print_words(verdict_words(verdict(ROUNDS, core, round)));
 }
 
 fn permuted(input: [u64; 25]) -> [u64; 25] {
@@ -79,8 +85,8 @@ fn put_operations(ops: &mut [u64], head: [u64; 2], exchanged: bool)
 fn write_tables(core: &mut [u64], round: &mut [u64], head: [u64; 2], exchanged: bool) {
     let mut ops = [0u64; 104];
     put_operations(&mut ops, head, exchanged);
-    generate_keccak_trace(&ops, core);
-    generate_keccak_rnd_trace(&ops, round);
+    generate_keccak_trace(FLOOR, &ops, core);
+    generate_keccak_rnd_trace(ROUNDS, FLOOR, &ops, round);
 }
 
 fn print_written(name: &[u8], head: [u64; 2], exchanged: bool) {
@@ -98,6 +104,28 @@ fn print_core(name: &[u8], at: usize, word: u64)
     let mut round = [0u64; 94720];
     write_tables(&mut core, &mut round, [STAMP + 1, ADDRESS], false);
     core[at] = word;
+    print_case(name, &core, &round);
+}
+
+// The second core row, written for address 4096, as it would be of address 4100, which no call takes: the lowest byte of
+// the address, and the lowest limb of each pointer.
+fn move_by_4(core: &mut [u64])
+    requires { ⌜ 972 ≤ length (now core) ⌝ }
+{
+    let row = keccak::NUM_COLUMNS;
+    put_words(core, row + keccak::ADDR, &[4], 1);
+    let mut i: usize = 0;
+    while i < 25 {
+        core[row + keccak::STATE_PTR + 3 * i] = 4100 + 8 * (i as u64);
+        i += 1;
+    }
+}
+
+fn print_unaligned(name: &[u8]) {
+    let mut core = [0u64; 1944];
+    let mut round = [0u64; 94720];
+    write_tables(&mut core, &mut round, [STAMP + 1, 4096], false);
+    move_by_4(&mut core);
     print_case(name, &core, &round);
 }
 
@@ -154,7 +182,7 @@ fn print_core_cases() {
     print_written(b"as written", [STAMP + 1, ADDRESS], false);
     print_cut(b"no rows", 0, 0);
     print_core(b"core value", keccak::MU, 2);
-    print_written(b"core lookup", [STAMP + 1, 4100], false);
+    print_unaligned(b"core lookup");
     print_written(b"timestamp", [STAMP, ADDRESS], true);
 }
 

@@ -21,22 +21,22 @@ use Rattle.verdict_line.proofs.Most.{named-fits}
 row-element : (A : Layout) (ws : List ℕ) (r : ℕ) → Elements ws → r < rows A ws → ElementRow (A .width) (row A ws r)
 row-element A ws r h l = subst (ElementRow (A .width)) (part-is (A .width) ws r l) (part-row (A .width) ws r l h)
 
-module _ (core round x : List ℕ) (t : Table) (r i room : ℕ) (enough : 203 ≤ room) (named : Named core round t r i) where
+module _ (nr : ℕ) (core round x : List ℕ) (t : Table) (r i room : ℕ) (enough : 203 ≤ room) (named : Named core round t r i) where
   -- of a core row
   module _ (told : t ≡ Core) (is : x ≡ row coreLayout core r) where
     here : Named core round Core r i
     here = subst (λ (u : Table). Named core round u r i) told named
 
-    pub core-is : coreTuple 24 0 x i ≡ tupleAt 24 core round t r i
+    pub core-is : coreTuple nr 0 x i ≡ tupleAt nr core round t r i
     unfolding tupleAt
-    core-is = ap (λ (y : List ℕ). coreTuple 24 0 y i) is ∙ sym (ap (λ (u : Table). tupleAt 24 core round u r i) told)
+    core-is = ap (λ (y : List ℕ). coreTuple nr 0 y i) is ∙ sym (ap (λ (u : Table). tupleAt nr core round u r i) told)
 
-    pub core-asked : ElementRow CORE-COLUMNS x × (i < CORE-TUPLES) × (length (coreTuple 24 0 x i .values) ≤ room)
+    pub core-asked : ElementRow CORE-COLUMNS x × (i < CORE-TUPLES) × (length (coreTuple nr 0 x i .values) ≤ room)
     core-asked = (
       subst (ElementRow CORE-COLUMNS) (sym is) (row-element coreLayout core r (here .core-below) (here .there .0)),
       here .there .1,
       subst (λ (y : List ℕ). length y ≤ room) (sym (ap (λ u. u .values) core-is))
-          (le-trans (named-fits 24 core round t r i named .few) enough),
+          (le-trans (named-fits nr core round t r i named .few) enough),
     )
 
   -- of a round row
@@ -44,14 +44,14 @@ module _ (core round x : List ℕ) (t : Table) (r i room : ℕ) (enough : 203 �
     there : Named core round Round r i
     there = subst (λ (u : Table). Named core round u r i) told named
 
-    pub round-is : roundTuple x i ≡ tupleAt 24 core round t r i
+    pub round-is : roundTuple x i ≡ tupleAt nr core round t r i
     unfolding tupleAt
-    round-is = ap (λ (y : List ℕ). roundTuple y i) is ∙ sym (ap (λ (u : Table). tupleAt 24 core round u r i) told)
+    round-is = ap (λ (y : List ℕ). roundTuple y i) is ∙ sym (ap (λ (u : Table). tupleAt nr core round u r i) told)
 
     pub round-asked : ElementRow ROUND-COLUMNS x × (i < ROUND-TUPLES) × (length (roundTuple x i .values) ≤ room)
     round-asked = (
       subst (ElementRow ROUND-COLUMNS) (sym is) (row-element roundLayout round r (there .round-below) (there .there .0)),
       there .there .1,
       subst (λ (y : List ℕ). length y ≤ room) (sym (ap (λ u. u .values) round-is))
-          (le-trans (named-fits 24 core round t r i named .few) enough),
+          (le-trans (named-fits nr core round t r i named .few) enough),
     )

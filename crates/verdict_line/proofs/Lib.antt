@@ -1,3 +1,4 @@
+pub mod InRange
 pub mod Tuples
 pub mod Tells
 pub mod Most

@@ -19,17 +19,17 @@ use Rattle.tuple.specs.declared.Bus.{Bus}
 use Rattle.tuple.specs.declared.Bus.the-variants.{ByteAlu, AreBytes, IsHalfword, IsWh, KeccakRc, Keccak, Memw}
 use Rattle.tuple.specs.declared.Bus.the-variants.{Ecall, Msb8, Msb16, Zero, IsB20, Hwsl}
 use Rattle.verdict.specs.Kind.{Layout, rows, row, active, Elements}
-use Rattle.verdict.specs.CoreAndRound.{coreLayout, roundLayout, verdictAt}
+use Rattle.verdict.specs.CoreAndRound.{coreLayout, roundLayout, verdictFor}
 use Rattle.verdict.specs.declared.Table.{Table}
 use Rattle.verdict.specs.declared.Table.the-variants.{Core, Round}
 use Rattle.verdict.specs.declared.Verdict.{Verdict}
 use Rattle.verdict.specs.declared.Verdict.the-variants.{Refused, Value, Lookup, Repeated, Unbalanced, Holds}
-use Rattle.verdict.proofs.Failures.{verdict-says}
 use Rattle.judge_scan.proofs.Scan.{row-ends}
 use Rattle.verdict_line.specs.Line.{LINE-MOST, Shown, tableName, row-name, value-name, timestamp-name, lookup-name}
 use Rattle.verdict_line.specs.Line.{balance-name, holds-name, tupleAt, shownOf, shownBy, placeWords, wordsOf, shownWords}
 use Rattle.verdict_line.specs.Line.{lineOf, shownAt, lineAt}
 use Rattle.verdict_line.specs.Named.{Named}
+use Rattle.verdict_line.proofs.InRange.{judged-says}
 use Rattle.verdict_line.proofs.Tuples.{Small, Fits, core-fits, round-fits}
 
 -- ---- the words of a row
@@ -47,22 +47,22 @@ named-fits nr core round Core r i n = core-fits (row coreLayout core r) (row-sma
 named-fits nr core round Round r i n = round-fits (row roundLayout round r) (row-small roundLayout round (n .round-below) r (n .there .0)) i
 
 -- ---- what a verdict names is there
-pub lookup-named : (nr : ℕ) (core round : List ℕ) (t : Table) (r i : ℕ) → verdictAt nr core round ≡ Lookup t r i → Named core round t r i
+pub lookup-named : (nr : ℕ) (core round : List ℕ) (t : Table) (r i : ℕ) → verdictFor nr core round ≡ Lookup t r i → Named core round t r i
 lookup-named nr core round Core r i e =
-    let s = verdict-says nr core round (Lookup Core r i) .0 e in
+    let s = judged-says nr core round (Lookup Core r i) tt e in
     record { core-below = s .0 .0 .2; round-below = s .0 .0 .3; there = (s .1 .row-there, s .1 .index-there) }
 lookup-named nr core round Round r i e =
-    let s = verdict-says nr core round (Lookup Round r i) .0 e in
+    let s = judged-says nr core round (Lookup Round r i) tt e in
     let b = s .0 .0 .0 .0 .0 in
     record { core-below = b .2; round-below = b .3; there = (s .1 .row-there, s .1 .index-there) }
 
-pub unbalanced-named : (nr : ℕ) (core round : List ℕ) (t : Table) (r i : ℕ) → verdictAt nr core round ≡ Unbalanced t r i → Named core round t r i
+pub unbalanced-named : (nr : ℕ) (core round : List ℕ) (t : Table) (r i : ℕ) → verdictFor nr core round ≡ Unbalanced t r i → Named core round t r i
 unbalanced-named nr core round Core r i e =
-    let s = verdict-says nr core round (Unbalanced Core r i) .0 e in
+    let s = judged-says nr core round (Unbalanced Core r i) tt e in
     let b = s .0 .0 .0 .0 .0 .0 in
     record { core-below = b .2; round-below = b .3; there = (s .1 .row-there, s .1 .index-there) }
 unbalanced-named nr core round Round r i e =
-    let s = verdict-says nr core round (Unbalanced Round r i) .0 e in
+    let s = judged-says nr core round (Unbalanced Round r i) tt e in
     let b = s .0 .0 .0 .0 .0 .0 .0 in
     record { core-below = b .2; round-below = b .3; there = (s .1 .row-there, s .1 .index-there) }
 
@@ -140,16 +140,16 @@ module _ (nr : ℕ) (core round : List ℕ) (core-fits : Small (length core)) (r
   named-small Core r i n = (in-core r (n .there .0), omega (arith, n .there .1))
   named-small Round r i n = (in-round r (n .there .0), omega (arith, n .there .1))
 
-  verdict-most : (v : Verdict) → verdictAt nr core round ≡ v → length (lineOf v (shownBy nr core round v)) ≤ LINE-MOST
+  verdict-most : (v : Verdict) → verdictFor nr core round ≡ v → length (lineOf v (shownBy nr core round v)) ≤ LINE-MOST
   unfolding lineOf wordsOf shownBy shownWords placeWords
   verdict-most (Value Core r i) e =
-      let s = verdict-says nr core round (Value Core r i) .0 e .1 in
+      let s = judged-says nr core round (Value Core r i) tt e .1 in
       omega (arith, place-long Core r value-name i (in-core r (s .row-there)) (omega (arith, s .index-there)) (omega arith))
   verdict-most (Value Round r i) e =
-      let s = verdict-says nr core round (Value Round r i) .0 e .1 in
+      let s = judged-says nr core round (Value Round r i) tt e .1 in
       omega (arith, place-long Round r value-name i (in-round r (s .row-there)) (omega (arith, s .index-there)) (omega arith))
   verdict-most (Repeated r) e =
-      let s = verdict-says nr core round (Repeated r) .0 e .1 in
+      let s = judged-says nr core round (Repeated r) tt e .1 in
       omega (arith, place-long Core r timestamp-name 0 (in-core r (s .there)) (omega arith) (omega arith))
   verdict-most (Lookup t r i) e =
       let n = lookup-named nr core round t r i e in
@@ -160,7 +160,7 @@ module _ (nr : ℕ) (core round : List ℕ) (core-fits : Small (length core)) (r
       let b = named-small t r i n in
       failure-long t r balance-name i (shownOf (tupleAt nr core round t r i)) (b .0) (b .1) (omega arith) (named-fits nr core round t r i n)
   verdict-most (Holds n) e =
-      let q = verdict-says nr core round (Holds n) .0 e .4 in
+      let q = judged-says nr core round (Holds n) tt e .4 in
       let l : Small n = omega (arith, q, count-le (active coreLayout core) (rows coreLayout core), div-le-self (length core) 486) in
       omega (arith, joined-long holds-name (decimalOf n ∷ []), spaced-long (decimalOf n) [], spaced-none, decimal-long n l)
   verdict-most (Refused r) e = omega (arith, none-long)
@@ -168,4 +168,4 @@ module _ (nr : ℕ) (core round : List ℕ) (core-fits : Small (length core)) (r
   -- for tables that fit in memory
   pub line-most : length (lineAt nr core round) ≤ LINE-MOST
   unfolding lineAt shownAt
-  line-most = verdict-most (verdictAt nr core round) refl
+  line-most = verdict-most (verdictFor nr core round) refl

@@ -1,4 +1,4 @@
--- The call's refusals: accepted exactly where the verdict is no refusal and the line fits; else 2 or 5, as the verdict is
+-- The call's refusals: accepted exactly where the verdict is no refusal and the line fits; else 8, 2 or 5, as the verdict is
 -- refused, and after them 3 with the line's length. Where LINE-MOST bytes are lent, never by 3.
 use Prim.Native.Nat.{ℕ, _≤_, _<_}
 use mathlib.Core.Path.{_≡_, refl, subst, _∙_}
@@ -9,15 +9,19 @@ use native.Mathlib.Omega.{arith}
 use lib.Dec.{T}
 use lib.ListN.{length, take, drop}
 use Rattle.lists.specs.First.{isSome}
+use Rattle.answer.specs.Limits.{MAX-ROUNDS}
 use Rattle.answer.specs.Refusal.{accepted}
 use Rattle.answer.specs.declared.Refusal.{Refusal}
-use Rattle.answer.specs.declared.Refusal.the-variants.{TooShort}
+use Rattle.answer.specs.declared.Refusal.the-variants.{TooShort, Rounds}
 use Rattle.answer.proofs.Laws.{new-words, old-words}
 use Rattle.answer.proofs.Refusals.{room-accepted, room-refused}
-use Rattle.verdict.specs.CoreAndRound.{verdictAt}
+use Rattle.verdict.specs.CoreAndRound.{verdictFor}
+use Rattle.verdict.specs.Failures.{NoRounds}
 use Rattle.verdict.specs.declared.Verdict.{Verdict}
 use Rattle.verdict.specs.declared.Verdict.the-variants.{Refused, Value, Lookup, Repeated, Unbalanced, Holds}
+use Rattle.verdict.proofs.AnyRounds.{verdict-no-rounds}
 use Rattle.verdict_line.specs.Line.{LINE-MOST, Judged, refusedBy, lineAt, lineRefusal, lineAfter}
+use Rattle.verdict_line.proofs.InRange.{judged-range}
 use Rattle.verdict_line.proofs.Tuples.{Small}
 use Rattle.verdict_line.proofs.Most.{line-most}
 
@@ -46,26 +50,33 @@ passed-judged (Refused r) later e = absurd (subst (λ (o : Option Refusal). T (i
 
 -- ---- the call
 module _ (nr : ℕ) (core round : List ℕ) (room : ℕ) where
-  pub line-accepted : (lineRefusal nr core round room ≡ accepted) ↔ (Judged (verdictAt nr core round) × (length (lineAt nr core round) ≤ room))
+  pub line-accepted : (lineRefusal nr core round room ≡ accepted) ↔ (Judged (verdictFor nr core round) × (length (lineAt nr core round) ≤ room))
   unfolding lineRefusal
   line-accepted = (
-    (λ e. let q = passed-judged (verdictAt nr core round) _ e in (q .0, room-accepted room (length (lineAt nr core round)) .0 (q .1))),
-    λ h. judged-later (verdictAt nr core round) _ (h .0) ∙ room-accepted room (length (lineAt nr core round)) .1 (h .1),
+    (λ e. let q = passed-judged (verdictFor nr core round) _ e in (q .0, room-accepted room (length (lineAt nr core round)) .0 (q .1))),
+    λ h. judged-later (verdictFor nr core round) _ (h .0) ∙ room-accepted room (length (lineAt nr core round)) .1 (h .1),
   )
 
-  -- 2 and 5, whatever is lent
-  pub line-refused : (r : Refusal) → verdictAt nr core round ≡ Refused r → lineRefusal nr core round room ≡ some r
+  -- 8, 2 and 5, whatever is lent
+  pub line-refused : (r : Refusal) → verdictFor nr core round ≡ Refused r → lineRefusal nr core round room ≡ some r
   unfolding lineRefusal
-  line-refused r e = refused-first (verdictAt nr core round) _ r e
+  line-refused r e = refused-first (verdictFor nr core round) _ r e
+
+  -- 8 first of all, detail the number
+  pub line-no-rounds : NoRounds nr → lineRefusal nr core round room ≡ some (Rounds nr)
+  line-no-rounds h = line-refused (Rounds nr) (verdict-no-rounds nr core round h)
+
+  pub line-in-range : lineRefusal nr core round room ≡ accepted → (1 ≤ nr) × (nr ≤ MAX-ROUNDS)
+  line-in-range e = judged-range nr core round _ (line-accepted .0 e .0) refl
 
   -- 3 after them, detail the line's length
-  pub line-short : Judged (verdictAt nr core round) → room < length (lineAt nr core round) →
+  pub line-short : Judged (verdictFor nr core round) → room < length (lineAt nr core round) →
       lineRefusal nr core round room ≡ some (TooShort (length (lineAt nr core round)))
   unfolding lineRefusal
-  line-short j l = judged-later (verdictAt nr core round) _ j ∙ room-refused room (length (lineAt nr core round)) accepted l
+  line-short j l = judged-later (verdictFor nr core round) _ j ∙ room-refused room (length (lineAt nr core round)) accepted l
 
   -- "a caller who lends that many bytes is never refused by 3": of tables that fit in memory
-  pub line-fits : Small (length core) → Small (length round) → LINE-MOST ≤ room → Judged (verdictAt nr core round) →
+  pub line-fits : Small (length core) → Small (length round) → LINE-MOST ≤ room → Judged (verdictFor nr core round) →
       lineRefusal nr core round room ≡ accepted
   line-fits c d l j = line-accepted .1 (j, omega (arith, l, line-most nr core round c d))
 

@@ -16,7 +16,7 @@ use Rattle.answer.specs.declared.Number.{Number}
 use Rattle.answer.specs.declared.Number.the-variants as number
 use Rattle.answer.proofs.Laws.{number-refused, number-is, kept}
 use Rattle.text.specs.Text.{joined, Puts}
-use Rattle.verdict.specs.CoreAndRound.{verdictAt}
+use Rattle.verdict.specs.CoreAndRound.{verdictFor}
 use Rattle.verdict.specs.declared.Table.{Table}
 use Rattle.verdict.specs.declared.Table.the-variants.{Core}
 use Rattle.verdict.specs.declared.Verdict.{Verdict}
@@ -34,21 +34,21 @@ taken vs old {n} {ws} e q = (
   (λ t. take (e t) (q t)) ∙ take-append-seam vs (drop (length vs) old),
 )
 
-module _ (core round : List ℕ) where
+module _ (nr : ℕ) (core round : List ℕ) where
   -- the line of a verdict on these tables
   abbrev of : Verdict → List ℕ
-  of v = lineOf v (shownBy 24 core round v)
+  of v = lineOf v (shownBy nr core round v)
 
   module _ (t : Table) (r i : ℕ) where
     pub value-line : joined (placeWords t r value-name i) ≡ of (Value t r i)
     unfolding lineOf wordsOf shownBy shownWords placeWords
     value-line = refl
 
-    pub lookup-line : joined (placeWords t r lookup-name i ++ shownWords (some (shownOf (tupleAt 24 core round t r i)))) ≡ of (Lookup t r i)
+    pub lookup-line : joined (placeWords t r lookup-name i ++ shownWords (some (shownOf (tupleAt nr core round t r i)))) ≡ of (Lookup t r i)
     unfolding lineOf wordsOf shownBy
     lookup-line = refl
 
-    pub balance-line : joined (placeWords t r balance-name i ++ shownWords (some (shownOf (tupleAt 24 core round t r i)))) ≡ of (Unbalanced t r i)
+    pub balance-line : joined (placeWords t r balance-name i ++ shownWords (some (shownOf (tupleAt nr core round t r i)))) ≡ of (Unbalanced t r i)
     unfolding lineOf wordsOf shownBy
     balance-line = refl
 
@@ -108,41 +108,41 @@ passed-later (Repeated r) later e = refl
 passed-later (Unbalanced t r i) later e = refl
 passed-later (Holds n) later e = refl
 
-module _ (core round line old text : List ℕ) (v : Verdict) (a : Number) (judged : v ≡ verdictAt 24 core round) (put : Put core round v a old text) where
-  the-line : of core round v ≡ lineAt 24 core round
+module _ (nr : ℕ) (core round line old text : List ℕ) (v : Verdict) (a : Number) (judged : v ≡ verdictFor nr core round) (put : Put nr core round v a old text) where
+  the-line : of nr core round v ≡ lineAt nr core round
   unfolding lineAt shownAt
-  the-line = ap (of core round) judged
+  the-line = ap (of nr core round) judged
 
   pub answers-refused : {x : Refusal} → a ≡ number.Refused x →
-      (number.Refused x ≡ lineAnswer 24 core round line) × (line ≡ lineAfter 24 core round line)
+      (number.Refused x ≡ lineAnswer nr core round line) × (line ≡ lineAfter nr core round line)
   unfolding lineRefusal
   answers-refused {x} told =
-      let e = refused-later v (tooShort (length line) (length (lineAt 24 core round)) accepted) x (is-refusal _ x _ (sym told ∙ put .0)) in
-      let q : lineRefusal 24 core round (length line) ≡ some x = ap (λ (w : Verdict). refusedBy w (tooShort (length line) (length (lineAt 24 core round)) accepted)) (sym judged) ∙ e in
+      let e = refused-later v (tooShort (length line) (length (lineAt nr core round)) accepted) x (is-refusal _ x _ (sym told ∙ put .0)) in
+      let q : lineRefusal nr core round (length line) ≡ some x = ap (λ (w : Verdict). refusedBy w (tooShort (length line) (length (lineAt nr core round)) accepted)) (sym judged) ∙ e in
       (number-refused _ q, kept _ _ q)
 
   module _ {n : ℕ} (told : a ≡ number.Is n) where
-    says : (refusedBy v none ≡ none) × (n ≡ length (of core round v))
+    says : (refusedBy v none ≡ none) × (n ≡ length (of nr core round v))
     says = is-number _ n _ (sym told ∙ put .0)
 
     pub fits : LINE-MOST ≤ length old → n ≤ length text
-    fits l = omega (arith, says .1, put .1 .1, ap length (put .1 .0 ∙ sets-front old (of core round v) _ refl (omega (arith, put .1 .1))), length-append (of core round v) (drop (length (of core round v)) old))
+    fits l = omega (arith, says .1, put .1 .1, ap length (put .1 .0 ∙ sets-front old (of nr core round v) _ refl (omega (arith, put .1 .1))), length-append (of nr core round v) (drop (length (of nr core round v)) old))
 
-    text-taken : LINE-MOST ≤ length old → take n text ≡ lineAt 24 core round
+    text-taken : LINE-MOST ≤ length old → take n text ≡ lineAt nr core round
     text-taken l =
-        (λ t. take (says .1 t) ((put .1 .0 ∙ sets-front old (of core round v) _ refl (omega (arith, put .1 .1))) t))
-        ∙ take-append-seam (of core round v) (drop (length (of core round v)) old)
+        (λ t. take (says .1 t) ((put .1 .0 ∙ sets-front old (of nr core round v) _ refl (omega (arith, put .1 .1))) t))
+        ∙ take-append-seam (of nr core round v) (drop (length (of nr core round v)) old)
         ∙ the-line
 
     pub answers-line : LINE-MOST ≤ length old → {b : Number} {after : List ℕ} →
         b ≡ numberOf n (tooShort (length line) n accepted) →
         after ≡ afterwards (tooShort (length line) n accepted) (overwrite (take n text) line) line →
-        (b ≡ lineAnswer 24 core round line) × (after ≡ lineAfter 24 core round line)
+        (b ≡ lineAnswer nr core round line) × (after ≡ lineAfter nr core round line)
     unfolding lineRefusal
     answers-line l e f =
-        let m : n ≡ length (lineAt 24 core round) = says .1 ∙ ap length the-line in
-        let later : Option Refusal = tooShort (length line) (length (lineAt 24 core round)) accepted in
-        let q : tooShort (length line) n accepted ≡ lineRefusal 24 core round (length line) =
+        let m : n ≡ length (lineAt nr core round) = says .1 ∙ ap length the-line in
+        let later : Option Refusal = tooShort (length line) (length (lineAt nr core round)) accepted in
+        let q : tooShort (length line) n accepted ≡ lineRefusal nr core round (length line) =
         ap (λ (k : ℕ). tooShort (length line) k accepted) m ∙ sym (ap (λ (w : Verdict). refusedBy w later) (sym judged) ∙ passed-later v later (says .0)) in
         let t = text-taken l in
         (e ∙ (λ j. numberOf (m j) (q j)), f ∙ (λ j. afterwards (q j) (overwrite (t j) line) line))

@@ -10,15 +10,15 @@ use lib.Dec.{eqb}
 use lib.ListN.{getD}
 use Rattle.lists.specs.Tab.{pick, word}
 use Rattle.lists.specs.Select.{wordsTest}
-use Rattle.text.specs.Text.{decimalOf, joined}
+use Rattle.text.specs.Text.{decimalOf, joined, numberIn}
 use Rattle.text.specs.Names.{busName}
-use Rattle.text.proofs.Numbers.{numberIn, decimal-back}
+use Rattle.text.proofs.Numbers.{decimal-back}
 use Rattle.text.proofs.Words.{noSpace, NoSpaces, decimal-no-space, decimals-no-space, no-spaces-append, wordsIn, words-back}
 use Rattle.tuple.specs.declared.Bus.{Bus}
 use Rattle.tuple.specs.declared.Bus.the-variants.{ByteAlu, AreBytes, IsHalfword, IsWh, KeccakRc, Keccak, Memw}
 use Rattle.tuple.specs.declared.Bus.the-variants.{Ecall, Msb8, Msb16, Zero, IsB20, Hwsl}
 use Rattle.verdict.specs.Verdict.{verdictWords}
-use Rattle.verdict.specs.CoreAndRound.{verdictAt}
+use Rattle.verdict.specs.CoreAndRound.{verdictFor}
 use Rattle.verdict.specs.declared.Table.{Table}
 use Rattle.verdict.specs.declared.Table.the-variants.{Core, Round}
 use Rattle.verdict.specs.declared.Verdict.{Verdict}
@@ -172,9 +172,9 @@ line-tells v w s u j k e =
     (one, sym (shown-back s) ∙ ap shownIn rest ∙ shown-back u)
 
 module _ (nr mr : ℕ) (core round core′ round′ : List ℕ) where
-  pub lines-tell : Judged (verdictAt nr core round) → Judged (verdictAt mr core′ round′) →
+  pub lines-tell : Judged (verdictFor nr core round) → Judged (verdictFor mr core′ round′) →
       (lineAt nr core round ≡ lineAt mr core′ round′)
-      ↔ ((verdictAt nr core round ≡ verdictAt mr core′ round′) × (shownAt nr core round ≡ shownAt mr core′ round′))
+      ↔ ((verdictFor nr core round ≡ verdictFor mr core′ round′) × (shownAt nr core round ≡ shownAt mr core′ round′))
   unfolding lineAt
   lines-tell j k = (
     line-tells _ _ _ _ j k,

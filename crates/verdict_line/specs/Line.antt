@@ -18,14 +18,14 @@ use Rattle.answer.specs.declared.Number.{Number}
 use Rattle.tuple.specs.Tuple.{Tuple}
 use Rattle.tuple.specs.declared.Bus.{Bus}
 use Rattle.verdict.specs.Kind.{row}
-use Rattle.verdict.specs.CoreAndRound.{coreLayout, roundLayout, coreKind, roundKind, verdictAt}
+use Rattle.verdict.specs.CoreAndRound.{coreLayout, roundLayout, coreKind, roundKind, verdictFor}
 use Rattle.verdict.specs.declared.Table.{Table}
 use Rattle.verdict.specs.declared.Table.the-variants.{Core, Round}
 use Rattle.verdict.specs.declared.Verdict.{Verdict}
 use Rattle.verdict.specs.declared.Verdict.the-variants.{Refused, Value, Lookup, Repeated, Unbalanced, Holds}
 
 -- ---- the tuple that is shown
--- tuple i of row r of a table, for nr rounds
+-- tuple i of row r of a table, for nr rounds, which the tuple that a core row sends names
 unfoldable pub tupleAt : ℕ → List ℕ → List ℕ → Table → ℕ → ℕ → Tuple
 tupleAt nr core round Core r i = coreKind nr .tuple (row coreLayout core r) i
 tupleAt nr core round Round r i = roundKind .tuple (row roundLayout round r) i
@@ -100,10 +100,10 @@ lineOf v s = joined (wordsOf v ++ shownWords s)
 
 -- of the verdict on two tables, for nr rounds
 unfoldable pub shownAt : ℕ → List ℕ → List ℕ → Option Shown
-shownAt nr core round = shownBy nr core round (verdictAt nr core round)
+shownAt nr core round = shownBy nr core round (verdictFor nr core round)
 
 unfoldable pub lineAt : ℕ → List ℕ → List ℕ → List ℕ
-lineAt nr core round = lineOf (verdictAt nr core round) (shownAt nr core round)
+lineAt nr core round = lineOf (verdictFor nr core round) (shownAt nr core round)
 
 -- The most bytes of a line: 5 of the table, 4 of `row`, 21 of its number, 10 of what failed, 21 of its index, 11 of the
 -- bus, and 21 of each of 203 values, spaces included.
@@ -120,7 +120,7 @@ Judged (Repeated r) = Unit {0}
 Judged (Unbalanced t r i) = Unit {0}
 Judged (Holds n) = Unit {0}
 
--- refused as the verdict is, by 2 or 5, else what the later checks say
+-- refused as the verdict is, by 8, 2 or 5, else what the later checks say
 unfoldable pub refusedBy : Verdict → Option Refusal → Option Refusal
 refusedBy (Refused r) later = some r
 refusedBy (Value t r i) later = later
@@ -132,7 +132,7 @@ refusedBy (Holds n) later = later
 -- "A line that doesn't fit the lent bytes is a short slice, refused after 5."
 unfoldable pub lineRefusal : ℕ → List ℕ → List ℕ → ℕ → Option Refusal
 lineRefusal nr core round room =
-    refusedBy (verdictAt nr core round) (tooShort room (length (lineAt nr core round)) accepted)
+    refusedBy (verdictFor nr core round) (tooShort room (length (lineAt nr core round)) accepted)
 
 -- it "answers the line's length"
 abbrev pub lineAnswer : ℕ → List ℕ → List ℕ → List ℕ → Number

@@ -6,13 +6,13 @@ use judge_scan::row_at;
 use keccak_rnd_tuples;
 use keccak_tuples;
 use text::put;
+use text::spaced::put_bus;
+use text::spaced::put_number;
+use text::spaced::put_values;
 use tuple::BusInteraction;
 use verdict::Table;
 use verdict::Verdict;
-use words::put_bus;
-use words::put_number;
 use words::put_place;
-use words::put_values;
 ghost use mathlib.Core.Path.{_≡_};
 ghost use mathlib.Core.Option.{some};
 ghost use mathlib.Core.List.{_++_};
@@ -22,7 +22,7 @@ ghost use lib.Seq.{sets};
 ghost use Rattle.answer.specs.Refusal.{accepted, tooShort, numberOf, overwrite, afterwards};
 ghost use Rattle.text.specs.Text.{Puts, spaced, joined};
 ghost use Rattle.tuple.specs.Call.{interactionOf};
-ghost use Rattle.verdict.specs.CoreAndRound.{verdictOf};
+ghost use Rattle.verdict.specs.CoreAndRound.{verdictFor};
 ghost use Rattle.verdict.specs.declared.Verdict.the-variants.{Holds};
 ghost use Rattle.verdict_line.specs.Line.{LINE-MOST, tupleAt, shownOf, shownBy, placeWords, wordsOf, shownWords};
 ghost use Rattle.verdict_line.specs.Line.{lineOf, refusedBy, lineAnswer, lineAfter};
@@ -36,8 +36,10 @@ pub const LINE_MOST: usize = 4335;
 // No tuple has more values.
 const VALUES_MOST: usize = 203;
 
-// Tuple `index` of a row of one of the tables: its values go into `out`. Ecall is not looked up, so no syscall number shows.
+// Tuple `index` of a row of one of the tables, for nr rounds: its values go into `out`. Ecall is not looked up, so no
+// syscall number shows.
 fn tuple_at(
+    nr: usize,
     core: &[u64],
     round: &[u64],
     table: Table,
@@ -46,13 +48,13 @@ fn tuple_at(
     out: &mut [u64],
 ) -> BusInteraction
     requires { ⌜ Named (now core) (now round) table row index × (203 ≤ length (now out)) ⌝ }
-    ensures answer { λ r. ⌜ r ≡ interactionOf (tupleAt 24 (now (core .entry)) (now (round .entry)) table row index) ⌝ }
-    ensures words { λ _. ⌜ now (out .exit) ≡ overwrite (tupleAt 24 (now (core .entry)) (now (round .entry)) table row index .values) (now (out .entry)) ⌝ }
+    ensures answer { λ r. ⌜ r ≡ interactionOf (tupleAt nr (now (core .entry)) (now (round .entry)) table row index) ⌝ }
+    ensures words { λ _. ⌜ now (out .exit) ≡ overwrite (tupleAt nr (now (core .entry)) (now (round .entry)) table row index .values) (now (out .entry)) ⌝ }
 {
     match table {
         Table::Core => {
             let words = row_at(core, Table::Core, row);
-            keccak_tuples::row_tuple(words, index, 0, out)
+            keccak_tuples::row_tuple(nr, words, index, 0, out)
         }
         Table::Round => {
             let words = row_at(round, Table::Round, row);
@@ -63,6 +65,7 @@ fn tuple_at(
 
 // The bus's name and the tuple's values, behind the words before them.
 fn put_shown(
+    nr: usize,
     core: &[u64],
     round: &[u64],
     table: Table,
@@ -72,10 +75,10 @@ fn put_shown(
     at: usize,
 ) -> usize
     requires { ⌜ Named (now core) (now round) table row index × (at + 4274 ≤ length (now out)) ⌝ }
-    ensures { λ r. ⌜ Puts (now (out .entry)) at (spaced (shownWords (some (shownOf (tupleAt 24 (now (core .entry)) (now (round .entry)) table row index))))) (now (out .exit)) r × (r ≤ at + 4274) ⌝ }
+    ensures { λ r. ⌜ Puts (now (out .entry)) at (spaced (shownWords (some (shownOf (tupleAt nr (now (core .entry)) (now (round .entry)) table row index))))) (now (out .exit)) r × (r ≤ at + 4274) ⌝ }
 {
     let mut values = [0u64; VALUES_MOST];
-    let tuple = tuple_at(core, round, table, row, index, &mut values);
+    let tuple = tuple_at(nr, core, round, table, row, index, &mut values);
     let bus = tuple.bus;
     let length = tuple.length;
     let end = put_bus(out, at, bus);
@@ -84,6 +87,7 @@ fn put_shown(
 
 // The line of a lookup or a balance.
 fn put_failure(
+    nr: usize,
     core: &[u64],
     round: &[u64],
     table: Table,
@@ -93,10 +97,10 @@ fn put_failure(
     out: &mut [u8],
 ) -> usize
     requires { ⌜ Named (now core) (now round) table row index × (length (now what) ≤ 9) × (LINE-MOST ≤ length (now out)) ⌝ }
-    ensures { λ r. ⌜ Puts (now (out .entry)) 0 (joined (placeWords table row (now (what .entry)) index ++ shownWords (some (shownOf (tupleAt 24 (now (core .entry)) (now (round .entry)) table row index))))) (now (out .exit)) r × (r ≤ LINE-MOST) ⌝ }
+    ensures { λ r. ⌜ Puts (now (out .entry)) 0 (joined (placeWords table row (now (what .entry)) index ++ shownWords (some (shownOf (tupleAt nr (now (core .entry)) (now (round .entry)) table row index))))) (now (out .exit)) r × (r ≤ LINE-MOST) ⌝ }
 {
     let end = put_place(out, table, row, what, index);
-    put_shown(core, round, table, row, index, out, end)
+    put_shown(nr, core, round, table, row, index, out, end)
 }
 
 // `holds N`.
@@ -109,11 +113,11 @@ fn put_holds(out: &mut [u8], active: usize) -> usize
 }
 
 // The line of a verdict; answers its length, or the verdict's refusal, which has no line.
-fn put_line(verdict: Verdict, core: &[u64], round: &[u64], out: &mut [u8]) -> Number
-    requires { ⌜ (verdict ≡ verdictOf (now core) (now round)) × (LINE-MOST ≤ length (now out)) ⌝ }
-    ensures answer { λ r. ⌜ r ≡ numberOf (length (lineOf verdict (shownBy 24 (now (core .entry)) (now (round .entry)) verdict))) (refusedBy verdict accepted) ⌝ }
-    ensures bytes { λ _. ⌜ now (out .exit) ≡ sets (now (out .entry)) 0 (lineOf verdict (shownBy 24 (now (core .entry)) (now (round .entry)) verdict)) ⌝ }
-    ensures most { λ _. ⌜ length (lineOf verdict (shownBy 24 (now (core .entry)) (now (round .entry)) verdict)) ≤ LINE-MOST ⌝ }
+fn put_line(nr: usize, verdict: Verdict, core: &[u64], round: &[u64], out: &mut [u8]) -> Number
+    requires { ⌜ (verdict ≡ verdictFor nr (now core) (now round)) × (LINE-MOST ≤ length (now out)) ⌝ }
+    ensures answer { λ r. ⌜ r ≡ numberOf (length (lineOf verdict (shownBy nr (now (core .entry)) (now (round .entry)) verdict))) (refusedBy verdict accepted) ⌝ }
+    ensures bytes { λ _. ⌜ now (out .exit) ≡ sets (now (out .entry)) 0 (lineOf verdict (shownBy nr (now (core .entry)) (now (round .entry)) verdict)) ⌝ }
+    ensures most { λ _. ⌜ length (lineOf verdict (shownBy nr (now (core .entry)) (now (round .entry)) verdict)) ≤ LINE-MOST ⌝ }
 {
     match verdict {
         Verdict::Value { table, row, index } => {
@@ -123,10 +127,10 @@ fn put_line(verdict: Verdict, core: &[u64], round: &[u64], out: &mut [u8]) -> Nu
             Number::Is(put_place(out, Table::Core, row, b"timestamp", 0) as u64)
         }
         Verdict::Lookup { table, row, index } => {
-            Number::Is(put_failure(core, round, table, row, b"lookup", index, out) as u64)
+            Number::Is(put_failure(nr, core, round, table, row, b"lookup", index, out) as u64)
         }
         Verdict::Unbalanced { table, row, index } => {
-            Number::Is(put_failure(core, round, table, row, b"balance", index, out) as u64)
+            Number::Is(put_failure(nr, core, round, table, row, b"balance", index, out) as u64)
         }
         Verdict::Holds { active } => Number::Is(put_holds(out, active) as u64),
         Verdict::Refused(refusal) => Number::Refused(refusal),
@@ -146,14 +150,14 @@ fn copy_line(text: &[u8], n: usize, line: &mut [u8]) -> Number
     Number::Is(n as u64)
 }
 
-// The line of the verdict on a core table and a round table, into the lent bytes; answers its length.
-pub fn verdict_line(core: &[u64], round: &[u64], line: &mut [u8]) -> Number
-    ensures answer { λ r. ⌜ r ≡ lineAnswer 24 (now (core .entry)) (now (round .entry)) (now (line .entry)) ⌝ }
-    ensures bytes { λ _. ⌜ now (line .exit) ≡ lineAfter 24 (now (core .entry)) (now (round .entry)) (now (line .entry)) ⌝ }
+// The line of the verdict on a core table and a round table for nr rounds, into the lent bytes; answers its length.
+pub fn verdict_line(nr: u64, core: &[u64], round: &[u64], line: &mut [u8]) -> Number
+    ensures answer { λ r. ⌜ r ≡ lineAnswer nr (now (core .entry)) (now (round .entry)) (now (line .entry)) ⌝ }
+    ensures bytes { λ _. ⌜ now (line .exit) ≡ lineAfter nr (now (core .entry)) (now (round .entry)) (now (line .entry)) ⌝ }
 {
-    let judged = verdict(core, round);
+    let judged = verdict(nr, core, round);
     let mut text = [0u8; LINE_MOST];
-    match put_line(judged, core, round, &mut text) {
+    match put_line(nr as usize, judged, core, round, &mut text) {
         Number::Refused(refusal) => Number::Refused(refusal),
         Number::Is(n) => copy_line(&text, n as usize, line),
     }

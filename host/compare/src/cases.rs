@@ -54,6 +54,16 @@ fn damaged(damage: impl Fn(&mut Tables)) -> Tables {
     tables
 }
 
+/// The second core row, written for address 4096, as it would be of address 4100: the lowest byte of the address, and the lowest limb of
+/// each pointer.
+fn move_by_4(core: &mut [u64]) {
+    let row = &mut core[CORE_COLUMNS..2 * CORE_COLUMNS];
+    row[core_cols::ADDR] = 4;
+    for lane in 0..25 {
+        row[core_cols::STATE_PTR + 3 * lane] = 4100 + 8 * lane as u64;
+    }
+}
+
 /// Row 0 in the first padding row, with ROUND 24 and with its constant taken out.
 fn put_late_row(round: &mut [u64]) {
     let (rows, padding) = round.split_at_mut(48 * ROUND_COLUMNS);
@@ -76,7 +86,11 @@ pub fn lines() -> Vec<String> {
             }),
         ),
         ("core value", damaged(|t| t.core[core_cols::MU] = 2)),
-        ("core lookup", written(STAMP + 1, 4100, false)),
+        ("core lookup", {
+            let mut tables = written(STAMP + 1, 4096, false);
+            move_by_4(&mut tables.core);
+            tables
+        }),
         ("timestamp", written(STAMP, ADDRESS, true)),
         ("round value", damaged(|t| t.round[cols::MU] = 2)),
         (

@@ -1,7 +1,12 @@
 //! Inputs: drawn words, operations, and the addresses and lanes at the edges.
 
-use keccak_tables::keccak::LAST_ADDRESS;
-use keccak_tables::{OP_WORDS, Operation, P};
+use keccak_tables::{OP_WORDS, Operation, P, Parameters};
+
+use crate::by_floor::{FLOORS, REFUSED};
+use crate::tally::drawn_mode;
+
+/// The highest accepted address, which is the multiple of 8 before the first that is refused by 4.
+pub const LAST_ALIGNED: u64 = 18_446_744_073_709_551_416;
 
 /// Words by the rule of SplitMix64.
 pub struct Words(u64);
@@ -51,14 +56,60 @@ impl Words {
         }
     }
 
-    /// An accepted address, not always a multiple of 8.
+    /// An accepted address: a multiple of 8.
     pub fn address(&mut self) -> u64 {
         let edges = addresses();
         match self.below(4) {
             0 => edges[self.below(edges.len() as u64) as usize],
             1 => self.word() & 0x0000_FFFF_FFFF_FFF8,
-            _ => self.word().min(LAST_ADDRESS),
+            _ => self.word().min(LAST_ALIGNED) / 8 * 8,
         }
+    }
+
+    /// An address that is not too high and no multiple of 8.
+    pub fn unaligned_address(&mut self) -> u64 {
+        self.address() + 1 + self.below(7)
+    }
+
+    /// A number of rounds, which are 1 to 24.
+    pub fn rounds(&mut self) -> u64 {
+        1 + self.below(24)
+    }
+
+    /// A number of rounds that is accepted or refused: 24, another, and those next to both ends.
+    pub fn any_rounds(&mut self) -> u64 {
+        let refused = [0, 25, 26, 1 << 32, (1 << 32) + 24, u64::MAX];
+        match self.below(4) {
+            0 => 24,
+            1 => self.rounds(),
+            _ => refused[self.below(6) as usize],
+        }
+    }
+
+    /// A floor.
+    pub fn floor(&mut self) -> u64 {
+        FLOORS[self.below(FLOORS.len() as u64) as usize]
+    }
+
+    /// A floor that is accepted or refused: 4, a low one, any, and others.
+    pub fn any_floor(&mut self) -> u64 {
+        match self.below(8) {
+            0..3 => 4,
+            3 => FLOORS[self.below(5) as usize],
+            4 => self.floor(),
+            _ => self.refused_floor(),
+        }
+    }
+
+    /// A floor that is refused.
+    pub fn refused_floor(&mut self) -> u64 {
+        REFUSED[self.below(REFUSED.len() as u64) as usize]
+    }
+
+    /// Parameters of either mode, with rounds and a floor that are accepted or refused.
+    pub fn any_parameters(&mut self) -> Parameters {
+        let (rounds, floor) = (self.any_rounds(), self.any_floor());
+        drawn_mode(self).rounds(rounds).floor(floor)
     }
 
     /// An operation whose output is drawn, so that it is almost never right.
@@ -77,29 +128,23 @@ impl Words {
     }
 }
 
-/// Addresses at an edge: the first and last ones, and those where some lane's pointer crosses into another limb.
+/// Accepted addresses at an edge: the first and last ones, and those where some lane's pointer crosses into another limb.
 pub fn addresses() -> Vec<u64> {
-    let mut edges = vec![
-        0,
-        1,
-        8,
-        184,
-        192,
-        200,
-        LAST_ADDRESS,
-        LAST_ADDRESS - 1,
-        LAST_ADDRESS - 7,
-        LAST_ADDRESS - 8,
-    ];
+    let mut edges = vec![0, 8, 184, 192, 200, LAST_ALIGNED, LAST_ALIGNED - 8, LAST_ALIGNED - 16];
     for limb in [16, 32, 48] {
         for lane in [0, 1, 12, 23, 24] {
-            for off in [-8i64, -7, -1, 0, 1, 7, 8] {
+            for off in [-16i64, -8, 0, 8, 16] {
                 edges.push((1u64 << limb).wrapping_sub(8 * lane).wrapping_add_signed(off));
             }
         }
     }
-    edges.retain(|&address| address <= LAST_ADDRESS);
     edges
+}
+
+/// Addresses that are no multiples of 8: every rest, the first ones and the last ones before those that are too high.
+pub fn unaligned_addresses() -> Vec<u64> {
+    let rests = (1..8).flat_map(|rest| [rest, 4096 + rest, (1 << 48) + rest, LAST_ALIGNED + rest]);
+    rests.collect()
 }
 
 /// States at an edge: all zero, all ones, and one bit of one lane, for every bit of several lanes.
@@ -130,5 +175,24 @@ pub fn operation_of_row(ops: &[u64], row: usize, rows: usize) -> String {
     match ops.chunks_exact(OP_WORDS).nth(row / rows) {
         Some(words) => format!("operation {} = {words:?}", row / rows),
         None => "a padding row".into(),
+    }
+}
+
+#[cfg(test)]
+mod tests {
+    use super::*;
+    use keccak_tables::keccak::LAST_ADDRESS;
+
+    #[test]
+    fn addresses_are_drawn_on_the_eight_or_off_it() {
+        let (mut words, accepted) = (Words::new(7), |address: u64| {
+            address <= LAST_ADDRESS && address.is_multiple_of(8)
+        });
+        assert!(addresses().into_iter().all(accepted));
+        assert!((0..10_000).all(|_| accepted(words.address())));
+        let off = |address: u64| address <= LAST_ADDRESS && !address.is_multiple_of(8);
+        assert!(unaligned_addresses().into_iter().all(off));
+        assert!((0..10_000).all(|_| off(words.unaligned_address())));
+        assert_eq!((LAST_ADDRESS, LAST_ADDRESS / 8 * 8), (LAST_ALIGNED + 7, LAST_ALIGNED));
     }
 }

@@ -7,6 +7,8 @@ use std::sync::LazyLock;
 
 use oracle::{Bus, CORE_COLUMNS, KECCAK_RC_COLUMNS, P, ROUND_COLUMNS, Side, Tuple};
 
+use crate::by_rounds;
+
 /// One of the two tables.
 #[derive(Debug, Clone, Copy, PartialEq, Eq, PartialOrd, Ord, Hash)]
 pub enum Table {
@@ -63,24 +65,29 @@ impl fmt::Display for Verdict {
     }
 }
 
-/// The verdict on a core table and a round table.
+/// The verdict on a core table and a round table of 24 rounds.
 pub fn verdict(core: &[u64], round: &[u64]) -> Verdict {
-    first_failure(core, round).unwrap_or_else(|| {
+    verdict_by(by_rounds::ALL, core, round)
+}
+
+/// The same of nr rounds.
+pub fn verdict_by(nr: u64, core: &[u64], round: &[u64]) -> Verdict {
+    first_failure(nr, core, round).unwrap_or_else(|| {
         let active = core.chunks_exact(CORE_COLUMNS).filter(|row| is_active(row)).count();
         Verdict::Holds(active as u64)
     })
 }
 
 /// The first failure, in the scope's order; refusals come before all.
-fn first_failure(core: &[u64], round: &[u64]) -> Option<Verdict> {
+fn first_failure(nr: u64, core: &[u64], round: &[u64]) -> Option<Verdict> {
     let mut bus = Vec::new();
     let core_rows = || core.chunks_exact(CORE_COLUMNS);
     let round_rows = || round.chunks_exact(ROUND_COLUMNS);
-    refusal(core, round)
+    refusal(nr, core, round)
         .or_else(|| first_value(core_rows(), oracle::core_values).map(|(r, i)| Verdict::Value(Table::Core, r, i)))
         .or_else(|| {
             // The system call's number stands in an Ecall tuple alone, which belongs to a table outside.
-            let tuples = |row: &[u64]| oracle::core_tuples(row, 0);
+            let tuples = |row: &[u64]| by_rounds::core_tuples(nr, row, 0);
             first_lookup(core_rows(), tuples, Table::Core, &mut bus).map(|(r, i)| Verdict::Lookup(Table::Core, r, i))
         })
         .or_else(|| repeated_timestamp(core).map(Verdict::Timestamp))
@@ -92,8 +99,12 @@ fn first_failure(core: &[u64], round: &[u64]) -> Option<Verdict> {
         .or_else(|| unbalanced(&bus))
 }
 
-/// 2, a table that is not whole rows; then 5, a word that is p or more; the core table before the round table.
-fn refusal(core: &[u64], round: &[u64]) -> Option<Verdict> {
+/// 8, a number of rounds that is none; then 2, a table that is not whole rows; then 5, a word that is p or more; the core table before the
+/// round table.
+fn refusal(nr: u64, core: &[u64], round: &[u64]) -> Option<Verdict> {
+    if let Some((number, detail)) = by_rounds::refusal(nr) {
+        return Some(Verdict::Refused(number, detail));
+    }
     if !core.len().is_multiple_of(CORE_COLUMNS) {
         return Some(Verdict::Refused(2, 0));
     }

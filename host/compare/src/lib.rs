@@ -1,18 +1,24 @@
 //! The proved tables held against the published Rust: what is compared, and how a comparison is counted and told.
 //!
 //! `rows` compares rows, tables, keys, counters and refusals, `values` the constraint values of core and round rows and
-//! `tuples` their tuples. `looked_up` has the two tables that are looked up, whole. `verdicts` holds the verdict against `judge`, a judge
+//! `tuples` their tuples. `looked_up` has the two tables that are looked up, whole, `charge` what a segment charges to the counters of one
+//! of them (`plain_charge` is a plain charge to time it against). `verdicts` holds the verdict against `judge`, a judge
 //! of its own, on the tables of `dishonest`, `lines` its line of text. `tally`
-//! reads operation files, `limit` the longest ones, and `refusals` has the table of what each call refuses. A further area is a
+//! reads operation files, `limit` the longest ones, and `refusals` has the table of what each call refuses. `rounds` has every number of
+//! rounds, by what `by_rounds` makes of the Rust's 24, and `floors` every floor, by what `by_floor` makes of the Rust's 4. A further area is a
 //! module beside them and a name in `bin/differential.rs`. `cases` has the small tables of the program `verdict_cases`.
 
 #![deny(unsafe_code)]
 #![warn(missing_docs)]
 
+pub mod by_floor;
+pub mod by_rounds;
 pub mod cases;
+pub mod charge;
 pub mod comparison;
 pub mod dishonest;
 pub mod evaluated;
+pub mod floors;
 pub mod inputs;
 pub mod judge;
 pub mod lent;
@@ -20,8 +26,10 @@ pub mod limit;
 pub mod lines;
 pub mod list_calls;
 pub mod looked_up;
+pub mod plain_charge;
 pub mod refusals;
 pub mod refused;
+pub mod rounds;
 pub mod rows;
 pub mod say;
 pub mod tally;

@@ -17,41 +17,68 @@ const RECORDS: usize = 1 << 17;
 /// What every file with a byte too many is refused with.
 const PAST_END: Option<(u64, u64)> = Some((1, TOO_MANY));
 
+/// The bytes of the longest file.
+const MOST: usize = MAX_OPS * RECORD_BYTES;
+
 /// The whole area; nothing in it but the piece's operations is drawn.
 pub fn compare(comparison: &mut Comparison, seed: u64, _n: usize) {
     let mut words = Words::new(seed);
-    let piece = file_of(&words.operations(RECORDS));
-    let Some(file) = Repeated::new(&piece, MAX_OPS / RECORDS + 1) else {
-        say!("no addresses for a file of {MAX_OPS} records: files about the limit are not tried");
+    let mut ops = words.operations(RECORDS);
+    let Some(file) = repeated(&ops) else {
         return;
     };
-    let most = MAX_OPS * RECORD_BYTES;
     comparison.group("sums of the longest file, and a byte more");
-    reader(comparison, &file.bytes()[..most]);
+    reader(comparison, &file.bytes()[..MOST], 0);
     comparison.group("operations of the longest file into a short list, and a byte or a record more");
+    into_short_lists(comparison, &mut words, file.bytes());
+    drop(file);
+    // What is left out has a place in the file all the same.
+    for operation in ops.chunks_exact_mut(OP_WORDS).skip(7).step_by(1000) {
+        operation[1] += 4;
+    }
+    let Some(file) = repeated(&ops) else {
+        return;
+    };
+    comparison.group("sums of the longest file, some of its records off the eight, and a byte more");
+    let left_out = (0..MAX_OPS).filter(|record| record % RECORDS % 1000 == 7).count();
+    reader(comparison, &file.bytes()[..MOST], left_out);
+}
+
+/// The file that repeats a piece's operations, where the system has the addresses for it.
+fn repeated(ops: &[u64]) -> Option<Repeated> {
+    let file = Repeated::new(&file_of(ops), MAX_OPS / RECORDS + 1);
+    if file.is_none() {
+        say!("no addresses for a file of {MAX_OPS} records: files about the limit are not tried");
+    }
+    file
+}
+
+fn into_short_lists(comparison: &mut Comparison, words: &mut Words, file: &[u8]) {
     for (length, expected) in [
-        (most, Some((3, (MAX_OPS * OP_WORDS) as u64))),
-        (most + 1, PAST_END),
-        (most + RECORD_BYTES, PAST_END),
+        (MOST, Some((3, (MAX_OPS * OP_WORDS) as u64))),
+        (MOST + 1, PAST_END),
+        (MOST + RECORD_BYTES, PAST_END),
     ] {
-        let mut list = Lent::drawn(8, &mut words);
-        let answer = read_operations(&file.bytes()[..length], list.slice());
+        let mut list = Lent::drawn(8, words);
+        let answer = read_operations(&file[..length], list.slice());
         let input = || format!("a file of {length} bytes");
         comparison.answered("read_operations", input, answer, expected);
         list.kept(comparison, |_| input());
     }
 }
 
-/// The longest file in one piece; then its end, a byte that begins a record, and one that does not.
-fn reader(comparison: &mut Comparison, file: &[u8]) {
+/// The longest file in one piece, with so many records off the eight; then its end, a byte that begins a record, and one that does not.
+fn reader(comparison: &mut Comparison, file: &[u8], left_out: usize) {
     let mut tally = Tally::new();
     tally.feed(file);
     let fault = |tally: &Tally| tally.fault().map_or(Ok(()), Err);
     comparison.answered("tally_feed", || "the longest file".into(), fault(&tally), None);
-    for mode in [Parameters::default(), Parameters::default().shipped()] {
+    // No floor is as high as these tables.
+    let today = Parameters::default();
+    for mode in [today, today.shipped(), today.floor(65_536)] {
         let input = || format!("{mode:?}, the longest file");
         if let Some(sums) = comparison.done(input, tally.clone().finish_with(mode)) {
-            comparison.equal(|_| input(), &numbers(&sums), &expected());
+            comparison.equal(|_| input(), &numbers(&sums), &expected(left_out));
         }
     }
     for byte in *b"KO" {
@@ -59,17 +86,20 @@ fn reader(comparison: &mut Comparison, file: &[u8]) {
         tally.feed(&[byte]);
         let input = || format!("the longest file and the byte {byte}");
         comparison.answered("tally_feed", input, fault(&tally), PAST_END);
-        comparison.answered("tally_finish", input, tally.finish(), PAST_END);
+        comparison.answered("tally_finish", input, tally.clone().finish(), PAST_END);
+        let refused = tally.finish_with(today.floor(5));
+        comparison.answered("tally_finish", input, refused, Some((9, 5)));
     }
 }
 
-/// The sums by the published Rust: each operation sends as much as another, and the padding only on AreBytes.
-fn expected() -> [u64; 10] {
-    let n = MAX_OPS as u64;
+/// The sums by the published Rust: each operation that is not left out sends as much as another, and the padding only on AreBytes.
+fn expected(left_out: usize) -> Vec<u64> {
+    let counted = MAX_OPS - left_out;
+    let n = counted as u64;
     let one = oracle::tally(&[0; OP_WORDS]).map(|(_, sum)| u64::try_from(sum).expect("a sum is a word"));
     let mut sums = one.map(|sum| n * sum);
     sums[1] = n.next_power_of_two();
     sums[2] = (24 * n).next_power_of_two();
-    sums[4] = n * (one[4] - oracle::padding_are_bytes(1)) + oracle::padding_are_bytes(MAX_OPS);
-    sums
+    sums[4] = n * (one[4] - oracle::padding_are_bytes(1)) + oracle::padding_are_bytes(counted);
+    [&sums[..], &[left_out as u64]].concat()
 }

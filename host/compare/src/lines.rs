@@ -3,9 +3,11 @@
 
 use std::collections::HashSet;
 
-use keccak_tables::verdict::{LINE_MOST, verdict_line, verdict_text};
+use keccak_tables::verdict::{LINE_MOST, verdict_line, verdict_line_with, verdict_text, verdict_text_with};
+use keccak_tables::{Parameters, Refusal};
 use oracle::{CORE_COLUMNS, ROUND_COLUMNS};
 
+use crate::by_rounds::{self, ALL};
 use crate::comparison::Comparison;
 use crate::dishonest::{Tables, pairs};
 use crate::inputs::Words;
@@ -19,7 +21,7 @@ pub fn compare(comparison: &mut Comparison, seed: u64, n: usize) {
     comparison.group("lines of named pairs of tables");
     for pair in pairs(seed) {
         let input = || format!("the line of the pair '{}' of seed {seed}", pair.name);
-        one_line(comparison, &mut words, &input, &pair.tables);
+        one_line(comparison, &mut words, &input, ALL, &pair.tables);
     }
     let written: Vec<Tables> = (0..5).map(|calls| Tables::written(calls, &mut words)).collect();
     comparison.group("lines of written tables with words changed, or rows exchanged, copied, dropped or shuffled");
@@ -31,18 +33,25 @@ pub fn compare(comparison: &mut Comparison, seed: u64, n: usize) {
             moved_and_changed(&mut tables, &mut words)
         };
         let input = || format!("the line of change {change} of seed {seed}:{changes}");
-        one_line(comparison, &mut words, &input, &tables);
+        one_line(comparison, &mut words, &input, ALL, &tables);
     }
     comparison.group("lines: every slice that is too short for one of each kind");
     let mut kinds = HashSet::new();
     for pair in pairs(seed) {
         let Tables { core, round } = &pair.tables;
-        if let Some(line) = line(core, round, judge::verdict(core, round))
+        if let Some(line) = line(ALL, core, round, judge::verdict(core, round))
             && kinds.insert(kind(&line))
         {
             let input = |room| format!("{room} bytes for the line of the pair '{}' of seed {seed}", pair.name);
             for room in 0..line.len() {
-                short(comparison, &mut words, &|| input(room), &pair.tables, room, line.len());
+                short(
+                    comparison,
+                    &mut words,
+                    &|| input(room),
+                    (ALL, &pair.tables),
+                    room,
+                    line.len(),
+                );
             }
         }
     }
@@ -55,14 +64,22 @@ fn kind(line: &str) -> (String, String) {
     (word(0), word(2))
 }
 
-/// The line in plain Rust; a verdict that is a refusal has none.
-pub fn line(core: &[u64], round: &[u64], verdict: Verdict) -> Option<String> {
+/// Our line of two tables by nr rounds: where they are all 24, by the call that takes no parameters.
+fn ours(nr: u64, Tables { core, round }: &Tables, line: &mut [u8]) -> Result<usize, Refusal> {
+    match nr {
+        ALL => verdict_line(core, round, line),
+        nr => verdict_line_with(Parameters::default().rounds(nr), core, round, line),
+    }
+}
+
+/// The line in plain Rust of a verdict by nr rounds; one that is a refusal has none.
+pub fn line(nr: u64, core: &[u64], round: &[u64], verdict: Verdict) -> Option<String> {
     let shown = match verdict {
         Verdict::Refused(..) => return None,
         Verdict::Lookup(table, row, index) | Verdict::Balance(table, row, index) => {
             let (row, index) = (row as usize, index as usize);
             let mut tuples = match table {
-                Table::Core => oracle::core_tuples(&core[row * CORE_COLUMNS..][..CORE_COLUMNS], 0),
+                Table::Core => by_rounds::core_tuples(nr, &core[row * CORE_COLUMNS..][..CORE_COLUMNS], 0),
                 Table::Round => oracle::round_tuples(&round[row * ROUND_COLUMNS..][..ROUND_COLUMNS]),
             };
             let tuple = tuples.swap_remove(index);
@@ -75,15 +92,26 @@ pub fn line(core: &[u64], round: &[u64], verdict: Verdict) -> Option<String> {
 }
 
 /// Our line on two tables: into as many bytes as it needs and a few more, into the most, and into too few.
-fn one_line(comparison: &mut Comparison, words: &mut Words, input: &dyn Fn() -> String, tables: &Tables) {
+fn one_line(comparison: &mut Comparison, words: &mut Words, input: &dyn Fn() -> String, nr: u64, tables: &Tables) {
+    let answer = judge::verdict_by(nr, &tables.core, &tables.round);
+    line_of(comparison, words, input, (nr, tables), answer);
+}
+
+/// The same where the judge's verdict is known.
+pub(crate) fn line_of(
+    comparison: &mut Comparison,
+    words: &mut Words,
+    input: &dyn Fn() -> String,
+    (nr, tables): (u64, &Tables),
+    answer: Verdict,
+) {
     let Tables { core, round } = tables;
-    let answer = judge::verdict(core, round);
-    let Some(line) = line(core, round, answer) else {
+    let Some(line) = line(nr, core, round, answer) else {
         let Verdict::Refused(number, detail) = answer else {
             unreachable!("every other verdict has a line")
         };
         let mut lent = LentBytes::drawn(words.below(60) as usize, words);
-        let ours = verdict_line(core, round, lent.slice());
+        let ours = ours(nr, tables, lent.slice());
         comparison.answered("verdict_line", input, ours, Some((number, detail)));
         lent.holds(comparison, input, &[]);
         return;
@@ -95,14 +123,18 @@ fn one_line(comparison: &mut Comparison, words: &mut Words, input: &dyn Fn() -> 
         &[1],
     );
     let mut lent = LentBytes::drawn(needed + words.below(3) as usize, words);
-    let ours = verdict_line(core, round, lent.slice());
+    let ours = ours(nr, tables, lent.slice());
     comparison.answered("verdict_line", input, ours, None);
     comparison.equal(|_| input(), &[ours.unwrap_or(0) as u64], &[needed as u64]);
     lent.holds(comparison, input, line.as_bytes());
-    let text = comparison.done(input, verdict_text(core, round)).unwrap_or_default();
+    let text = match nr {
+        ALL => verdict_text(core, round),
+        nr => verdict_text_with(Parameters::default().rounds(nr), core, round),
+    };
+    let text = comparison.done(input, text).unwrap_or_default();
     comparison.equal(|_| input(), &bytes(&text), &bytes(&line));
     for room in [needed - 1, words.below(needed as u64) as usize] {
-        short(comparison, words, input, tables, room, needed);
+        short(comparison, words, input, (nr, tables), room, needed);
     }
 }
 
@@ -111,12 +143,12 @@ fn short(
     comparison: &mut Comparison,
     words: &mut Words,
     input: &dyn Fn() -> String,
-    tables: &Tables,
+    (nr, tables): (u64, &Tables),
     room: usize,
     needed: usize,
 ) {
     let mut lent = LentBytes::drawn(room, words);
-    let ours = verdict_line(&tables.core, &tables.round, lent.slice());
+    let ours = ours(nr, tables, lent.slice());
     comparison.answered("verdict_line", input, ours, Some((3, needed as u64)));
     lent.holds(comparison, input, &[]);
 }

@@ -1,12 +1,64 @@
 //! The calls that take a list of operations and write words, and how many words each needs.
 
-use keccak_tables::{MAX_OPS, OP_WORDS, Refusal, keccak, keccak_rnd};
+use keccak_tables::keccak::LAST_ADDRESS;
+use keccak_tables::{MAX_OPS, OP_WORDS, Parameters, Refusal, keccak, keccak_rnd};
+
+use crate::by_floor;
+use crate::by_rounds;
+use crate::inputs::{LAST_ALIGNED, Words};
+use crate::refusals::first;
 
 /// The least number of operations that is refused, which is the detail too.
 pub const TOO_MANY: u64 = MAX_OPS as u64 + 1;
 
-/// A call on a list, an index and a slice.
-type Call = fn(&[u64], usize, &mut [u64]) -> Result<(), Refusal>;
+/// The refusal of a list's addresses, which comes after those of its length and of slices, and before 5: 4 for the first that is too high,
+/// wherever it stands, and then 7 for the first that is no multiple of 8.
+pub fn of_addresses(ops: &[u64]) -> Option<(u64, u64)> {
+    let first = |number, refused: fn(u64) -> bool| {
+        let mut addresses = ops.chunks_exact(OP_WORDS).map(|operation| operation[1]);
+        addresses
+            .find(|&address| refused(address))
+            .map(|address| (number, address))
+    };
+    first(4, |address| u128::from(address) + 192 >= 1 << 64).or_else(|| first(7, |address| address % 8 != 0))
+}
+
+/// The refusal of a call that takes a list: of its length, then of the other conditions given, which are those of slices, then of its
+/// addresses, which are looked at only then.
+pub fn of_list(ops: &[u64], slices: &[(bool, u64, u64)]) -> Option<(u64, u64)> {
+    let n = ops.len() / OP_WORDS;
+    let lengths = [(n > MAX_OPS, 1, TOO_MANY), (!ops.len().is_multiple_of(OP_WORDS), 2, 2)];
+    first(&lengths).or_else(|| first(slices)).or_else(|| of_addresses(ops))
+}
+
+/// What is put among the addresses of a list: the highest accepted one; those that 4 or 7 refuses, alone, twice, and both in either order.
+pub const ADDRESSES: [&[u64]; 9] = [
+    &[],
+    &[LAST_ALIGNED],
+    &[LAST_ADDRESS],
+    &[LAST_ADDRESS + 1],
+    &[u64::MAX],
+    &[4100, 12],
+    &[LAST_ADDRESS + 1, u64::MAX],
+    &[LAST_ADDRESS, LAST_ADDRESS + 1],
+    &[u64::MAX, 4100, LAST_ADDRESS + 1],
+];
+
+/// Some operations, these addresses among theirs at a drawn place, as many as have room; and words past them that look like an operation at
+/// a high address.
+pub fn list_with(words: &mut Words, n: usize, past: usize, addresses: &[u64]) -> Vec<u64> {
+    let mut list = words.operations(n);
+    list.extend(vec![u64::MAX; past]);
+    let put = &addresses[..n.min(addresses.len())];
+    let at = words.below((n - put.len()) as u64 + 1) as usize;
+    for (operation, &address) in list.chunks_exact_mut(OP_WORDS).skip(at).zip(put) {
+        operation[1] = address;
+    }
+    list
+}
+
+/// A call on a list, an index and a slice, by parameters.
+type Call = fn(Parameters, &[u64], usize, &mut [u64]) -> Result<(), Refusal>;
 
 /// A call on a list.
 pub struct ListCall {
@@ -14,16 +66,45 @@ pub struct ListCall {
     pub name: &'static str,
     /// Whether it takes the index of an operation.
     pub takes_index: bool,
+    /// Whether it takes the number of rounds.
+    takes_rounds: bool,
+    /// Whether it takes the floor.
+    takes_floor: bool,
     /// The words that it needs for n operations.
-    pub needed: fn(usize) -> usize,
-    /// The call; the index may have no part in it.
-    pub call: Call,
+    needed: fn(Parameters, usize) -> usize,
+    /// The call; the parameters and the index may have no part in it.
+    call: Call,
 }
 
 impl ListCall {
+    /// What it is refused by before anything else: the rounds and the floor, where it takes them.
+    pub fn refusal(&self, with: Parameters) -> Option<(u64, u64)> {
+        let rounds = by_rounds::refusal(with.rounds).filter(|_| self.takes_rounds);
+        rounds.or(by_floor::refusal(with.floor).filter(|_| self.takes_floor))
+    }
+
+    /// The words that it needs for n operations by these parameters; where they are refused, as many as by those of today.
+    pub fn needed_by(&self, with: Parameters, n: usize) -> usize {
+        match self.refusal(with) {
+            None => (self.needed)(with, n),
+            Some(_) => (self.needed)(Parameters::default(), n),
+        }
+    }
+
+    /// The words that it needs for n operations.
+    pub fn needed(&self, n: usize) -> usize {
+        self.needed_by(Parameters::default(), n)
+    }
+
+    /// The call by these parameters.
+    pub fn by(&self, with: Parameters, ops: &[u64], index: usize, out: &mut [u64]) -> Result<(), Refusal> {
+        (self.call)(with, ops, index, out)
+    }
+
     /// The call on a list and a slice, with the index of the last operation.
     pub fn at_last(&self, ops: &[u64], out: &mut [u64]) -> Result<(), Refusal> {
-        (self.call)(ops, (ops.len() / OP_WORDS).saturating_sub(1), out)
+        let last = (ops.len() / OP_WORDS).saturating_sub(1);
+        self.by(Parameters::default(), ops, last, out)
     }
 }
 
@@ -32,37 +113,49 @@ pub const LIST_CALLS: [ListCall; 6] = [
     ListCall {
         name: "generate_keccak_trace",
         takes_index: false,
-        needed: |n| n.next_power_of_two().max(4) * 486,
-        call: |ops, _, table| keccak::generate_keccak_trace(ops, table),
+        takes_rounds: false,
+        takes_floor: true,
+        needed: |with, n| by_floor::height(with.floor, n) * 486,
+        call: |with, ops, _, table| keccak::generate_keccak_trace_with(with, ops, table),
     },
     ListCall {
         name: "generate_keccak_rnd_trace",
         takes_index: false,
-        needed: |n| (24 * n).next_power_of_two().max(4) * 1480,
-        call: |ops, _, table| keccak_rnd::generate_keccak_rnd_trace(ops, table),
+        takes_rounds: true,
+        takes_floor: true,
+        needed: |with, n| by_floor::round_height(with, n) * 1480,
+        call: |with, ops, _, table| keccak_rnd::generate_keccak_rnd_trace_with(with, ops, table),
     },
     ListCall {
         name: "keccak_rows",
         takes_index: false,
-        needed: |n| 486 * n,
-        call: |ops, _, table| keccak::keccak_rows(ops, table),
+        takes_rounds: false,
+        takes_floor: false,
+        needed: |_, n| 486 * n,
+        call: |_, ops, _, table| keccak::keccak_rows(ops, table),
     },
     ListCall {
         name: "keccak_rnd_rows",
         takes_index: false,
-        needed: |n| 24 * 1480 * n,
-        call: |ops, _, table| keccak_rnd::keccak_rnd_rows(ops, table),
+        takes_rounds: true,
+        takes_floor: false,
+        needed: |with, n| with.rounds as usize * 1480 * n,
+        call: |with, ops, _, table| keccak_rnd::keccak_rnd_rows_with(with, ops, table),
     },
     ListCall {
         name: "is_wh_keys",
         takes_index: false,
-        needed: |n| 50 * n,
-        call: |ops, _, out| keccak::is_wh_keys(ops, out),
+        takes_rounds: false,
+        takes_floor: false,
+        needed: |_, n| 50 * n,
+        call: |_, ops, _, out| keccak::is_wh_keys(ops, out),
     },
     ListCall {
         name: "keccak_row",
         takes_index: true,
-        needed: |_| 486,
-        call: keccak::keccak_row,
+        takes_rounds: false,
+        takes_floor: false,
+        needed: |_, _| 486,
+        call: |_, ops, index, row| keccak::keccak_row(ops, index, row),
     },
 ];

@@ -5,31 +5,35 @@
 use keccak_tables::is_wh::IsWhKey;
 use keccak_tables::keccak::LAST_ADDRESS;
 use keccak_tables::operation_file::{RECORD_BYTES, Tally, read_operations, write_operations};
-use keccak_tables::verdict::{verdict, verdict_line, verdict_text};
-use keccak_tables::{MAX_OPS, OP_WORDS, P, Refusal, bitwise, keccak, keccak_rnd};
+use keccak_tables::verdict::{verdict_line_with, verdict_text_with, verdict_with};
+use keccak_tables::{MAX_OPS, OP_WORDS, P, Parameters, Refusal, bitwise, keccak, keccak_rnd};
 
+use crate::by_floor;
 use crate::comparison::Comparison;
 use crate::evaluated::{CORE, ROUND};
-use crate::inputs::Words;
+use crate::inputs::{LAST_ALIGNED, Words};
 use crate::judge;
 use crate::lent::{Lent, LentBytes};
-use crate::list_calls::{LIST_CALLS, TOO_MANY};
+use crate::list_calls::{ADDRESSES, LIST_CALLS, list_with, of_list};
 use crate::refused::on_slice;
-use crate::tally::{drawn_mode, file_of, first_fault, operations_of, read};
+use crate::tally::{file_of, first_fault, operations_of, read};
 use crate::untouched::Untouched;
-use crate::{lines, looked_up, rows, tuples, values, verdicts};
+use crate::{charge, lines, looked_up, rounds, rows, tuples, values, verdicts};
 
 /// The numbers with which each call is tried, 0 being that it does its work. What only a file of 37 GB can cause is in
-/// `limit.rs`: 1 in `tally_feed`, `tally_finish` and `read_operations`. The bindings' lookups have no kind past the last; the tests of
-/// the header try it.
+/// `limit.rs`: 1 in `tally_feed`, `tally_finish` and `read_operations`. No file is refused by 7. The bindings' lookups have no kind past the
+/// last; the tests of the header try it. What depends on the number of rounds is refused by 8 before all that stands here: `charge`, `look`, the
+/// multiplicities of a constant table, a round table, its rows, height and padding, the tuples of a core row, `verdict`, `verdict_line`. What
+/// depends on the floor is refused by 9 then: `charge`, `look`, a core table, its height, a round table, its height and padding, `tally_finish`.
 ///
-/// | what | 1 | 2 | 3 | 4 | 5 | 6 |
+/// | what | 1 | 2 | 3 | 4, then 7 | 5 | 6 |
 /// |---|---|---|---|---|---|---|
 /// | a bitwise or constant row | index | | slice | | | |
 /// | `bitwise_bump`, `bump_n` | kind, Z | | counters | | counter | |
 /// | a lookup | kind, Z, value | | | | | |
 /// | a bitwise table, filled or not | | | counters, table | | counter | |
 /// | `merge` | | | both | | a counter of either | |
+/// | `charge`, `look` | n | list | counters, copy, out | address | counter | |
 /// | a list of lookups on counters or a table | kind, Z | list | slice | | counter, X, Y | |
 /// | keys to rows; rows to a table or on counters | n | list | each slice | | word, half, count, counter | |
 /// | a constant table, its multiplicities | n | | table | | | |
@@ -42,7 +46,7 @@ use crate::{lines, looked_up, rows, tuples, values, verdicts};
 /// | `verdict_line` | | core, round | line | | core, round | |
 /// | a file's reader | n | | | address | | mark, cut |
 /// | `read_operations` | n | | list | address | | mark, cut |
-pub const MATRIX: [(&str, &[u64]); 50] = [
+pub const MATRIX: [(&str, &[u64]); 52] = [
     ("generate_bitwise_row", &[0, 1, 3]),
     ("bitwise_row_index", &[0, 1]),
     ("bitwise_bump", &[0, 1, 3, 5]),
@@ -62,7 +66,7 @@ pub const MATRIX: [(&str, &[u64]); 50] = [
     ("bitwise_bus_interaction", &[0, 1, 3, 5]),
     ("keccak_rc_generate_row", &[0, 1, 3]),
     ("generate_keccak_rc_trace", &[0, 3]),
-    ("keccak_rc_update_multiplicities", &[0, 1, 3]),
+    ("keccak_rc_update_multiplicities", &[0, 1, 3, 8]),
     ("keccak_rc_bus_interaction", &[0, 1, 3, 5]),
     ("is_wh_key", &[0]),
     ("dedup_is_wh_rows", &[0, 1, 2, 3, 5]),
@@ -70,29 +74,31 @@ pub const MATRIX: [(&str, &[u64]); 50] = [
     ("generate_is_wh_trace", &[0, 1, 2, 3, 5]),
     ("collect_bitwise_from_is_wh", &[0, 1, 2, 3, 5]),
     ("is_wh_bus_interaction", &[0, 1, 3, 5]),
-    ("keccak_row", &[0, 1, 2, 3, 4]),
-    ("generate_keccak_trace", &[0, 1, 2, 3, 4]),
-    ("keccak_rows", &[0, 1, 2, 3, 4]),
-    ("is_wh_keys", &[0, 1, 2, 3, 4]),
-    ("keccak_height", &[0, 1]),
+    ("keccak_row", &[0, 1, 2, 3, 4, 7]),
+    ("generate_keccak_trace", &[0, 1, 2, 3, 4, 7, 9]),
+    ("keccak_rows", &[0, 1, 2, 3, 4, 7]),
+    ("is_wh_keys", &[0, 1, 2, 3, 4, 7]),
+    ("keccak_height", &[0, 1, 9]),
     ("keccak_values", &[0, 3, 5]),
-    ("keccak_bus_interaction", &[0, 1, 3, 5]),
-    ("keccak_bus_interactions", &[0, 3, 5]),
+    ("keccak_bus_interaction", &[0, 1, 3, 5, 8]),
+    ("keccak_bus_interactions", &[0, 3, 5, 8]),
     ("keccak_rnd_row", &[0, 1, 3]),
-    ("generate_keccak_rnd_trace", &[0, 1, 2, 3, 4]),
-    ("keccak_rnd_rows", &[0, 1, 2, 3, 4]),
-    ("keccak_rnd_height", &[0, 1]),
-    ("padding_are_bytes", &[0, 1]),
+    ("generate_keccak_rnd_trace", &[0, 1, 2, 3, 4, 7, 8, 9]),
+    ("keccak_rnd_rows", &[0, 1, 2, 3, 4, 7, 8]),
+    ("keccak_rnd_height", &[0, 1, 8, 9]),
+    ("padding_are_bytes", &[0, 1, 8, 9]),
     ("keccak_rnd_values", &[0, 3, 5]),
     ("keccak_rnd_bus_interaction", &[0, 1, 3, 5]),
     ("keccak_rnd_bus_interactions", &[0, 3, 5]),
-    ("verdict", &[0, 2, 5]),
-    ("verdict_line", &[0, 2, 3, 5]),
+    ("charge", &[0, 1, 2, 3, 4, 5, 7, 8, 9]),
+    ("look", &[0, 1, 2, 3, 4, 5, 7, 8, 9]),
+    ("verdict", &[0, 2, 5, 8]),
+    ("verdict_line", &[0, 2, 3, 5, 8]),
     ("tally_start", &[0]),
     ("tally_feed", &[0, 4, 6]),
-    ("tally_finish", &[0, 4, 6]),
+    ("tally_finish", &[0, 4, 6, 9]),
     ("read_operations", &[0, 3, 4, 6]),
-    ("write_operations", &[0, 1, 2, 3, 4]),
+    ("write_operations", &[0, 1, 2, 3, 4, 7]),
 ];
 
 /// The whole area; `n` times the lists and files that are drawn.
@@ -100,11 +106,13 @@ pub fn compare(comparison: &mut Comparison, seed: u64, n: usize) {
     let mut words = Words::new(seed);
     rows::refusals::compare(comparison, &mut words);
     looked_up::refusals::compare(comparison, &mut words);
+    charge::refusals::compare(comparison, &mut words);
     comparison.group("refusals: values and tuples of core and round rows");
     for table in [CORE, ROUND] {
         values::refusals(comparison, &mut words, &table);
         tuples::refusals(comparison, &mut words, &table);
     }
+    rounds::refusals::compare(comparison, &mut words);
     comparison.group("refusals: counters, every set of conditions");
     counters(comparison, &mut words);
     comparison.group("refusals: calls on lists, every set of conditions");
@@ -174,46 +182,46 @@ fn counters(comparison: &mut Comparison, words: &mut Words) {
     counters.kept(comparison, |_| "the other counters".into());
 }
 
-/// A list that is lent to each call on lists, an index for the call that takes one, and the refusals before and after that
-/// of the slice, which is lent one short, with just the room, and with one more.
-struct OnList<'a> {
-    ops: &'a [u64],
-    index: usize,
-    what: &'a str,
+/// A list that is lent to each call on lists, an index and parameters for the calls that take them, and the refusals before and after
+/// that of the slice, which is lent one short, with just the room, and with one more.
+pub struct OnList<'a> {
+    /// The list.
+    pub ops: &'a [u64],
+    /// The index.
+    pub index: usize,
+    /// The parameters.
+    pub with: Parameters,
+    /// What the list is, in words.
+    pub what: &'a str,
 }
+
+/// The most words that are lent, which are enough for a round table of 5 operations with a low floor.
+const MOST_WORDS: usize = 1 << 18;
 
 impl OnList<'_> {
     /// The refusal of a call that needs `needed` and is lent `room`.
     fn expected(&self, takes_index: bool, needed: usize, room: usize) -> Option<(u64, u64)> {
         let n = self.ops.len() / OP_WORDS;
-        let earlier = first(&[
-            (n > MAX_OPS, 1, TOO_MANY),
-            (takes_index && self.index >= n, 1, n as u64),
-            (!self.ops.len().is_multiple_of(OP_WORDS), 2, 2),
-            (room < needed, 3, needed as u64),
-        ]);
-        earlier.or_else(|| {
-            let addresses = self.ops.chunks_exact(OP_WORDS).map(|operation| operation[1]);
-            addresses
-                .into_iter()
-                .find(|&address| address > LAST_ADDRESS)
-                .map(|address| (4, address))
-        })
+        // Of too long a list, that it is too long is told before the index.
+        let past_end = takes_index && n <= MAX_OPS && self.index >= n;
+        let index = past_end.then_some((1, n as u64));
+        index.or_else(|| of_list(self.ops, &[(room < needed, 3, needed as u64)]))
     }
 
     fn input(&self, name: &str) -> String {
-        format!("{name}, {}, index {}", self.what, self.index)
+        format!("{name}, {}, index {}, {:?}", self.what, self.index, self.with)
     }
 
     /// Every call on lists that writes words, with so many words more or fewer than it needs.
-    fn write_words(&self, comparison: &mut Comparison, words: &mut Words, off: isize) {
+    pub fn write_words(&self, comparison: &mut Comparison, words: &mut Words, off: isize) {
         for call in &LIST_CALLS {
-            let needed = (call.needed)(self.ops.len() / OP_WORDS);
-            let room = needed.saturating_add_signed(off).min(1 << 20);
-            let expected = self.expected(call.takes_index, needed, room);
+            let needed = call.needed_by(self.with, self.ops.len() / OP_WORDS);
+            let room = needed.saturating_add_signed(off).min(MOST_WORDS);
+            let earlier = call.refusal(self.with);
+            let expected = earlier.or_else(|| self.expected(call.takes_index, needed, room));
             let what = (call.name, || self.input(call.name));
             on_slice(comparison, words, what, room, expected, |out| {
-                (call.call)(self.ops, self.index, out)
+                call.by(self.with, self.ops, self.index, out)
             });
         }
     }
@@ -236,28 +244,19 @@ impl OnList<'_> {
     }
 }
 
-/// Lists of 0 to 5 operations, whole or not, with and without high addresses, and indexes about the end.
+/// Lists of 0 to 5 operations, whole or not, with and without addresses that are refused, and indexes about the end.
 fn lists(comparison: &mut Comparison, words: &mut Words) {
     for n in [0, 1, 3, 5] {
         for past in [0, 1, 2, 51] {
-            for high in [None, Some(LAST_ADDRESS), Some(LAST_ADDRESS + 1), Some(u64::MAX)] {
-                let mut list = words.operations(n);
-                // What is past the last operation looks like one at a high address.
-                list.extend(vec![u64::MAX; past]);
-                if let (Some(address), 1..) = (high, n) {
-                    let at = words.below(n as u64) as usize;
-                    list[at * OP_WORDS + 1] = address;
-                    if address > LAST_ADDRESS && words.below(2) == 0 {
-                        list[(n - 1) * OP_WORDS + 1] = address;
-                    }
-                }
-                let what = format!("{n} operations and {past} words, {high:?} among the addresses");
+            for put in ADDRESSES {
+                let list = list_with(words, n, past, put);
+                let what = format!("{n} operations and {past} words, {put:?} among the addresses");
                 let mut lent = Lent::new(&list, words);
                 for index in [0, n.saturating_sub(1), n, n + 1, usize::MAX] {
-                    let ops = &*lent.slice();
                     let on_list = OnList {
-                        ops,
+                        ops: &*lent.slice(),
                         index,
+                        with: words.any_parameters(),
                         what: &what,
                     };
                     for off in [-1, 0, 1] {
@@ -271,13 +270,13 @@ fn lists(comparison: &mut Comparison, words: &mut Words) {
     }
 }
 
-/// As many operations as a list may have, one more and two more, whole or not, the first address high or not. No slice has the
+/// As many operations as a list may have, one more and two more, whole or not, the first address refused or not. No slice has the
 /// room, so nothing but the first address could be read.
 fn long_lists(comparison: &mut Comparison, words: &mut Words) {
     let Some(mut untouched) = Untouched::operations(MAX_OPS + 3) else {
         return;
     };
-    for address in [0, u64::MAX] {
+    for address in [0, 4100, u64::MAX] {
         untouched.words_mut()[1] = address;
         for n in [MAX_OPS, MAX_OPS + 1, MAX_OPS + 2] {
             for past in [0, 1, 51] {
@@ -287,6 +286,7 @@ fn long_lists(comparison: &mut Comparison, words: &mut Words) {
                     let on_list = OnList {
                         ops,
                         index,
+                        with: words.any_parameters(),
                         what: &what,
                     };
                     let short = isize::MIN;
@@ -298,8 +298,8 @@ fn long_lists(comparison: &mut Comparison, words: &mut Words) {
     }
 }
 
-/// Files of three records: every byte in place of either mark, every cut, and addresses about the last, in each record and
-/// together, read in pieces and into a list that has the room or not.
+/// Files of three records: every byte in place of either mark, every cut, and addresses off the eight and about the last, in each record
+/// and together, read in pieces and into a list that has the room or not. None is refused by 7.
 fn files(comparison: &mut Comparison, words: &mut Words) {
     let ops = words.operations(3);
     let whole = file_of(&ops);
@@ -312,7 +312,7 @@ fn files(comparison: &mut Comparison, words: &mut Words) {
                 one_file(comparison, words, &file);
             }
         }
-        for address in [LAST_ADDRESS - 1, LAST_ADDRESS, LAST_ADDRESS + 1, u64::MAX] {
+        for address in [4100, LAST_ALIGNED, LAST_ADDRESS, LAST_ADDRESS + 1, u64::MAX] {
             for other in 0..3 {
                 let mut file = whole.clone();
                 file[start + 10..start + 18].copy_from_slice(&address.to_le_bytes());
@@ -341,8 +341,11 @@ fn one_file(comparison: &mut Comparison, words: &mut Words, file: &[u8]) {
     let fault = first_fault(file);
     let input = || format!("the file {file:?}");
     let mut lent = LentBytes::new(file, words);
-    let mode = drawn_mode(words);
-    comparison.answered("tally_finish", input, read(words, mode, lent.slice()), fault);
+    // The rounds have no part in it; a floor is refused before the file.
+    let with = words.any_parameters();
+    let finished = by_floor::refusal(with.floor).or(fault);
+    let input_with = || format!("{with:?}, {}", input());
+    comparison.answered("tally_finish", input_with, read(words, with, lent.slice()), finished);
     // A cut is a fault only at the end of the file.
     let cut = file.len() / RECORD_BYTES * RECORD_BYTES;
     let marked = file[cut..].iter().zip(b"KO").all(|(byte, mark)| byte == mark);
@@ -416,21 +419,23 @@ fn spoilt_table(words: &mut Words, length: usize, spoilt: usize) -> Vec<u64> {
 }
 
 fn one_verdict(comparison: &mut Comparison, words: &mut Words, core: &[u64], round: &[u64]) {
-    let expected = judge::verdict(core, round);
+    let nr = words.any_rounds();
+    let parameters = Parameters::default().rounds(nr);
+    let expected = judge::verdict_by(nr, core, round);
     let refused = match expected {
         judge::Verdict::Refused(number, detail) => Some((number, detail)),
         _ => None,
     };
     let [mut lent_core, mut lent_round] = [core, round].map(|table| Lent::new(table, words));
-    let answer = verdict(lent_core.slice(), lent_round.slice());
-    let input = || format!("core {core:?}, round {round:?}");
+    let answer = verdict_with(parameters, lent_core.slice(), lent_round.slice());
+    let input = || format!("{nr} rounds, core {core:?}, round {round:?}");
     comparison.answered("verdict", input, answer, refused);
     comparison.equal(|_| input(), &verdicts::words(answer), &expected.words());
     // Lent no byte, the line is refused as the verdict is, and else by its length.
-    let line = lines::line(core, round, expected).map(|line| (3, line.len() as u64));
-    let short = verdict_line(lent_core.slice(), lent_round.slice(), &mut []);
+    let line = lines::line(nr, core, round, expected).map(|line| (3, line.len() as u64));
+    let short = verdict_line_with(parameters, lent_core.slice(), lent_round.slice(), &mut []);
     comparison.answered("verdict_line", input, short, refused.or(line));
-    let whole = verdict_text(lent_core.slice(), lent_round.slice());
+    let whole = verdict_text_with(parameters, lent_core.slice(), lent_round.slice());
     comparison.answered("verdict_line", input, whole, refused);
     lent_core.kept(comparison, |_| input());
     lent_round.kept(comparison, |_| input());
@@ -439,9 +444,11 @@ fn one_verdict(comparison: &mut Comparison, words: &mut Words, core: &[u64], rou
 #[cfg(test)]
 mod tests {
     use super::*;
+    use crate::list_calls::TOO_MANY;
     use keccak_tables::is_wh::{
         IsWhRows, MAX_KEYS, collect_bitwise_from_is_wh, dedup_is_wh_rows, generate_is_wh_trace,
     };
+    use keccak_tables::segment;
 
     #[test]
     fn the_matrix_has_every_call_of_the_header() {
@@ -465,12 +472,17 @@ mod tests {
         assert_eq!(index, named("index", MAX_OPS as u64));
         let refused = named("ops", TOO_MANY);
         for call in &LIST_CALLS {
-            assert_eq!((call.call)(long, usize::MAX, &mut []), refused, "{}", call.name);
+            for with in [Parameters::default(), Parameters::default().rounds(1).floor(65_536)] {
+                assert_eq!(call.by(with, long, usize::MAX, &mut []), refused, "{}", call.name);
+            }
         }
         assert_eq!(write_operations(long, &mut []), refused);
         assert_eq!(keccak::keccak_table(long).map(drop), refused);
         assert_eq!(keccak_rnd::keccak_rnd_table(long).map(drop), refused);
         assert_eq!(IsWhRows::of_operations(long).map(drop), refused);
+        assert_eq!(segment::charge(long, &mut []), refused);
+        assert_eq!(segment::look(long, &[], &mut [], &mut []), refused);
+        assert_eq!(segment::Look::new(long, &[]).map(drop), refused);
     }
 
     /// The same of keys and of rows of keys.

@@ -43,21 +43,20 @@ pub struct RowCall<'a> {
     pub columns: usize,
     /// The words that it writes.
     pub needed: usize,
-    /// The least index refused, where the call's index is refused.
-    pub past_end: Option<u64>,
+    /// What the call is refused by before its row is looked at: its rounds, its index.
+    pub earlier: Option<(u64, u64)>,
     /// The call.
     pub call: &'a OnRow<'a>,
 }
 
 impl RowCall<'_> {
-    /// One call, on a row and a slice of `room` words, against the checks in their order: index; lengths, the row's first;
+    /// One call, on a row and a slice of `room` words, against the checks in their order: what is earlier; lengths, the row's first;
     /// words of the row's columns that are no elements, the first of them named.
     fn check(&self, comparison: &mut Comparison, words: &mut Words, row: &[u64], room: usize) {
         let short = |length, needed| (length < needed).then_some((3, needed as u64));
         let first = || row[..self.columns].iter().position(|&word| word >= P);
         let expected = self
-            .past_end
-            .map(|end| (1, end))
+            .earlier
             .or(short(row.len(), self.columns))
             .or(short(room, self.needed))
             .or_else(|| first().map(|place| (5, place as u64)));
@@ -136,7 +135,7 @@ pub fn tuple_calls(
             name: format!("tuple {index} of a {name} row"),
             columns,
             needed: lengths.get(index).copied().unwrap_or(1),
-            past_end: (index >= count).then_some(count as u64),
+            earlier: (index >= count).then_some((1, count as u64)),
             call: &|row, out| call(row, index, out).map(drop),
         });
     };

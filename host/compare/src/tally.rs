@@ -5,11 +5,17 @@ use keccak_tables::keccak::LAST_ADDRESS;
 use keccak_tables::operation_file::{RECORD_BYTES, Sums, Tally, read_operations, write_operations};
 use keccak_tables::{OP_WORDS, Parameters, Refusal};
 
+use crate::by_floor;
 use crate::comparison::Comparison;
 use crate::inputs::Words;
 use crate::lent::{Lent, LentBytes};
+use crate::list_calls::of_addresses;
 
-/// The whole area: files of 0 to 40 records, some longer ones, those of 0 to 90 whose tables are shipped, and `n` damaged ones.
+/// The most records of a file that is damaged.
+const MOST_DAMAGED: usize = 6;
+
+/// The whole area: files of 0 to 40 records, some longer ones, those of 0 to 90 whose tables are shipped, those with records off the eight,
+/// and `n` damaged ones.
 pub fn compare(comparison: &mut Comparison, seed: u64, n: usize) {
     let mut words = Words::new(seed);
     let lists: Vec<Vec<u64>> = (0..=40).map(|n| words.operations(n)).collect();
@@ -32,9 +38,17 @@ pub fn compare(comparison: &mut Comparison, seed: u64, n: usize) {
     for ops in &lists {
         both_ways(comparison, &mut words, ops);
     }
-    comparison.group("damaged files");
+    comparison.group("files of 0 to 60 records, some or all of them off the eight");
+    for n in 0..=60 {
+        off_the_eight(comparison, &mut words, n);
+    }
+    comparison.group("damaged files, with records off the eight and high ones");
+    let sums = modes().map(|mode| {
+        let count = |n| expected(mode, &vec![0; n * OP_WORDS]);
+        (0..=MOST_DAMAGED).map(count).collect()
+    });
     for _ in 0..n {
-        damaged(comparison, &mut words);
+        damaged(comparison, &mut words, &sums);
     }
 }
 
@@ -71,27 +85,65 @@ pub fn read(words: &mut Words, parameters: Parameters, file: &[u8]) -> Result<Su
     tally.finish_with(parameters)
 }
 
+/// The parameters of both modes.
+fn modes() -> [Parameters; 2] {
+    [Parameters::default(), Parameters::default().shipped()]
+}
+
 /// The parameters of either mode.
 pub fn drawn_mode(words: &mut Words) -> Parameters {
-    let modes = [Parameters::default(), Parameters::default().shipped()];
-    modes[words.below(2) as usize]
+    modes()[words.below(2) as usize]
 }
 
-/// The ten sums, in the order of the program's lines.
-pub fn numbers(sums: &Sums) -> [u64; 10] {
-    sums.lines().map(|(_, number)| number)
+/// The ten sums, in the order of the program's lines, and the records that they leave out.
+pub fn numbers(sums: &Sums) -> Vec<u64> {
+    let lines = sums.lines().map(|(_, number)| number);
+    [&lines[..], &[sums.unaligned]].concat()
 }
 
-fn sums(comparison: &mut Comparison, words: &mut Words, parameters: Parameters, ops: &[u64]) {
-    let input = || format!("{parameters:?}, a file of the operations {ops:?}");
-    let published = if parameters.shipped {
-        oracle::shipped_tally
-    } else {
-        oracle::tally
+/// The same by the published Rust, which has floor 4, or by a plain reading where the floor is another; on the operations at multiples of 8,
+/// and by the number of the others.
+pub fn expected(parameters: Parameters, ops: &[u64]) -> Vec<u64> {
+    let operations = ops.chunks_exact(OP_WORDS);
+    let (counted, others): (Vec<_>, Vec<_>) = operations.partition(|operation| operation[1].is_multiple_of(8));
+    let whole = |sums: [(&str, u128); 10]| sums.map(|(_, sum)| u64::try_from(sum).expect("a sum is a word"));
+    let sums = match (parameters.floor, parameters.shipped) {
+        (4, true) => whole(oracle::shipped_tally(&counted.concat())),
+        (4, false) => whole(oracle::tally(&counted.concat())),
+        _ => by_floor::tally(parameters, counted.len()),
     };
-    let expected = published(ops).map(|(_, sum)| u64::try_from(sum).expect("a sum is a word"));
+    [&sums[..], &[others.len() as u64]].concat()
+}
+
+/// What our reader says of the file of a list, against that.
+pub fn sums(comparison: &mut Comparison, words: &mut Words, parameters: Parameters, ops: &[u64]) {
+    let input = || format!("{parameters:?}, a file of the operations {ops:?}");
     if let Some(ours) = comparison.done(input, read(words, parameters, &file_of(ops))) {
-        comparison.equal(|_| input(), &numbers(&ours), &expected);
+        comparison.equal(|_| input(), &numbers(&ours), &expected(parameters, ops));
+    }
+}
+
+/// A file whose records are off the eight: all, most, half or few of them. It is read, in both modes and into a list, which can't be written.
+fn off_the_eight(comparison: &mut Comparison, words: &mut Words, records: usize) {
+    let mut ops = words.operations(records);
+    let eighths = [8, 7, 4, 1][words.below(4) as usize];
+    for operation in ops.chunks_exact_mut(OP_WORDS) {
+        if words.below(8) < eighths {
+            operation[1] = words.unaligned_address();
+        }
+    }
+    for mode in modes() {
+        sums(comparison, words, mode, &ops);
+    }
+    let input = || format!("the operations {ops:?}");
+    let file = file_of(&ops);
+    let mut list = Lent::drawn(ops.len() + words.below(3) as usize, words);
+    comparison.done(input, read_operations(&file, list.slice()));
+    list.holds(comparison, |_| input(), &ops);
+    if let Some((number, detail)) = of_addresses(&ops) {
+        let mut bytes = LentBytes::drawn(file.len(), words);
+        comparison.refused(input, write_operations(&ops, bytes.slice()), number, detail);
+        bytes.holds(comparison, input, &[]);
     }
 }
 
@@ -107,21 +159,20 @@ fn both_ways(comparison: &mut Comparison, words: &mut Words, ops: &[u64]) {
     bytes.holds(comparison, input, &file);
 }
 
-/// Up to three faults in a file of a few records; some of them hit the same record, some none.
-fn damaged(comparison: &mut Comparison, words: &mut Words) {
-    let records = words.below(6) as usize + 1;
+/// Up to four faults in a file of a few records; some of them hit the same record, some none. `sums` are those of so many operations in
+/// each mode.
+fn damaged(comparison: &mut Comparison, words: &mut Words, sums: &[Vec<Vec<u64>>; 2]) {
+    let records = words.below(MOST_DAMAGED as u64) as usize + 1;
     let ops = words.operations(records);
     let mut file = file_of(&ops);
-    for _ in 0..=words.below(3) {
+    for _ in 0..=words.below(4) {
         let start = words.below(records as u64) as usize * RECORD_BYTES;
-        match words.below(4) {
+        match words.below(7) {
             0 => set(&mut file, start + words.below(2) as usize, &[words.word() as u8]),
-            1 => set(
-                &mut file,
-                start + 10,
-                &(LAST_ADDRESS - 1 + words.below(4)).to_le_bytes(),
-            ),
-            2 => file.truncate(words.below(file.len() as u64 + 1) as usize),
+            1 => set_address(&mut file, start, LAST_ADDRESS - 1 + words.below(4)),
+            2 => set_address(&mut file, start, LAST_ADDRESS - 9 + words.below(20)),
+            3 | 4 => set_address(&mut file, start, words.unaligned_address()),
+            5 => file.truncate(words.below(file.len() as u64 + 1) as usize),
             _ => file.push(words.word() as u8),
         }
     }
@@ -137,14 +188,22 @@ fn damaged(comparison: &mut Comparison, words: &mut Words) {
             list.kept(comparison, |_| input());
         }
         None => {
-            let whole = file.len() / RECORD_BYTES;
+            let whole = operations_of(&file);
+            let addresses = whole.chunks_exact(OP_WORDS).map(|operation| operation[1]);
+            let left_out = addresses.filter(|address| address % 8 != 0).count();
+            let mut expected = sums[usize::from(mode.shipped)][whole.len() / OP_WORDS - left_out].clone();
+            expected[10] = left_out as u64;
             if let Some(ours) = comparison.done(input, answer) {
-                comparison.equal(|_| input(), &numbers(&ours)[..1], &[whole as u64]);
+                comparison.equal(|_| input(), &numbers(&ours), &expected);
             }
             comparison.done(input, listed);
-            list.holds(comparison, |_| input(), &operations_of(&file));
+            list.holds(comparison, |_| input(), &whole);
         }
     }
+}
+
+fn set_address(file: &mut [u8], record: usize, address: u64) {
+    set(file, record + 10, &address.to_le_bytes());
 }
 
 fn set(file: &mut [u8], at: usize, bytes: &[u8]) {

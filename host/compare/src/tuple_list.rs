@@ -31,6 +31,22 @@ pub fn tuples(
     }
 }
 
+/// The call for all tuples of a row, against the same list.
+pub fn at_once(
+    comparison: &mut Comparison,
+    words: &mut Words,
+    what: impl Fn() -> String,
+    row: &[u64],
+    call: impl Fn(&[u64], &mut [u64]) -> Result<(), Refusal>,
+    expected: &[oracle::Tuple],
+) {
+    let expected: Vec<u64> = expected.iter().flat_map(words_of).collect();
+    let mut out = Lent::drawn(expected.len() + words.below(3) as usize, words);
+    let input = || format!("all tuples of {}: {row:?}", what());
+    comparison.done(input, call(row, out.slice()));
+    out.holds(comparison, |_| input(), &expected);
+}
+
 /// The numbers of a tuple's answer: bus, side, multiplicity, length.
 fn answer_numbers(tuple: &BusInteraction) -> [u64; 4] {
     [

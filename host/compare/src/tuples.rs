@@ -3,9 +3,8 @@
 use crate::comparison::Comparison;
 use crate::evaluated::{CORE, ROUND, Table};
 use crate::inputs::Words;
-use crate::lent::Lent;
 use crate::refused::{RowCall, row_calls, tuple_calls};
-use crate::tuple_list::{tuples, words_of};
+use crate::tuple_list::{at_once, tuples, words_of};
 
 /// The whole area: `n` drawn rows of each kind, and everything that is not drawn.
 pub fn compare(comparison: &mut Comparison, seed: u64, n: usize) {
@@ -35,25 +34,10 @@ fn all_tuples(comparison: &mut Comparison, words: &mut Words, table: &Table, wha
     comparison.equal(|_| what(), &[table.num_tuples as u64], &[expected.len() as u64]);
     let call = |row: &[u64], index: usize, out: &mut [u64]| (table.tuple)(row, index, syscall, out);
     tuples(comparison, words, what, row, call, &expected);
-    at_once(comparison, words, table, what, row, syscall, &expected);
-}
-
-/// The call for all tuples of a row, against the same list.
-fn at_once(
-    comparison: &mut Comparison,
-    words: &mut Words,
-    table: &Table,
-    what: impl Fn() -> String,
-    row: &[u64],
-    syscall: u64,
-    expected: &[oracle::Tuple],
-) {
-    let expected: Vec<u64> = expected.iter().flat_map(words_of).collect();
-    let mut out = Lent::drawn(table.tuple_words + words.below(3) as usize, words);
-    let input = || format!("all tuples of {}: {row:?}", what());
-    comparison.done(input, (table.tuples)(row, syscall, out.slice()));
-    comparison.equal(|_| input(), &[table.tuple_words as u64], &[expected.len() as u64]);
-    out.holds(comparison, |_| input(), &expected);
+    let call = |row: &[u64], out: &mut [u64]| (table.tuples)(row, syscall, out);
+    at_once(comparison, words, what, row, call, &expected);
+    let length: usize = expected.iter().map(|tuple| words_of(tuple).len()).sum();
+    comparison.equal(|_| what(), &[table.tuple_words as u64], &[length as u64]);
 }
 
 /// The refusals of the call for a tuple of a row.
@@ -71,7 +55,7 @@ pub fn refusals(comparison: &mut Comparison, words: &mut Words, table: &Table) {
         name: format!("all tuples of a {} row", table.name),
         columns: table.columns,
         needed: table.tuple_words,
-        past_end: None,
+        earlier: None,
         call: &|row, out| (table.tuples)(row, syscall, out),
     };
     row_calls(comparison, words, &at_once);

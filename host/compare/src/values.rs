@@ -74,7 +74,7 @@ pub fn refusals(comparison: &mut Comparison, words: &mut Words, table: &Table) {
         name: format!("the values of a {} row", table.name),
         columns: table.columns,
         needed: table.num_values,
-        past_end: None,
+        earlier: None,
         call: &|row, out| (table.values)(row, out),
     };
     row_calls(comparison, words, &call);

@@ -1,9 +1,10 @@
 //! The proved verdict against the independent judge's: on every named pair of tables, and on written tables of which one or
 //! two words were changed or rows exchanged, copied, dropped and shuffled.
 
-use keccak_tables::verdict::{Table, Verdict, verdict};
-use keccak_tables::{P, Refusal, keccak, keccak_rnd};
+use keccak_tables::verdict::{Table, Verdict, verdict, verdict_with};
+use keccak_tables::{P, Parameters, Refusal, keccak, keccak_rnd};
 
+use crate::by_rounds::ALL;
 use crate::comparison::Comparison;
 use crate::dishonest::{Tables, exchange, pairs, shuffle};
 use crate::inputs::Words;
@@ -17,8 +18,8 @@ pub fn compare(comparison: &mut Comparison, seed: u64, n: usize) {
     comparison.group("named pairs of tables, against the judge and against thought");
     for pair in pairs(seed) {
         let input = |_| format!("the pair '{}' of seed {seed}", pair.name);
-        let ours = judged(comparison, &input, &pair.tables);
-        comparison.equal(input, &ours, &pair.expected.words());
+        let theirs = judged(comparison, &input, ALL, &pair.tables);
+        comparison.equal(input, &theirs.words(), &pair.expected.words());
     }
 
     let mut words = Words::new(seed);
@@ -31,7 +32,7 @@ pub fn compare(comparison: &mut Comparison, seed: u64, n: usize) {
             changes += &changed(&mut tables, &mut words);
         }
         let input = |_| format!("change {change} of seed {seed}:{changes}");
-        judged(comparison, &input, &tables);
+        judged(comparison, &input, ALL, &tables);
     }
     comparison
         .group("written tables with rows exchanged, copied, dropped or shuffled, and now and then a word changed");
@@ -39,10 +40,10 @@ pub fn compare(comparison: &mut Comparison, seed: u64, n: usize) {
         let mut tables = written[words.below(5) as usize].clone();
         let changes = moved_and_changed(&mut tables, &mut words);
         let input = |_| format!("move {change} of seed {seed}:{changes}");
-        judged(comparison, &input, &tables);
+        judged(comparison, &input, ALL, &tables);
     }
     comparison.group("tables of 30 calls in a drawn order, of rows or of calls, with up to two rows moved");
-    many_calls(comparison, &mut words, seed, n.div_ceil(10));
+    many_calls(comparison, &mut words, ALL, seed, n.div_ceil(10));
 }
 
 /// Moves rows, one to four times, and now and then changes a word; says what was done.
@@ -59,9 +60,9 @@ pub(crate) fn moved_and_changed(tables: &mut Tables, words: &mut Words) -> Strin
 
 /// Tables of many calls whose round rows are in a drawn order, or with whole calls in a drawn order, and up to two rows moved: what the
 /// search for chains and the counts go through.
-fn many_calls(comparison: &mut Comparison, words: &mut Words, seed: u64, n: usize) {
-    let written = Tables::written(CALLS, words);
-    let call = keccak_rnd::ROUNDS * keccak_rnd::NUM_COLUMNS;
+pub(crate) fn many_calls(comparison: &mut Comparison, words: &mut Words, nr: u64, seed: u64, n: usize) {
+    let written = Tables::written_by(nr, CALLS, words);
+    let call = nr as usize * keccak_rnd::NUM_COLUMNS;
     for table in 0..n {
         let mut tables = written.clone();
         let width = [call, keccak_rnd::NUM_COLUMNS][table % 2];
@@ -70,18 +71,27 @@ fn many_calls(comparison: &mut Comparison, words: &mut Words, seed: u64, n: usiz
         for _ in 0..words.below(3) {
             changes += &moved(&mut tables, words);
         }
-        let input = |_| format!("table {table} of many calls of seed {seed}:{changes}");
-        judged(comparison, &input, &tables);
+        let input = |_| format!("table {table} of many calls of {nr} rounds of seed {seed}:{changes}");
+        judged(comparison, &input, nr, &tables);
     }
 }
 
-/// Our verdict on two tables, held against the judge's.
-fn judged(comparison: &mut Comparison, input: &dyn Fn(usize) -> String, tables: &Tables) -> [u64; 4] {
+/// The judge's verdict on two tables by nr rounds, against which ours is held.
+pub(crate) fn judged(
+    comparison: &mut Comparison,
+    input: &dyn Fn(usize) -> String,
+    nr: u64,
+    tables: &Tables,
+) -> judge::Verdict {
     let Tables { core, round } = tables;
-    let ours = words(verdict(core, round));
+    let ours = words(match nr {
+        ALL => verdict(core, round),
+        nr => verdict_with(Parameters::default().rounds(nr), core, round),
+    });
+    let theirs = judge::verdict_by(nr, core, round);
     comparison.called();
-    comparison.equal(input, &ours, &judge::verdict(core, round).words());
-    ours
+    comparison.equal(input, &ours, &theirs.words());
+    theirs
 }
 
 /// A verdict's four words.

@@ -2,12 +2,18 @@
 
 use compare::dishonest::{Tables, pairs};
 use compare::inputs::Words;
-use keccak_tables::verdict::verdict;
-use keccak_tables::{keccak, keccak_rnd};
+use compare::rounds::pairs::NAMED;
+use keccak_tables::verdict::verdict_with;
+use keccak_tables::{Parameters, keccak, keccak_rnd};
 use program::failures::{failures, in_writers_order};
 
-fn lines(tables: &Tables) -> Vec<String> {
-    let found = failures(&tables.core, &tables.round, &mut |_| ()).expect("tables of whole rows and elements");
+fn by(rounds: u64) -> Parameters {
+    Parameters::default().rounds(rounds)
+}
+
+fn lines(rounds: u64, tables: &Tables) -> Vec<String> {
+    let found = failures(by(rounds), &tables.core, &tables.round, &mut |_| ());
+    let found = found.expect("tables of whole rows and elements");
     found.iter().map(ToString::to_string).collect()
 }
 
@@ -16,24 +22,37 @@ fn lines(tables: &Tables) -> Vec<String> {
 fn the_first_failure_is_the_verdict() {
     for seed in 1..4 {
         for pair in pairs(seed) {
-            let Ok(answer) = verdict(&pair.tables.core, &pair.tables.round) else {
-                continue;
-            };
-            let found = lines(&pair.tables);
-            let first = found.first().map(String::as_str);
-            let expected = answer.to_string();
-            assert_eq!(
-                first,
-                (!answer.holds()).then_some(expected.as_str()),
-                "{} of seed {seed}",
-                pair.name
-            );
-            let mut once = found.clone();
-            once.sort();
-            once.dedup();
-            assert_eq!(once.len(), found.len(), "{} of seed {seed}", pair.name);
+            is_first(&format!("{} of seed {seed}", pair.name), 24, &pair.tables);
         }
     }
+}
+
+/// The same by every number of rounds, of tables of that number and of 24.
+#[test]
+fn the_first_failure_is_the_verdict_of_any_number_of_rounds() {
+    let mut words = Words::new(1);
+    for rounds in 1..=24 {
+        for (name, make) in NAMED {
+            let (tables, _) = make(rounds, &mut words);
+            is_first(&format!("{name} of {rounds} rounds"), rounds, &tables);
+        }
+        let tables = Tables::written(1, &mut words);
+        is_first(&format!("24 rounds by {rounds}"), rounds, &tables);
+    }
+}
+
+fn is_first(name: &str, rounds: u64, tables: &Tables) {
+    let Ok(answer) = verdict_with(by(rounds), &tables.core, &tables.round) else {
+        return;
+    };
+    let found = lines(rounds, tables);
+    let first = found.first().map(String::as_str);
+    let expected = answer.to_string();
+    assert_eq!(first, (!answer.holds()).then_some(expected.as_str()), "{name}");
+    let mut once = found.clone();
+    once.sort();
+    once.dedup();
+    assert_eq!(once.len(), found.len(), "{name}");
 }
 
 /// Failures of several kinds, in the verdict's order, and what each brings with it: a false low carry a false high one, a word of THETA
@@ -46,7 +65,7 @@ fn every_failure_is_named_in_order() {
     tables.core_row(2)[..2].copy_from_slice(&stamp);
     tables.round_row(30)[463] ^= 1;
     tables.core_row(3)[210] ^= 1;
-    let found = lines(&tables);
+    let found = lines(24, &tables);
     let expected = [
         "core row 0 value 0",
         "core row 0 value 1",
@@ -65,17 +84,20 @@ fn every_failure_is_named_in_order() {
 
 #[test]
 fn the_writers_order_is_seen() {
+    let order = |rounds, tables: &Tables| in_writers_order(by(rounds), &tables.core, &tables.round);
+    for rounds in 1..=24 {
+        let written = Tables::written_by(rounds, 3, &mut Words::new(1));
+        assert!(
+            (1..=24).all(|by| order(by, &written) == (by == rounds)),
+            "{rounds} rounds"
+        );
+        assert!(in_writers_order(by(rounds), &[], &[]));
+    }
     let written = Tables::written(3, &mut Words::new(1));
-    assert!(in_writers_order(&written.core, &written.round));
-    assert!(in_writers_order(&[], &[]));
     let mut changes: [Tables; 4] = std::array::from_fn(|_| written.clone());
     changes[0].round.rotate_right(keccak_rnd::NUM_COLUMNS);
     changes[1].core.rotate_right(keccak::NUM_COLUMNS);
     changes[2].round.truncate(71 * keccak_rnd::NUM_COLUMNS);
     changes[3].round_row(30)[0] += 1;
-    assert!(
-        changes
-            .iter()
-            .all(|tables| !in_writers_order(&tables.core, &tables.round))
-    );
+    assert!(changes.iter().all(|tables| !order(24, tables)));
 }

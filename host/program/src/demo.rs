@@ -8,7 +8,7 @@ use keccak_tables::Refusal;
 use keccak_tables::keccak::LAST_ADDRESS;
 use keccak_tables::layout::{self, Place};
 use keccak_tables::verdict::{Table, Verdict, verdict};
-use keccak_tables::{OP_WORDS, Operation, keccak, keccak_rnd, transposed};
+use keccak_tables::{OP_WORDS, Operation, Parameters, keccak, keccak_rnd, transposed};
 
 /// The calls.
 const CALLS: usize = 3;
@@ -96,7 +96,7 @@ pub fn demo(arguments: &[OsString], streams: &mut Streams) -> Result<Outcome, Fa
     if !arguments.is_empty() {
         return Err(Failure::Usage("demo takes nothing".into()));
     }
-    match honest() {
+    match honest(Parameters::default()) {
         Ok((ops, tables)) => show(&ops, &tables, streams),
         Err(refusal) => super::refused(refusal, &refusal.to_string(), streams),
     }
@@ -110,6 +110,7 @@ fn show(ops: &[u64], tables: &Tables, streams: &mut Streams) -> Result<Outcome, 
         fine &= show_trial(trial, tables.clone(), out)?;
     }
     fine &= show_high_address(ops, out)?;
+    fine &= show_unaligned_address(ops, out)?;
     writeln!(
         out,
         "{}",
@@ -171,6 +172,23 @@ fn show_high_address(ops: &[u64], out: &mut dyn Write) -> io::Result<bool> {
     Ok(line == format!("refused 4 {}", LAST_ADDRESS + 1))
 }
 
+fn show_unaligned_address(ops: &[u64], out: &mut dyn Write) -> io::Result<bool> {
+    let mut ops = ops.to_vec();
+    ops[1] += 4;
+    let answer = keccak::keccak_table(&ops);
+    let line = answer.map_or_else(refused_line, |_| "written".into());
+    writeln!(
+        out,
+        "The core table is asked for, where call 0 is at address {}.\n    {line}",
+        ops[1]
+    )?;
+    writeln!(
+        out,
+        "  No multiple of 8: the alignment lookup of its row would have no match, so the writer does not make it.\n"
+    )?;
+    Ok(line == format!("refused 7 {}", ops[1]))
+}
+
 /// The answer as `judge` prints it, but for the tuple's values.
 fn line(answer: Result<Verdict, Refusal>) -> String {
     match answer {
@@ -191,11 +209,11 @@ fn named(answer: Result<Verdict, Refusal>) -> Option<Place> {
 }
 
 /// The operations and their tables.
-pub(super) fn honest() -> Result<(Vec<u64>, Tables), Refusal> {
+pub(super) fn honest(parameters: Parameters) -> Result<(Vec<u64>, Tables), Refusal> {
     let mut ops: Vec<u64> = (0..CALLS as u64).flat_map(|call| drawn(call).words()).collect();
-    let round = keccak_rnd::keccak_rnd_table(&ops)?;
+    let round = keccak_rnd::keccak_rnd_table_with(parameters, &ops)?;
     for (call, operation) in ops.chunks_exact_mut(OP_WORDS).enumerate() {
-        let last = call * keccak_rnd::ROUNDS + keccak_rnd::ROUNDS - 1;
+        let last = (call + 1) * parameters.rounds as usize - 1;
         operation[OP_WORDS - 25..].copy_from_slice(&state_after(&round[last * keccak_rnd::NUM_COLUMNS..])?);
     }
     let core = keccak::keccak_table(&ops)?;

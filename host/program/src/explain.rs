@@ -197,6 +197,7 @@ fn run(table: Table, tuple: &Tuple, from: usize, to: usize) -> String {
     let sum = match &tuple.values[from] {
         Operand::Syscall(0) => return "the low 32 bits of the system call's number".into(),
         Operand::Syscall(_) => return "the high 32 bits of the system call's number".into(),
+        Operand::FirstRound => return "the first round, 24 - NR where there are NR rounds: 0 of all 24".into(),
         Operand::Sum(sum) => sum,
     };
     match sum.single() {

@@ -5,18 +5,18 @@ use std::collections::{HashMap, HashSet};
 use std::sync::LazyLock;
 
 use keccak_tables::verdict::{Table, Verdict};
-use keccak_tables::{Bus, BusInteraction, P, Refusal, keccak, keccak_rc, keccak_rnd, tuples};
+use keccak_tables::{Bus, BusInteraction, P, Parameters, Refusal, keccak, keccak_rc, keccak_rnd, tuples};
 
 /// Is told how many more rows are done.
 type Done<'a> = &'a mut dyn FnMut(u64);
 
-/// Every failure of two tables of whole rows and field elements. Each row counts twice as done: when its values are looked through, and
+/// Every failure of two tables of whole rows and field elements, by a number of rounds that is accepted. Each row counts twice as done: when its values are looked through, and
 /// when its lookups are.
 ///
 /// # Errors
 ///
 /// Those of the verdict on the same tables.
-pub fn failures(core: &[u64], round: &[u64], done: Done) -> Result<Vec<Verdict>, Refusal> {
+pub fn failures(parameters: Parameters, core: &[u64], round: &[u64], done: Done) -> Result<Vec<Verdict>, Refusal> {
     let core_rows = Rows::new(Table::Core, core);
     let round_rows = Rows::new(Table::Round, round);
     let mut found = Vec::new();
@@ -25,21 +25,27 @@ pub fn failures(core: &[u64], round: &[u64], done: Done) -> Result<Vec<Verdict>,
     repeated(&core_rows, &mut found);
     round_rows.values(&mut found, done)?;
     round_rows.lookups(&mut found, done)?;
-    unbalanced(&core_rows, &round_rows, &mut found);
+    unbalanced(parameters, &core_rows, &round_rows, &mut found);
     Ok(found)
 }
 
-/// Whether the active rows are as the writers put them: those of the core table first, and 24 round rows to each, in its order.
-pub fn in_writers_order(core: &[u64], round: &[u64]) -> bool {
+/// The first round, where the rounds are accepted.
+fn first_round(parameters: Parameters) -> u64 {
+    keccak_rnd::ROUNDS as u64 - parameters.rounds
+}
+
+/// Whether the active rows are as the writers put them: those of the core table first, and a row for each round to each, in its order.
+pub fn in_writers_order(parameters: Parameters, core: &[u64], round: &[u64]) -> bool {
     let (core, round) = (Rows::new(Table::Core, core), Rows::new(Table::Round, round));
     let calls = core.active().count();
     let stamp = |row: &[u64]| [row[0], row[1]];
+    let (rounds, first) = (parameters.rounds as usize, first_round(parameters));
     core.active().eq(0..calls)
-        && round.active().eq(0..calls * keccak_rnd::ROUNDS)
+        && round.active().eq(0..calls * rounds)
         && round.active().all(|at| {
-            let (call, step) = (at / keccak_rnd::ROUNDS, at % keccak_rnd::ROUNDS);
+            let (call, step) = (at / rounds, at % rounds);
             let row = round.row(at);
-            stamp(row) == stamp(core.row(call)) && row[keccak_rnd::cols::ROUND] == step as u64
+            stamp(row) == stamp(core.row(call)) && row[keccak_rnd::cols::ROUND] == first + step as u64
         })
 }
 
@@ -92,7 +98,7 @@ impl<'a> Rows<'a> {
         let mut words = vec![0; keccak_rnd::TUPLE_WORDS];
         for (at, row) in (0..).zip(self.all()) {
             let length = match self.table {
-                // The number of the system call stands in an Ecall tuple alone, which is looked up elsewhere.
+                // The number of the system call stands in an Ecall tuple alone, which is looked up elsewhere; the rounds on the Keccak bus.
                 Table::Core => keccak::bus_interactions(row, 0, &mut words).map(|()| keccak::TUPLE_WORDS)?,
                 Table::Round => keccak_rnd::bus_interactions(row, &mut words).map(|()| keccak_rnd::TUPLE_WORDS)?,
             };
@@ -153,11 +159,13 @@ struct Message<'a> {
 }
 
 /// The messages of active rows whose state, timestamp and round are not sent as often as received.
-fn unbalanced(core: &Rows, round: &Rows, found: &mut Vec<Verdict>) {
+fn unbalanced(parameters: Parameters, core: &Rows, round: &Rows, found: &mut Vec<Verdict>) {
+    use keccak::cols::{INPUT_STATE, OUTPUT_STATE};
+    let (first, end) = (first_round(parameters), keccak_rnd::ROUNDS as u64);
     let mut groups: HashMap<[u64; 3], Vec<Message>> = HashMap::new();
     for row in core.active() {
         let columns = core.row(row);
-        for (index, start, step) in [(2, keccak::cols::INPUT_STATE, 0), (3, keccak::cols::OUTPUT_STATE, 24)] {
+        for (index, start, step) in [(2, INPUT_STATE, first), (3, OUTPUT_STATE, end)] {
             let state = columns[start..][..200].split_at(8);
             let (table, sent) = (Table::Core, index == 2);
             groups.entry([columns[0], columns[1], step]).or_default().push(Message {

@@ -91,6 +91,11 @@ impl<'a> Target<'a> {
         })
     }
 
+    /// Whether the name is that of a file, which another can take.
+    pub fn is_a_file(&self) -> bool {
+        self.about.as_ref().is_some_and(Metadata::is_file)
+    }
+
     /// Whether two names lead to one file, however they are written.
     pub fn is(&self, other: &Self) -> bool {
         match (&self.about, &other.about) {
@@ -135,30 +140,35 @@ fn new_name(path: &Path) -> io::Result<PathBuf> {
     Ok(fs::canonicalize(folder.unwrap_or(Path::new(".")))?.join(name))
 }
 
+/// The name that something has while it is written.
+fn part_of(full: &Path) -> PathBuf {
+    let mut part = full.to_path_buf().into_os_string();
+    part.push(format!(".{}.part", std::process::id()));
+    PathBuf::from(part)
+}
+
 fn same(left: &Metadata, right: &Metadata) -> bool {
     (left.dev(), left.ino()) == (right.dev(), right.ino())
 }
 
 /// A file of words that is being written: beside its name, which it takes when it is whole. A device or a pipe has no such name, and is
 /// written as it is.
-pub struct WordFile<'a> {
-    path: &'a Path,
+pub struct WordFile {
+    path: PathBuf,
     file: BufWriter<File>,
     /// The name that it has and the name that it is to take.
     names: Option<[PathBuf; 2]>,
 }
 
-impl<'a> WordFile<'a> {
+impl WordFile {
     /// Makes the file beside its name, with the rights of what is there already.
-    pub fn beside(target: &Target<'a>) -> Result<Self, Failure> {
+    pub fn beside(target: &Target) -> Result<Self, Failure> {
         let path = target.path;
         let Some(full) = &target.full else {
             let file = File::options().write(true).open(path).map_err(Failure::file(path))?;
             return Ok(Self::new(path, file, None));
         };
-        let mut part = full.clone().into_os_string();
-        part.push(format!(".{}.part", std::process::id()));
-        let part = PathBuf::from(part);
+        let part = part_of(full);
         let file = File::options().write(true).create_new(true).open(&part);
         let file = Self::new(path, file.map_err(Failure::file(&part))?, Some([part, full.clone()]));
         if let Some(about) = &target.about {
@@ -168,9 +178,9 @@ impl<'a> WordFile<'a> {
         Ok(file)
     }
 
-    fn new(path: &'a Path, file: File, names: Option<[PathBuf; 2]>) -> Self {
+    fn new(path: &Path, file: File, names: Option<[PathBuf; 2]>) -> Self {
         Self {
-            path,
+            path: path.to_path_buf(),
             file: BufWriter::with_capacity(PIECE_BYTES, file),
             names,
         }
@@ -183,31 +193,113 @@ impl<'a> WordFile<'a> {
             for (bytes, word) in bytes.as_chunks_mut().0.iter_mut().zip(words) {
                 *bytes = word.to_le_bytes();
             }
-            self.file.write_all(bytes).map_err(Failure::file(self.path))?;
+            self.file.write_all(bytes).map_err(Failure::file(&self.path))?;
         }
         Ok(())
     }
 
     /// Writes what is still held back.
     pub fn flush(&mut self) -> Result<(), Failure> {
-        self.file.flush().map_err(Failure::file(self.path))
+        self.file.flush().map_err(Failure::file(&self.path))
+    }
+
+    /// The same, and waits until it is on the disk: a name that is taken after it is never that of less.
+    pub fn sync(&mut self) -> Result<(), Failure> {
+        self.flush()?;
+        self.file.get_ref().sync_all().map_err(Failure::file(&self.path))
     }
 
     /// Gives the file its name.
     pub fn finish(mut self) -> Result<(), Failure> {
-        match self.names.take() {
-            Some([part, full]) => fs::rename(part, full).map_err(Failure::file(self.path)),
-            None => Ok(()),
+        if let Some([part, full]) = &self.names {
+            fs::rename(part, full).map_err(Failure::file(&self.path))?;
         }
+        self.names = None;
+        Ok(())
     }
 }
 
 /// A file that did not come to its name is removed.
-impl Drop for WordFile<'_> {
+impl Drop for WordFile {
     fn drop(&mut self) {
         if let Some([part, _]) = &self.names {
             // What can't be removed stays, under a name that says so.
             let _ = fs::remove_file(part);
         }
     }
+}
+
+/// A folder of tables that is being written: beside its name, which it takes when it is whole.
+pub struct NewFolder {
+    path: PathBuf,
+    /// The name that it has and the name that it is to take.
+    names: Option<[PathBuf; 2]>,
+}
+
+impl NewFolder {
+    /// Makes the folder beside its name, which is free or that of an empty folder.
+    pub fn beside(path: &Path) -> Result<Self, Failure> {
+        Self::made(path).map_err(Failure::file(path))
+    }
+
+    fn made(path: &Path) -> io::Result<Self> {
+        let (full, rights) = match fs::metadata(path) {
+            Err(error) if error.kind() == io::ErrorKind::NotFound && fs::symlink_metadata(path).is_err() => {
+                (new_folder(path)?, None)
+            }
+            about => {
+                if fs::read_dir(path)?.next().is_some() {
+                    return Err(io::ErrorKind::DirectoryNotEmpty.into());
+                }
+                (fs::canonicalize(path)?, Some(about?.permissions()))
+            }
+        };
+        let part = part_of(&full);
+        fs::create_dir(&part)?;
+        let path = path.to_path_buf();
+        let names = Some([part.clone(), full]);
+        let folder = Self { path, names };
+        if let Some(rights) = rights {
+            fs::set_permissions(part, rights)?;
+        }
+        Ok(folder)
+    }
+
+    /// A file in it, to be written.
+    pub fn file(&self, name: &str) -> Result<WordFile, Failure> {
+        let [part, _] = self.names.as_ref().expect("it has not taken its name");
+        WordFile::beside(&Target::of(&part.join(name))?)
+    }
+
+    /// A whole file in it.
+    pub fn put(&self, name: &str, words: &[u64]) -> Result<(), Failure> {
+        let mut file = self.file(name)?;
+        file.put(words)?;
+        file.flush()?;
+        file.finish()
+    }
+
+    /// Gives the folder its name.
+    pub fn finish(mut self) -> Result<(), Failure> {
+        let [part, full] = self.names.as_ref().expect("it has not taken its name");
+        fs::rename(part, full).map_err(Failure::file(&self.path))?;
+        self.names = None;
+        Ok(())
+    }
+}
+
+/// A folder that did not come to its name is removed, with what is in it.
+impl Drop for NewFolder {
+    fn drop(&mut self) {
+        if let Some([part, _]) = &self.names {
+            let _ = fs::remove_dir_all(part);
+        }
+    }
+}
+
+/// The full name of a folder that is not there yet.
+fn new_folder(path: &Path) -> io::Result<PathBuf> {
+    let name = path.file_name().ok_or(io::ErrorKind::NotFound)?;
+    let folder = path.parent().filter(|folder| !folder.as_os_str().is_empty());
+    Ok(fs::canonicalize(folder.unwrap_or(Path::new(".")))?.join(name))
 }

@@ -13,32 +13,42 @@ pub struct Command {
 }
 
 /// The commands, in the order in which they are told.
-pub const COMMANDS: [Command; 5] = [
+pub const COMMANDS: [Command; 7] = [
     Command {
         name: "demo",
         arguments: "",
         short: "writes tables of a few drawn calls, judges them, tampers with them, judges again",
         long: "\
 Writes the core and the round table of three calls, one of the zero state, and judges them; then changes a word, a row
-or a timestamp and judges again, eight times in all, and says what each verdict shows. Nothing is written to files.
-Exit status: 0 where every verdict is the expected one, else 1.
+or a timestamp and judges again, eight times in all, and says what each verdict shows; then asks for tables at two addresses
+that are refused. Nothing is written to files.
+Exit status: 0 where every answer is the expected one, else 1.
 ",
     },
     Command {
         name: "write",
-        arguments: "OPS CORE ROUND",
-        short: "writes the core and the round table of an operation file",
+        arguments: "[--rounds NR] [--floor F] OPS CORE ROUND, or --all [--rounds NR] [--floor F] [--shipped] DIR OPS",
+        short: "writes the core and the round table of an operation file, or with --all every table of its segment",
         long: "\
 Reads the operation file OPS to its end and, where nothing in it is refused, writes its two tables, padding rows included,
 and prints the count of operations and the two heights. OPS is read twice, so it can't be a pipe. A table is written beside
 its name, as NAME.N.part, and takes its name when both are whole: a run that is cut short leaves what was there before.
 The three names must lead to three files, and none to where the program prints.
-Exit status: 0 both tables are there; 1 refused; 2 a file can't be read or written.
+With --rounds NR the round table has NR rows to an operation, those of the last NR of the 24 rounds: NR is 1 to 24, and 24
+where it is not given. Another number is refused by 8, before any file is read.
+With --floor F neither table has fewer than F rows: F is a power of two from 4 to 65536, and 4 where it is not given. Another
+floor is refused by 9, after 8 and before any file is read. The tables that are looked up have no part in it.
+With --all it makes the folder DIR with the files core, round, is_wh, constants and bitwise, and prints their heights too: the
+constants' multiplicities are the count of operations, those of the bitwise table what the rows of the core, the round and the
+IS_WH table look up, padding rows included. Of an empty file there is no is_wh, and without --shipped no core and no round, so
+that every lookup of a file is counted in another; what is not there has height 0. DIR must be new or empty; it is written
+beside its name, as DIR.N.part, and has all its tables or is as it was. The list of operations is held in memory.
+Exit status: 0 the tables are there; 1 refused; 2 a file can't be read or written.
 ",
     },
     Command {
         name: "judge",
-        arguments: "[--all [--most N]] CORE ROUND",
+        arguments: "[--rounds NR] [--all [--most N]] CORE ROUND",
         short: "says whether two tables hold together, or names the first failure, or with --all every one",
         long: "\
 Prints one line: `holds N`, N the active core rows; or `core` or `round`, `row R`, and `value I`, `lookup I`, `timestamp 0`
@@ -46,18 +56,51 @@ or `balance I`, all from 0; behind a lookup or a balance the bus's name and the 
 value I` says what a value is, `explain TABLE tuple I` what the tuple of a lookup or a balance is. Both files are held in
 memory. With --all every failing value, lookup, timestamp and tuple has a line, without values, the first being the
 verdict's; with --most N the first N of them. A failure can bring others with it.
+With --rounds NR the tables are judged as those of NR rounds, 1 to 24: a core row hands its INPUT to round 24 - NR, and what
+holds has an OUTPUT that is Keccak-p[1600, NR] of its INPUT. Without it NR is 24, Keccak-f[1600]. Another number is refused
+by 8, before any file is read.
 Exit status: 0 the tables hold; 1 they don't, or refused; 2 a file can't be read.
 ",
     },
     Command {
         name: "tally",
-        arguments: "[--shipped] [OPS]",
+        arguments: "[--shipped] [--floor F] [OPS]",
         short: "counts the lookups of an operation file, or of standard input",
         long: "\
 Prints ten lines: the operations, the heights of the two tables, and per bus the sum of multiplicities that both tables send
-(Ecall: receive). The tables of an empty file count as not shipped, and send nothing; with --shipped they are, and their four
-zero round rows send 880 on AreBytes. Of a file with records both give the same.
+(Ecall: receive). The tables of an empty file count as not shipped, and send nothing; with --shipped they are, and their zero
+round rows send 220 each on AreBytes, 880 in all where there are four. Of a file with a record that is counted both give the
+same. With --floor F neither table has fewer than F rows: F is a power of two from 4 to 65536, and 4 where it is not given.
+Another floor is refused by 9, before anything is read. Records at addresses that are no multiples of 8 are left out of all
+ten lines; where there are N of them, a last line reads `unaligned N`.
 Exit status: 0; 1 refused; 2 the file can't be read.
+",
+    },
+    Command {
+        name: "look",
+        arguments: "[--rounds NR] [--floor F] [--shipped] OPS COUNTERS",
+        short: "says what charging the lookups of an operation file to the bitwise table's counters would do",
+        long: "\
+COUNTERS is a file of 10,485,760 words or more: the bitwise table's counters, row by row, ten kinds to a row. Prints a line
+for each kind, `KIND SUM LARGEST`: how many lookups the core and the round table of OPS make, padding rows included, and the
+kind's largest counter after them. No file is changed. Of an empty OPS they make none; with --shipped they make those of
+their zero rows, 220 times the floor of ARE_BYTES. The round table is that of NR rounds, 1 to 24 and 24 without --rounds;
+neither table has fewer rows than the floor F, a power of two from 4 to 65536 and 4 without --floor. Another number of rounds
+is refused by 8 and another floor by 9, before any file is read. OPS is read twice, so it can't be a pipe; both files are held
+in memory.
+Exit status: 0; 1 refused; 2 a file can't be read.
+",
+    },
+    Command {
+        name: "charge",
+        arguments: "[--rounds NR] [--floor F] [--shipped] OPS COUNTERS",
+        short: "charges the lookups of an operation file to a file of the bitwise table's counters",
+        long: "\
+Adds to the counters what the core and the round table of OPS look up, mod p, and prints `KIND SUM` for each kind: it is the
+look, whose counters then take the place of the file. They are written beside it, as NAME.N.part, and take its name when they
+are on the disk and the lines are printed; words past the counters stay. A run that fails or is cut short leaves the file as
+it was. Two runs at once are made one after the other. What the IS_WH table looks up is not among it (`write --all`).
+Exit status: 0 exactly where the file is charged; 1 refused; 2 a file can't be read or written.
 ",
     },
     Command {
@@ -75,11 +118,20 @@ Exit status: 0; 2 there is no such index, or the line is no verdict.
 
 const FORMATS: &str = "\
 An operation file has records of 418 bytes: 4B 4F (hexadecimal), then timestamp, address, 25 input and 25 output lanes.
-A table is a file of words, row after row: 486 to a core row, 1,480 to a round row. A word is 8 bytes, lowest first.
+A table is a file of words, row after row: 486 to a core row, 1,480 to a round row, 4 to one of IS_WH, 10 to one of constants,
+21 to a bitwise row. Counters are a file of words. A word is 8 bytes, lowest first.
 
-What is refused gives the line `refused N D`, and what that means on standard error.
+What is refused gives the line `refused N D`, and what that means on standard error. An address is to be a multiple of 8: `tally`
+counts records at others apart, and what makes tables of the operations refuses the first of them, by 7.
 Exit status: 0 fine; 1 the tables do not hold, or refused; 2 wrong usage, or a file that can't be read or written.
 ";
+
+/// That a command was given something else than it takes.
+pub fn wrong(name: &str) -> Failure {
+    let takes = COMMANDS.iter().find(|command| command.name == name);
+    let arguments = takes.map_or("", |command| command.arguments);
+    Failure::Usage(format!("{name} takes {arguments}"))
+}
 
 pub fn help(arguments: &[OsString], streams: &mut Streams) -> Result<Outcome, Failure> {
     let text = match arguments {

@@ -1,26 +1,27 @@
-//! `judge CORE ROUND`: the verdict on two tables, as one line; `judge --all CORE ROUND`: every failure.
+//! `judge CORE ROUND`: the verdict on two tables, as one line; `judge --all CORE ROUND`: every failure. `--rounds NR` judges tables of NR rounds.
 
 use std::ffi::OsString;
 use std::path::Path;
 
 use super::failures::{failures, in_writers_order};
+use super::options::Options;
 use super::progress::{Progress, Waiting};
-use super::{Failure, Outcome, Streams, files, refused};
-use keccak_tables::verdict::{Table, verdict_text};
-use keccak_tables::{Lent, Refusal, keccak, keccak_rnd, layout};
+use super::{Failure, Outcome, Streams, files, help, refused};
+use keccak_tables::verdict::{Table, verdict_text_with};
+use keccak_tables::{Lent, Parameters, Refusal, keccak, keccak_rnd, layout};
 
 pub fn judge(arguments: &[OsString], streams: &mut Streams) -> Result<Outcome, Failure> {
-    let wrong = || Failure::Usage("judge takes two files, CORE ROUND, and before them --all or --all --most N".into());
-    let (most, [core, round]) = options(arguments).ok_or_else(wrong)?;
+    let (options, most, [core, round]) = options(arguments).ok_or_else(|| help::wrong("judge"))?;
+    let parameters = options.parameters()?;
     let core = files::read_words(Path::new(core))?;
     let round = files::read_words(Path::new(round))?;
-    let waiting = Waiting::new(&judging(&core, &round));
-    let answer = verdict_text(&core, &round);
+    let waiting = Waiting::new(&judging(parameters, &core, &round));
+    let answer = verdict_text_with(parameters, &core, &round);
     drop(waiting);
     let holds = |line: &str| line.starts_with("holds ");
     match (answer, most) {
         (Ok(line), Some(most)) if !holds(&line) => {
-            list(&core, &round, most, streams)?;
+            list(parameters, &core, &round, most, streams)?;
             Ok(Outcome::DoesNotHold)
         }
         (Ok(line), _) => {
@@ -31,23 +32,22 @@ pub fn judge(arguments: &[OsString], streams: &mut Streams) -> Result<Outcome, F
     }
 }
 
-/// How many failures are wanted, where more than the verdict is, and the two files.
-fn options(arguments: &[OsString]) -> Option<(Option<usize>, &[OsString; 2])> {
-    let (options, files) = arguments.split_last_chunk()?;
-    let options: Option<Vec<&str>> = options.iter().map(|option| option.to_str()).collect();
-    let most = match options?[..] {
-        [] => None,
-        ["--all"] => Some(usize::MAX),
-        ["--all", "--most", most] | ["--most", most, "--all"] => Some(most.parse().ok().filter(|&most| most > 0)?),
+/// The options, how many failures are wanted, where more than the verdict is, and the two files.
+fn options(arguments: &[OsString]) -> Option<(Options, Option<usize>, &[OsString; 2])> {
+    let (options, files) = Options::read(&["--rounds", "--all", "--most"], arguments)?;
+    let most = match (options.has("--all"), options.number("--most")) {
+        (false, None) => None,
+        (true, None) => Some(usize::MAX),
+        (true, Some(most @ 1..)) => Some(most as usize),
         _ => return None,
     };
-    Some((most, files))
+    Some((options, most, files.try_into().ok()?))
 }
 
 /// What is being done, for whoever waits.
-fn judging(core: &[u64], round: &[u64]) -> String {
+fn judging(parameters: Parameters, core: &[u64], round: &[u64]) -> String {
     let rows = core.len() / keccak::NUM_COLUMNS + round.len() / keccak_rnd::NUM_COLUMNS;
-    if in_writers_order(core, round) {
+    if in_writers_order(parameters, core, round) {
         format!("judging {rows} rows")
     } else {
         format!("judging {rows} rows, which are not in the writer's order: that can take long")
@@ -55,10 +55,16 @@ fn judging(core: &[u64], round: &[u64]) -> String {
 }
 
 /// Prints every failure, or the first of them, and says how many more there are.
-fn list(core: &[u64], round: &[u64], most: usize, streams: &mut Streams) -> Result<(), Failure> {
+fn list(
+    parameters: Parameters,
+    core: &[u64],
+    round: &[u64],
+    most: usize,
+    streams: &mut Streams,
+) -> Result<(), Failure> {
     let rows = core.len() / keccak::NUM_COLUMNS + round.len() / keccak_rnd::NUM_COLUMNS;
     let mut progress = Progress::new("rows, values and then lookups", 2 * rows as u64);
-    let found = failures(core, round, &mut |more| progress.add(more)).expect("the verdict refused nothing");
+    let found = failures(parameters, core, round, &mut |more| progress.add(more)).expect("the verdict refused nothing");
     drop(progress);
     let shown = most.min(found.len());
     found[..shown]

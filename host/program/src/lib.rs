@@ -3,6 +3,7 @@
 #![deny(unsafe_code)]
 #![warn(missing_docs)]
 
+mod charge;
 #[allow(unsafe_code)]
 pub mod closed;
 mod demo;
@@ -11,11 +12,15 @@ pub mod failures;
 mod files;
 mod help;
 mod judge;
+mod list;
+mod options;
 mod progress;
 mod tally;
 #[cfg(test)]
 mod tests;
+mod unaligned;
 mod write;
+mod write_all;
 
 use std::ffi::OsString;
 use std::io::{self, Read, Write};
@@ -25,7 +30,7 @@ use std::process::ExitCode;
 use keccak_tables::Refusal;
 
 const HINT: &str = "`keccak-tables help` tells the commands";
-const JUDGE_HINT: &str = "usage: judge CORE ROUND";
+const JUDGE_HINT: &str = "`judge --help` tells more";
 
 /// The streams of a run.
 pub struct Streams<'a> {
@@ -54,6 +59,7 @@ impl Outcome {
 #[derive(Debug)]
 enum Failure {
     Usage(String),
+    Refused(Refusal),
     File(PathBuf, io::Error),
     Stream(io::Error),
 }
@@ -132,6 +138,8 @@ fn named(name: &str, rest: &[OsString], streams: &mut Streams) -> Result<Outcome
         "write" => write::write(rest, streams),
         "judge" => judge::judge(rest, streams),
         "tally" => tally::tally(rest, streams),
+        "look" => charge::look(rest, streams),
+        "charge" => charge::charge(rest, streams),
         _ => explain::explain(rest, streams),
     }
 }
@@ -143,6 +151,10 @@ fn status(outcome: Result<Outcome, Failure>, hint: &str, streams: &mut Streams) 
         Ok(Outcome::Fine) => return 0,
         Ok(Outcome::DoesNotHold) => return 1,
         Err(Failure::Usage(message)) => format!("{message}\n{hint}\n"),
+        Err(Failure::Refused(refusal)) => {
+            let told = refused(refusal, &refusal.to_string(), streams);
+            return status(told, hint, streams);
+        }
         Err(Failure::File(path, error)) => format!("{}: {error}\n", path.display()),
         // Whoever reads the output has seen enough.
         Err(Failure::Stream(error)) if error.kind() == io::ErrorKind::BrokenPipe => return 2,

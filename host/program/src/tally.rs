@@ -1,40 +1,39 @@
-//! `tally [--shipped] [OPS]`: ten lines on an operation file, or its first fault.
+//! `tally [--shipped] [--floor F] [OPS]`: ten lines on an operation file, and one more on the records that they leave out; or its first fault.
 
 use std::ffi::OsString;
 use std::fs::File;
 use std::io::{self, Read};
 use std::path::Path;
 
+use super::options::Options;
 use super::progress::Progress;
-use super::{Failure, Outcome, Streams, file_refused, files};
+use super::{Failure, Outcome, Streams, file_refused, files, help};
 use keccak_tables::operation_file::{Sums, Tally};
 use keccak_tables::{Parameters, Refusal};
 
 pub fn tally(arguments: &[OsString], streams: &mut Streams) -> Result<Outcome, Failure> {
-    let (parameters, files) = match arguments {
-        [option, files @ ..] if option == "--shipped" => (Parameters::default().shipped(), files),
-        files => (Parameters::default(), files),
-    };
+    let wrong = || help::wrong("tally");
+    let (options, files) = Options::read(&["--shipped", "--floor"], arguments).ok_or_else(wrong)?;
     let answer = match files {
-        [] => sums_of(streams.input, 0, parameters)?,
+        [] => sums_of(streams.input, 0, options.parameters()?)?,
         [path] => {
-            let path = Path::new(path);
+            let (path, parameters) = (Path::new(path), options.parameters()?);
             let file = File::open(path);
             file.and_then(|mut file| sums_of_file(&mut file, parameters))
                 .map_err(Failure::file(path))?
         }
-        _ => {
-            let usage = "tally takes one file or none, and before it --shipped or nothing: [--shipped] [OPS]";
-            return Err(Failure::Usage(usage.into()));
-        }
+        _ => return Err(wrong()),
     };
     match answer {
-        Ok(sums) => print(&sums.lines(), streams),
+        Ok(sums) => {
+            write!(streams.output, "{sums}")?;
+            Ok(Outcome::Fine)
+        }
         Err(refusal) => file_refused(refusal, streams),
     }
 }
 
-/// Prints some of the lines of the sums.
+/// Prints some lines of names and numbers, as those of the sums.
 pub fn print(lines: &[(&str, u64)], streams: &mut Streams) -> Result<Outcome, Failure> {
     lines
         .iter()

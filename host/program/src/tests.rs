@@ -1,15 +1,24 @@
 //! What the commands print, write and answer.
 
+use std::collections::{HashMap, HashSet};
 use std::ffi::OsString;
 use std::fs;
 use std::io::{self, ErrorKind, Read, Write};
 use std::os::fd::AsRawFd;
-use std::path::PathBuf;
+use std::path::{Path, PathBuf};
 
 use super::{Streams, run, run_judge};
+use keccak_tables::bitwise::{self, NUM_COUNTERS};
+use keccak_tables::is_wh::{self, IsWhRows};
 use keccak_tables::operation_file::{RECORD_BYTES, write_operations};
 use keccak_tables::verdict::verdict_text;
-use keccak_tables::{OP_WORDS, Operation, P, keccak, keccak_rnd};
+use keccak_tables::{
+    Bus, BusInteraction, OP_WORDS, Operation, P, Parameters, Refusal, Side, keccak, keccak_rc, keccak_rnd, segment,
+    tuples,
+};
+
+/// A call that gives a tuple of a row by its index.
+type ByIndex = fn(&[u64], usize, &mut [u64]) -> Result<BusInteraction, Refusal>;
 
 type Run = fn(&[OsString], &mut Streams) -> u8;
 
@@ -48,6 +57,18 @@ impl Folder {
         fs::write(self.0.join(name), bytes).unwrap();
         self.path(name)
     }
+
+    /// The names of what is in it, in order.
+    fn names(&self) -> Vec<String> {
+        names(&self.0)
+    }
+}
+
+fn names(folder: &Path) -> Vec<String> {
+    let entries = fs::read_dir(folder).unwrap().map(|entry| entry.unwrap().file_name());
+    let mut names: Vec<String> = entries.map(|name| name.into_string().unwrap()).collect();
+    names.sort();
+    names
 }
 
 impl Drop for Folder {
@@ -87,6 +108,8 @@ fn demo_ends_well() {
         "round row 30 value 86",
         "round row 50 lookup 654",
         "core row 1 balance 3",
+        "refused 4 18446744073709551424",
+        "refused 7 4100",
     ] {
         assert!(output.contains(&format!("\n    {line}")), "{line}");
     }
@@ -117,7 +140,7 @@ fn written_tables_are_those_of_the_calls() {
 #[test]
 fn written_honest_tables_hold() {
     let folder = Folder::new("honest");
-    let (ops, _) = super::demo::honest().unwrap();
+    let (ops, _) = super::demo::honest(Parameters::default()).unwrap();
     let file = folder.put("ops", &records(&ops));
     let (core, round) = (folder.path("core"), folder.path("round"));
     assert_eq!(ran(run, &["write", &file, &core, &round], &[]).0, 0);
@@ -125,6 +148,176 @@ fn written_honest_tables_hold() {
         ran(run, &["judge", &core, &round], &[]),
         (0, "holds 3\n".into(), String::new())
     );
+}
+
+/// Tables of each number of rounds: written as the calls write them, more than are read at once too, and judged by their own number and by
+/// others.
+#[test]
+fn tables_of_every_number_of_rounds_hold_by_it_alone() {
+    let folder = Folder::new("rounds");
+    let (file, core, round) = (folder.path("ops"), folder.path("core"), folder.path("round"));
+    for rounds in 1..=24 {
+        let parameters = Parameters::default().rounds(rounds);
+        let number = &rounds.to_string();
+        for ops in [operations(if rounds % 8 == 0 { 130 } else { 0 }), honest(rounds)] {
+            folder.put("ops", &records(&ops));
+            let written = ran(run, &["write", "--rounds", number, &file, &core, &round], &[]);
+            let n = ops.len() / OP_WORDS;
+            let height = (n * rounds as usize).next_power_of_two().max(4);
+            let lines = format!(
+                "ops {n}\ncore-rows {}\nround-rows {height}\n",
+                n.next_power_of_two().max(4)
+            );
+            assert_eq!(written, (0, lines, String::new()));
+            assert!(fs::read(&core).unwrap() == bytes(&keccak::keccak_table(&ops).unwrap()));
+            let table = keccak_rnd::keccak_rnd_table_with(parameters, &ops).unwrap();
+            assert!(
+                fs::read(&round).unwrap() == bytes(&table),
+                "{n} operations, {rounds} rounds"
+            );
+        }
+        let judge = |options: &[&str]| ran(run_judge, &[options, &[&core, &round]].concat(), &[]);
+        for options in [
+            &["--rounds", number][..],
+            &["--all", "--rounds", number],
+            &["--rounds", number, "--all"],
+        ] {
+            assert_eq!(judge(options), (0, "holds 3\n".into(), String::new()), "{options:?}");
+        }
+        for other in (1..=24).filter(|&other| other != rounds && (other == 24 || other.abs_diff(rounds) == 1)) {
+            let number = &other.to_string();
+            let (status, line, _) = judge(&["--rounds", number]);
+            let begins = format!("core row 0 balance 2 Keccak 1 0 {} ", 24 - other);
+            assert!(status == 1 && line.starts_with(&begins), "{rounds} by {other}: {line}");
+            // Each call's INPUT is not received, and its first round row receives what nobody sends.
+            let lines = (0..3).map(|call| format!("core row {call} balance 2\n"));
+            let firsts = (0..3).map(|call| format!("round row {} balance 0\n", call * rounds));
+            let all = judge(&["--all", "--rounds", number]);
+            assert_eq!(all, (1, lines.chain(firsts).collect(), String::new()));
+        }
+    }
+    // Without an option the rounds are 24.
+    assert_eq!(ran(run, &["judge", &core, &round], &[]).1, "holds 3\n");
+}
+
+/// Tables of each floor: written as the calls write them, of lists that fill less than the floor and more; they hold as those of floor 4 do.
+#[test]
+fn tables_of_every_floor_hold() {
+    let folder = Folder::new("floors");
+    let (file, core, round) = (folder.path("ops"), folder.path("core"), folder.path("round"));
+    for power in 2..=9 {
+        let floor = 1usize << power;
+        let parameters = Parameters::default().rounds(5).floor(floor as u64);
+        let number = &floor.to_string();
+        for ops in [operations(0), operations(70), honest(5)] {
+            folder.put("ops", &records(&ops));
+            let arguments = ["write", "--floor", number, "--rounds", "5", &file, &core, &round];
+            let written = ran(run, &arguments, &[]);
+            let n = ops.len() / OP_WORDS;
+            let height = |rows: usize| rows.next_power_of_two().max(floor);
+            let lines = format!("ops {n}\ncore-rows {}\nround-rows {}\n", height(n), height(5 * n));
+            assert_eq!(written, (0, lines, String::new()));
+            let tables = [
+                keccak::keccak_table_with(parameters, &ops).unwrap(),
+                keccak_rnd::keccak_rnd_table_with(parameters, &ops).unwrap(),
+            ];
+            for (path, table) in [&core, &round].into_iter().zip(tables) {
+                assert!(fs::read(path).unwrap() == bytes(&table), "{path} of {n}, floor {floor}");
+            }
+        }
+        let judged = ran(run_judge, &["--rounds", "5", &core, &round], &[]);
+        assert_eq!(judged, (0, "holds 3\n".into(), String::new()));
+    }
+}
+
+/// As the rounds, which are told before the floor; and nothing is read of standard input.
+#[test]
+fn another_floor_is_refused_before_any_file_is_read() {
+    let folder = Folder::new("no-floor");
+    let [a, b, c] = ["a", "b", "c"].map(|name| folder.path(name));
+    let floors = [
+        "0",
+        "1",
+        "2",
+        "3",
+        "5",
+        "006",
+        "65537",
+        "131072",
+        "9223372036854775808",
+        "18446744073709551615",
+    ];
+    for floor in floors {
+        let number: u64 = floor.parse().unwrap();
+        for arguments in [
+            &["write", "--floor", floor, &a, &b, &c][..],
+            &["write", "--all", "--floor", floor, &a, &b],
+            &["write", "--floor", floor, "--rounds", "1", "--shipped", "--all", &a, &b],
+            &["tally", "--floor", floor],
+            &["tally", "--floor", floor, "--shipped", &a],
+            &["look", "--shipped", "--floor", floor, &a, &b],
+            &["charge", "--floor", floor, "--rounds", "24", &a, &b],
+        ] {
+            let line = format!("refused 9 {number}\n");
+            let words = format!("a floor of the tables' heights is a power of two from 4 to 65536, and not {number}\n");
+            assert_eq!(ran(run, arguments, b"KN"), (1, line, words), "{arguments:?}");
+        }
+        for arguments in [
+            ["write", "--floor", floor, "--rounds", "25", &a, &b, &c].as_slice(),
+            &["write", "--all", "--rounds", "25", "--floor", floor, &a, &b],
+            &["look", "--rounds", "25", "--floor", floor, &a, &b],
+            &["charge", "--floor", floor, "--rounds", "25", &a, &b],
+        ] {
+            let (status, line, _) = ran(run, arguments, &[]);
+            assert_eq!((status, line.as_str()), (1, "refused 8 25\n"), "{arguments:?}");
+        }
+    }
+    assert!(folder.names().is_empty());
+    let mut input = Broken(ErrorKind::TimedOut);
+    let (mut output, mut errors) = (Vec::new(), Vec::new());
+    let mut streams = Streams {
+        input: &mut input,
+        output: &mut output,
+        errors: &mut errors,
+    };
+    assert_eq!(run(&["tally", "--floor", "5"].map(OsString::from), &mut streams), 1);
+    assert_eq!(output, b"refused 9 5\n");
+}
+
+/// The operations of three calls, by so many rounds.
+fn honest(rounds: u64) -> Vec<u64> {
+    super::demo::honest(Parameters::default().rounds(rounds)).unwrap().0
+}
+
+/// Whatever else is wrong with the files, of which there is none; and no file is made.
+#[test]
+fn another_number_of_rounds_is_refused_before_any_file_is_read() {
+    let folder = Folder::new("no-rounds");
+    let [a, b, c] = ["a", "b", "c"].map(|name| folder.path(name));
+    for rounds in ["0", "25", "000", "18446744073709551615"] {
+        let number: u64 = rounds.parse().unwrap();
+        for arguments in [
+            &["write", "--rounds", rounds, &a, &b, &c][..],
+            &["write", "--all", "--rounds", rounds, &a, &b],
+            &["write", "--rounds", rounds, "--shipped", "--all", &a, &b],
+            &["judge", "--rounds", rounds, &a, &b],
+            &["judge", "--all", "--rounds", rounds, "--most", "3", &a, &b],
+            &["look", "--rounds", rounds, &a, &b],
+            &["charge", "--shipped", "--rounds", rounds, &a, &b],
+        ] {
+            let line = format!("refused 8 {number}\n");
+            let words = format!("an operation has 1 to 24 rounds, and not {number}\n");
+            assert_eq!(ran(run, arguments, &[]), (1, line, words), "{arguments:?}");
+        }
+    }
+    assert!(folder.names().is_empty());
+    let mut streams = Streams {
+        input: &mut &[][..],
+        output: &mut Broken(ErrorKind::StorageFull),
+        errors: &mut Vec::new(),
+    };
+    let arguments = ["judge", "--rounds", "0", &a, &b].map(OsString::from);
+    assert_eq!(run(&arguments, &mut streams), 2);
 }
 
 #[test]
@@ -143,6 +336,58 @@ fn refused_files_leave_the_tables_alone() {
     }
     assert_eq!(fs::read(&core).unwrap(), b"before");
     assert!(!fs::exists(&round).unwrap());
+}
+
+/// Puts an address into a record of a file.
+fn set_address(file: &mut [u8], record: usize, address: u64) {
+    file[record * RECORD_BYTES + 10..][..8].copy_from_slice(&address.to_le_bytes());
+}
+
+/// A file of 130 records, two of them at addresses that are no multiples of 8.
+fn records_off_the_eight() -> Vec<u8> {
+    let mut file = records(&operations(130));
+    set_address(&mut file, 100, 4100);
+    set_address(&mut file, 120, 18_446_744_073_709_551_423);
+    file
+}
+
+/// What is said of it.
+const OFF_THE_EIGHT: &str = "address 4100 is not a multiple of 8, and the row of an operation there can't be proved; 2 of the 130 records are \
+                             at such addresses, which `tally` leaves out\n";
+
+/// What can't be proved is not written: the first such address of the whole file is told, and how many there are; but what `tally` refuses
+/// comes first, and `tally` counts what is left.
+#[test]
+fn records_off_the_eight_are_counted_and_not_written() {
+    let folder = Folder::new("off-the-eight");
+    let mut file = records_off_the_eight();
+    let off = folder.put("off", &file);
+    set_address(&mut file, 129, 18_446_744_073_709_551_424);
+    let high = folder.put("high", &file);
+    let cut = folder.put("cut", &file[..129 * RECORD_BYTES + 1]);
+    let (core, round) = (folder.put("core", b"before"), folder.path("round"));
+    let written = ran(run, &["write", &off, &core, &round], &[]);
+    assert_eq!(written, (1, "refused 7 4100\n".into(), OFF_THE_EIGHT.into()));
+    for (path, line) in [
+        (&high, "refused 4 18446744073709551424\n".to_string()),
+        (&cut, format!("refused 6 {}\n", 129 * RECORD_BYTES)),
+    ] {
+        assert_eq!(ran(run, &["write", path, &core, &round], &[]).1, line);
+        assert_eq!(ran(run, &["tally", path], &[]).1, line);
+    }
+    assert_eq!(fs::read(&core).unwrap(), b"before");
+    assert!(!fs::exists(&round).unwrap());
+
+    let lines = ran(run, &["tally"], &records(&operations(128))).1 + "unaligned 2\n";
+    for arguments in [&["tally", &off][..], &["tally", "--shipped", &off]] {
+        assert_eq!(ran(run, arguments, &[]), (0, lines.clone(), String::new()));
+    }
+    // A file of such records alone is one without operations.
+    let alone = &fs::read(&off).unwrap()[100 * RECORD_BYTES..][..RECORD_BYTES];
+    for options in [&["tally"][..], &["tally", "--shipped"]] {
+        let lines = ran(run, options, &[]).1 + "unaligned 1\n";
+        assert_eq!(ran(run, options, alone), (0, lines, String::new()));
+    }
 }
 
 /// The same file by another name: a hard link, a longer path to a file that there is not yet; nothing that was there is lost,
@@ -206,6 +451,384 @@ fn what_cannot_be_written_leaves_the_tables_alone() {
     assert_eq!((status, output.as_str()), (2, ""));
     assert!(errors.starts_with(&pipe), "{errors}");
     assert_eq!(fs::read(&core).unwrap(), b"before");
+}
+
+/// Counters that are small, some about p, and words past them that are no elements.
+fn some_counters() -> Vec<u64> {
+    let mut counters: Vec<u64> = (0..NUM_COUNTERS as u64).map(|place| place % 1000).collect();
+    counters[3] = P - 1;
+    counters[NUM_COUNTERS - 6] = P - 2;
+    counters.extend([P, u64::MAX]);
+    counters
+}
+
+#[test]
+fn a_look_changes_no_file_and_a_charge_is_what_it_said() {
+    let folder = Folder::new("charged");
+    let before = some_counters();
+    let today = Parameters::default();
+    for (count, options, parameters) in [
+        (0, &[][..], today),
+        (0, &["--shipped"], today.shipped()),
+        (0, &["--shipped", "--rounds", "1"], today.shipped().rounds(1)),
+        (1, &["--shipped"], today),
+        (5, &[], today),
+        (5, &["--rounds", "12"], today.rounds(12)),
+        (130, &["--rounds", "1", "--shipped"], today.rounds(1)),
+        (130, &[], today),
+        (0, &["--floor", "64"], today.floor(64)),
+        (0, &["--floor", "00064", "--shipped"], today.floor(64).shipped()),
+        (5, &["--floor", "256", "--rounds", "3"], today.rounds(3).floor(256)),
+    ] {
+        let ops = operations(count);
+        let look = segment::Look::with(parameters, &ops, &before).unwrap();
+        let (file, counters) = (
+            folder.put("ops", &records(&ops)),
+            folder.put("counters", &bytes(&before)),
+        );
+        let lines = |largest: bool| -> String {
+            let line = |kind: segment::KindLook| match largest {
+                true => format!("{} {} {}\n", kind.kind.name(), kind.sum, kind.largest),
+                false => format!("{} {}\n", kind.kind.name(), kind.sum),
+            };
+            look.kinds().map(line).concat()
+        };
+        let run_on = |name| ran(run, &[&[name], options, &[&file, &counters]].concat(), &[]);
+        assert_eq!(run_on("look"), (0, lines(true), String::new()));
+        assert!(fs::read(&counters).unwrap() == bytes(&before), "a look changes nothing");
+        assert_eq!(run_on("charge"), (0, lines(false), String::new()));
+        let after = [look.counters(), &before[NUM_COUNTERS..]].concat();
+        assert!(
+            fs::read(&counters).unwrap() == bytes(&after),
+            "{count} operations, {options:?}"
+        );
+        assert_eq!(folder.names(), ["counters", "ops"]);
+    }
+    let shipped = ran(run, &["look", "--shipped", "/dev/null", &folder.path("counters")], &[]).1;
+    assert!(shipped.starts_with("MSB8 0 "), "{shipped}");
+    assert!(shipped.contains("\nARE_BYTES 880 "), "{shipped}");
+    let arguments = [
+        "look",
+        "--floor",
+        "65536",
+        "--shipped",
+        "/dev/null",
+        &folder.path("counters"),
+    ];
+    let tall = ran(run, &arguments, &[]).1;
+    assert!(tall.contains("\nARE_BYTES 14417920 "), "{tall}");
+    let names = shipped.lines().map(|line| line.split(' ').next().unwrap());
+    let kinds = "MSB8 MSB16 ZERO ARE_BYTES IS_HALF IS_B20 HWSL AND OR XOR";
+    assert!(names.eq(kinds.split(' ')), "{shipped}");
+}
+
+/// The file of operations is told first, then the counters; no file is changed. Addresses off the eight are no fault of the file: the call
+/// tells them, after counters that are too few and before one that is no element.
+#[test]
+fn a_refused_charge_leaves_the_counters_alone() {
+    let folder = Folder::new("charge-refused");
+    let ops = records(&operations(2));
+    let mut high = ops.clone();
+    set_address(&mut high, 1, u64::MAX);
+    let mut alone = ops[..RECORD_BYTES].to_vec();
+    set_address(&mut alone, 0, 12);
+    let mut large = some_counters();
+    large[1_000_007] = P;
+    let (ops, high, cut) = (
+        folder.put("ops", &ops),
+        folder.put("high", &high),
+        folder.put("cut", &ops[..RECORD_BYTES + 5]),
+    );
+    let (off, alone) = (folder.put("off", &records_off_the_eight()), folder.put("alone", &alone));
+    let (short, large) = (
+        folder.put("short", &bytes(&large[..NUM_COUNTERS - 1])),
+        folder.put("large", &bytes(&large)),
+    );
+    let names = folder.names();
+    let cases = [
+        (&cut, &short, "refused 6 418\n", ""),
+        (&high, &large, "refused 4 18446744073709551615\n", ""),
+        (
+            &ops,
+            &short,
+            "refused 3 10485760\n",
+            "COUNTERS has 10485759 words, and 10485760 are needed\n",
+        ),
+        (&off, &short, "refused 3 10485760\n", ""),
+        (&off, &large, "refused 7 4100\n", OFF_THE_EIGHT),
+        (&alone, &large, "refused 7 12\n", ""),
+        (
+            &ops,
+            &large,
+            "refused 5 1000007\n",
+            "COUNTERS, word 1000007 (row 100000, AND): 18446744069414584321 is not below p\n",
+        ),
+    ];
+    for (ops, counters, line, said) in cases {
+        let before = fs::read(counters).unwrap();
+        for name in ["look", "charge"] {
+            let (status, output, errors) = ran(run, &[name, ops, counters], &[]);
+            assert_eq!((status, output.as_str()), (1, line), "{name}");
+            assert!(!errors.is_empty() && (said.is_empty() || errors == said), "{errors}");
+            assert!(fs::read(counters).unwrap() == before, "{name}: {line}");
+        }
+    }
+    assert_eq!(folder.names(), names);
+}
+
+/// Whatever goes wrong, the counters are as they were and nothing is left beside them.
+#[test]
+fn a_charge_that_fails_leaves_the_counters_alone() {
+    let folder = Folder::new("charge-fails");
+    let ops = folder.put("ops", &records(&operations(1)));
+    let before = bytes(&vec![7; NUM_COUNTERS]);
+    let counters = folder.put("counters", &before);
+    let odd = folder.put("odd", &[0; 9]);
+    let linked = folder.path("linked");
+    fs::hard_link(&ops, &linked).unwrap();
+    let names = folder.names();
+    for (arguments, said) in [
+        (["charge", &ops, &linked], "OPS and COUNTERS must be two files\n"),
+        (["charge", &ops, &odd], "9 bytes are no whole words\n"),
+        (["look", &ops, &odd], "9 bytes are no whole words\n"),
+        (["charge", &ops, "/dev/zero"], "it is no file"),
+        (["charge", &ops, &folder.path("none")], "No such file"),
+        (["look", &folder.path("none"), &counters], "No such file"),
+        (["charge", &ops, &folder.path("")], "directory"),
+    ] {
+        let (status, output, errors) = ran(run, &arguments, &[]);
+        assert_eq!((status, output.as_str()), (2, ""), "{arguments:?}");
+        assert!(errors.contains(said), "{arguments:?}: {errors}");
+    }
+    // The lines could not be printed, so a caller who sees the status would charge again.
+    for kind in [ErrorKind::StorageFull, ErrorKind::BrokenPipe] {
+        let mut streams = Streams {
+            input: &mut &[][..],
+            output: &mut Broken(kind),
+            errors: &mut Vec::new(),
+        };
+        let arguments: [OsString; 3] = ["charge".into(), ops.clone().into(), counters.clone().into()];
+        assert_eq!(run(&arguments, &mut streams), 2);
+    }
+    assert!(fs::read(&counters).unwrap() == before);
+    assert_eq!(folder.names(), names);
+}
+
+#[test]
+fn every_table_is_written_with_its_multiplicities() {
+    let today = Parameters::default();
+    for (count, options, parameters) in [
+        (0, &[][..], today),
+        (0, &["--shipped"], today.shipped()),
+        (0, &["--rounds", "3", "--shipped"], today.shipped().rounds(3)),
+        (5, &[], today),
+        (5, &["--rounds", "3"], today.rounds(3)),
+        (70, &["--shipped"], today),
+        (0, &["--floor", "32", "--shipped"], today.shipped().floor(32)),
+        (5, &["--floor", "32", "--rounds", "3"], today.rounds(3).floor(32)),
+    ] {
+        let shipped = count > 0 || options.contains(&"--shipped");
+        let folder = Folder::new(&format!("all-{count}-{}", options.concat()));
+        let ops = operations(count);
+        let (file, all) = (folder.put("ops", &records(&ops)), folder.path("all/"));
+        let (status, output, errors) = ran(run, &[&["write", "--all"], options, &[&all, &file]].concat(), &[]);
+        assert_eq!((status, errors.as_str()), (0, ""));
+        let rows = IsWhRows::of_operations(&ops).unwrap();
+        let mut constants = vec![0; keccak_rc::TABLE_WORDS];
+        keccak_rc::generate_keccak_rc_trace(&mut constants).unwrap();
+        keccak_rc::update_multiplicities_with(parameters, &mut constants, count).unwrap();
+        let mut counters = vec![0; NUM_COUNTERS];
+        segment::charge_with(parameters, &ops, &mut counters).unwrap();
+        is_charged(&counters, count, parameters, shipped);
+        rows.charge(&mut counters).unwrap();
+        let mut table = vec![0; bitwise::TABLE_WORDS];
+        bitwise::generate_bitwise_trace(&mut table).unwrap();
+        bitwise::fill_multiplicities(&counters, &mut table).unwrap();
+        // A table that is not shipped, or of no rows, is not written, and has no rows in the lines.
+        let there = |is_there, table| if is_there { table } else { Vec::new() };
+        let files = [
+            ("bitwise", table),
+            ("constants", constants),
+            (
+                "core",
+                there(shipped, keccak::keccak_table_with(parameters, &ops).unwrap()),
+            ),
+            ("is_wh", there(count > 0, rows.table().unwrap())),
+            (
+                "round",
+                there(shipped, keccak_rnd::keccak_rnd_table_with(parameters, &ops).unwrap()),
+            ),
+        ];
+        let lines = format!(
+            "ops {count}\ncore-rows {}\nround-rows {}\nis-wh-rows {}\nconstant-rows 32\nbitwise-rows 1048576\n",
+            files[2].1.len() / 486,
+            files[4].1.len() / 1480,
+            files[3].1.len() / 4
+        );
+        assert_eq!(output, lines);
+        let written: Vec<_> = files.into_iter().filter(|(_, words)| !words.is_empty()).collect();
+        for (name, words) in &written {
+            let found = fs::read(folder.path("all/") + name).unwrap();
+            assert!(found == bytes(words), "{name}, {count}");
+        }
+        let names = names(all.as_ref());
+        assert!(written.iter().map(|(name, _)| *name).eq(names), "{count}, {options:?}");
+        assert_eq!(folder.names(), ["all", "ops"]);
+    }
+}
+
+/// What a segment sends on AreBytes, as `tally` has it of 24 rounds: 220 pairs in each row of the round table, four in a core row of a call.
+fn is_charged(counters: &[u64], count: u64, parameters: Parameters, shipped: bool) {
+    let are_bytes: u64 = counters.iter().skip(3).step_by(10).sum();
+    let height = (parameters.rounds * count).next_power_of_two().max(parameters.floor);
+    let sent = if shipped { 4 * count + 220 * height } else { 0 };
+    assert_eq!(are_bytes, sent, "{count} operations, {shipped}");
+}
+
+/// Between the files that are written every bus adds up, tuple by tuple: what is sent is received, also by and from padding rows. Memory and
+/// system calls are other tables' matter.
+#[test]
+fn every_bus_adds_up_over_the_tables_that_are_written() {
+    let (honest, fewer) = (honest(24), honest(5));
+    let five = ["bitwise", "constants", "core", "is_wh", "round"];
+    // Three calls send 3 * 19,393 on ByteAlu alone, those of five rounds 3 * (5 * 808 + 1); a padding row of the round table sends 220.
+    for (ops, options, files, least) in [
+        (&[][..], &[][..], &["bitwise", "constants"][..], 0),
+        (&[], &["--shipped"], &["bitwise", "constants", "core", "round"], 880),
+        (&honest, &[], &five, 3 * 19_393),
+        (&honest, &["--shipped"], &five, 3 * 19_393),
+        (&fewer, &["--rounds", "5"], &five, 3 * 4041),
+        (
+            &[],
+            &["--shipped", "--floor", "64"],
+            &["bitwise", "constants", "core", "round"],
+            64 * 220,
+        ),
+        (&fewer, &["--floor", "64", "--rounds", "5"], &five, 3 * 4041 + 49 * 220),
+    ] {
+        let rounds = if ops == fewer { 5 } else { 24 };
+        let folder = Folder::new(&format!("adds-up-{}-{}", ops.len(), options.len()));
+        let (file, path) = (folder.put("ops", &records(ops)), folder.path("all"));
+        let arguments = [&["write", "--all"], options, &[&path, &file]].concat();
+        assert_eq!(ran(run, &arguments, &[]).0, 0);
+        assert_eq!(names(path.as_ref()), files, "{arguments:?}");
+        let (sent, balance) = balance(Parameters::default().rounds(rounds), path.as_ref());
+        assert!(
+            sent >= least && (least > 0 || sent == 0),
+            "{arguments:?}: {sent} are sent"
+        );
+        let open: HashSet<Bus> = balance
+            .into_iter()
+            .filter(|(_, sum)| *sum != 0)
+            .map(|((bus, _), _)| bus)
+            .collect();
+        let others = match ops {
+            [] => HashSet::new(),
+            _ => HashSet::from([Bus::Memw, Bus::Ecall]),
+        };
+        assert_eq!(open, others, "{arguments:?}");
+    }
+}
+
+/// How many tuples the tables of a folder send, and by bus and values how often one is sent more than received.
+fn balance(parameters: Parameters, folder: &Path) -> (u64, HashMap<(Bus, Vec<u64>), i128>) {
+    let (mut sent, mut sums) = (0, HashMap::new());
+    let mut add = |tuple: BusInteraction, values: &[u64]| {
+        if tuple.multiplicity == 0 {
+            return;
+        }
+        let sum = sums.entry((tuple.bus, values[..tuple.length].to_vec())).or_insert(0);
+        match tuple.side {
+            Side::Sender => {
+                sent += tuple.multiplicity;
+                *sum += i128::from(tuple.multiplicity);
+            }
+            Side::Receiver => *sum -= i128::from(tuple.multiplicity),
+        }
+    };
+    let mut words = [0; keccak_rnd::TUPLE_WORDS];
+    for name in names(folder) {
+        let bytes = fs::read(folder.join(&name)).unwrap();
+        let table: Vec<u64> = bytes
+            .as_chunks()
+            .0
+            .iter()
+            .map(|&word| u64::from_le_bytes(word))
+            .collect();
+        let mut by_index = |columns: usize, tuples: usize, bus_interaction: ByIndex| {
+            // A row that nobody looks up, and that looks up nothing, would only take time.
+            for row in table
+                .chunks_exact(columns)
+                .filter(|row| name != "bitwise" || row[11..] != [0; 10])
+            {
+                for index in 0..tuples {
+                    let mut values = [0; keccak_rnd::MAX_TUPLE_LENGTH];
+                    let tuple = bus_interaction(row, index, &mut values).unwrap();
+                    add(tuple, &values);
+                }
+            }
+        };
+        match name.as_str() {
+            "bitwise" => by_index(
+                bitwise::NUM_COLUMNS,
+                bitwise::NUM_LOOKUP_TYPES,
+                bitwise::bus_interaction,
+            ),
+            "constants" => by_index(keccak_rc::NUM_COLUMNS, 1, keccak_rc::bus_interaction),
+            "is_wh" => by_index(is_wh::NUM_COLUMNS, is_wh::NUM_TUPLES, is_wh::bus_interaction),
+            "core" => {
+                for row in table.chunks_exact(keccak::NUM_COLUMNS) {
+                    keccak::bus_interactions_with(parameters, row, 0, &mut words).unwrap();
+                    tuples(&words[..keccak::TUPLE_WORDS]).for_each(|(tuple, values)| add(tuple, values));
+                }
+            }
+            _ => {
+                for row in table.chunks_exact(keccak_rnd::NUM_COLUMNS) {
+                    keccak_rnd::bus_interactions(row, &mut words).unwrap();
+                    tuples(&words).for_each(|(tuple, values)| add(tuple, values));
+                }
+            }
+        }
+    }
+    (sent, sums)
+}
+
+/// A folder that holds something, or what is none, is left alone; an empty one is filled and keeps its rights.
+#[test]
+fn every_table_is_there_or_none() {
+    use std::os::unix::fs::PermissionsExt;
+    let folder = Folder::new("all-or-none");
+    let ops = folder.put("ops", &records(&operations(1)));
+    let cut = folder.put("cut", &records(&operations(1))[1..]);
+    let mut file = records(&operations(1));
+    set_address(&mut file, 0, 12);
+    let (off, alone) = (folder.put("off", &records_off_the_eight()), folder.put("alone", &file));
+    let (full, empty) = (folder.path("full"), folder.path("empty"));
+    fs::create_dir(&full).unwrap();
+    fs::write(folder.path("full/core"), b"before").unwrap();
+    fs::create_dir(&empty).unwrap();
+    fs::set_permissions(&empty, fs::Permissions::from_mode(0o750)).unwrap();
+    let names = folder.names();
+    for (all, ops, status, line) in [
+        (&full, &ops, 2, ""),
+        (&ops, &ops, 2, ""),
+        (&folder.path("none/all"), &ops, 2, ""),
+        (&empty, &cut, 1, "refused 6 0\n"),
+        (&empty, &off, 1, "refused 7 4100\n"),
+        (&folder.path("none"), &alone, 1, "refused 7 12\n"),
+        (&empty, &folder.path("none"), 2, ""),
+    ] {
+        let answer = ran(run, &["write", "--all", all, ops], &[]);
+        assert_eq!((answer.0, answer.1.as_str()), (status, line), "{all}");
+        assert!(!answer.2.is_empty());
+    }
+    assert_eq!(folder.names(), names);
+    assert_eq!(fs::read(folder.path("full/core")).unwrap(), b"before");
+    assert_eq!(fs::read_dir(&empty).unwrap().count(), 0);
+    assert_eq!(ran(run, &["write", "--all", &empty, &ops], &[]).0, 0);
+    assert_eq!(fs::read_dir(&empty).unwrap().count(), 5);
+    assert_eq!(fs::metadata(&empty).unwrap().permissions().mode() & 0o777, 0o750);
+    assert_eq!(folder.names(), names);
 }
 
 #[test]
@@ -320,6 +943,30 @@ fn tallied_files() {
         let (status, output, _) = ran(run, options, &[0x4B, 0x4E]);
         assert_eq!((status, output.as_str()), (1, "refused 6 0\n"));
     }
+    // A floor as high as the round table's rows changes the core table alone; a higher one both, and what padding rows send.
+    for (floor, core, round, bytes) in [
+        ("004", 4, 32, 7044),
+        ("32", 32, 32, 7044),
+        ("65536", 65_536, 65_536, 14_417_924),
+    ] {
+        let told = lines
+            .replace("core-rows 4", &format!("core-rows {core}"))
+            .replace("round-rows 32", &format!("round-rows {round}"))
+            .replace("AreBytes 7044", &format!("AreBytes {bytes}"));
+        for options in [&["--floor", floor][..], &["--shipped", "--floor", floor]] {
+            let arguments = [&["tally"], options, &[&path]].concat();
+            assert_eq!(
+                ran(run, &arguments, &[]),
+                (0, told.clone(), String::new()),
+                "{arguments:?}"
+            );
+        }
+    }
+    let empty = ran(run, &["tally", "--floor", "8", "--shipped"], &[]).1;
+    assert!(
+        empty.starts_with("ops 0\ncore-rows 8\nround-rows 8\nByteAlu 0\nAreBytes 1760\n"),
+        "{empty}"
+    );
 }
 
 /// Bytes one at a time, each after an interruption.
@@ -431,6 +1078,10 @@ fn explanations_say_operands() {
     assert!(chi.contains("sent on ByteAlu, MU times; its values (4):\n           0  0 (AND)\n"));
     assert!(chi.contains("255 - ROT_LEFT[0][1][3] - ROT_RIGHT[0][1][1]\n"));
     assert!(chi.ends_with("           3  CHI_ANDS[0][3][7], column 1190\n"));
+    let before = text(["core", "tuple", "2"]);
+    assert!(before.contains("  INPUT is given to the first round\n"));
+    assert!(before.contains("\n           2  the first round, 24 - NR where there are NR rounds: 0 of all 24\n"));
+    assert!(text(["core", "tuple", "3"]).contains("\n           2  24\n"));
     let register = text(["core", "tuple", "1"]);
     assert!(register.contains("      2 to 7  0\n"));
     assert!(register.contains("    19 to 20  TIMESTAMP[0] to TIMESTAMP[1], columns 0 to 1\n"));
@@ -456,7 +1107,11 @@ fn lines_of_verdicts_are_explained() {
         "explain", "round", "row", "7", "lookup", "223", "ByteAlu", "2", "17", "5", "21",
     ];
     assert_eq!(ran(run, &parts, &[]), theta);
-    assert!(text("holds 3").1.starts_with("Both tables hold."));
+    let holds = text("holds 3").1;
+    assert!(
+        holds.starts_with("Both tables hold.") && holds.contains("Keccak-p[1600, NR]"),
+        "{holds}"
+    );
     assert!(
         text("core row 0 value 51")
             .1
@@ -491,7 +1146,7 @@ fn lines_of_verdicts_are_explained() {
 
 #[test]
 fn wrong_usage_has_status_2() {
-    let cases: [&[&str]; 11] = [
+    let cases: [&[&str]; 38] = [
         &[],
         &["undo"],
         &["demo", "1"],
@@ -501,6 +1156,33 @@ fn wrong_usage_has_status_2() {
         &["tally", "a", "b"],
         &["tally", "a", "--shipped"],
         &["tally", "--shipped", "a", "b"],
+        &["look", "ops"],
+        &["look", "ops", "counters", "--shipped"],
+        &["charge", "--all", "ops", "counters"],
+        &["charge", "--shipped", "--shipped", "ops", "counters"],
+        &["write", "--all", "folder"],
+        &["write", "--all", "folder", "ops", "--shipped"],
+        &["write", "--shipped", "ops", "core", "round"],
+        &["write", "--rounds", "ops", "core", "round"],
+        &["write", "--rounds", "12", "--rounds", "12", "ops", "core", "round"],
+        &["write", "--rounds", "25", "a", "b", "b"],
+        &["write", "--all", "--rounds", "12", "folder"],
+        &["judge", "--rounds", "12", "core"],
+        &["judge", "--rounds", "", "core", "round"],
+        &["judge", "--rounds", "-1", "core", "round"],
+        &["judge", "core", "round", "--rounds", "12"],
+        &["tally", "--rounds", "12", "ops"],
+        &["look", "--rounds", "18446744073709551616", "ops", "counters"],
+        &["charge", "--rounds", "twelve", "ops", "counters"],
+        &["write", "--floor", "ops", "core", "round"],
+        &["write", "--floor", "8", "--floor", "8", "ops", "core", "round"],
+        &["write", "--floor", "5", "ops", "core"],
+        &["write", "--all", "--floor", "", "folder", "ops"],
+        &["judge", "--floor", "4", "core", "round"],
+        &["tally", "--floor"],
+        &["tally", "--floor", "5", "a", "b"],
+        &["look", "--floor", "18446744073709551616", "ops", "counters"],
+        &["charge", "--floor", "0x8", "ops", "counters"],
         &["explain", "core", "row", "1"],
         &["explain", "middle", "column", "1"],
     ];
@@ -515,7 +1197,7 @@ fn wrong_usage_has_status_2() {
 fn every_command_has_its_help() {
     let (status, help, _) = ran(run, &["help"], &[]);
     assert_eq!(status, 0);
-    for name in ["demo", "write", "judge", "tally", "explain"] {
+    for name in ["demo", "write", "judge", "tally", "look", "charge", "explain"] {
         assert!(help.contains(&format!("\n  keccak-tables {name}")));
         let told = ran(run, &["help", name], &[]);
         assert!(told.0 == 0 && told.1.starts_with(&format!("usage: keccak-tables {name}")) && told.2.is_empty());

@@ -1,4 +1,5 @@
-//! `write OPS CORE ROUND`: the two tables of an operation file.
+//! `write OPS CORE ROUND`: the two tables of an operation file; `--rounds NR` makes those of NR rounds, `--floor F` those of F rows at least.
+//! `write --all` is in `write_all.rs`.
 //!
 //! The file is read twice: once to its end, for its sums and faults, then in pieces of a few records. The rows of an
 //! operation don't depend on the others, so each piece's rows are made on their own, a part of them on each core, and put behind
@@ -7,45 +8,48 @@
 
 use std::ffi::OsString;
 use std::fs::File;
-use std::io::{self, Seek};
 use std::path::Path;
 use std::thread::{self, Builder};
 
-use super::files::{self, Target, WordFile};
+use super::files::{NewFolder, Target, WordFile};
+use super::list::{PIECE_RECORDS, Pieces, changed};
+use super::options::Options;
 use super::progress::Progress;
-use super::{Failure, Outcome, Streams, file_refused, tally};
-use keccak_tables::operation_file::{RECORD_BYTES, Sums, read_operations};
+use super::write_all::write_all;
+use super::{Failure, Outcome, Streams, file_refused, help, tally, unaligned};
+use keccak_tables::operation_file::Sums;
 use keccak_tables::{OP_WORDS, Parameters, Refusal, keccak, keccak_rnd};
 
-/// How many records are read at once: 24 rows each, 18 megabytes.
-const PIECE_RECORDS: usize = 64;
-
-/// The words of a record's round rows.
-const ROUNDS_WORDS: usize = keccak_rnd::ROUNDS * keccak_rnd::NUM_COLUMNS;
+/// The words of a piece's operations, whose 24 rows each, which are the most, are 18 megabytes.
+const PIECE_WORDS: usize = PIECE_RECORDS * OP_WORDS;
 
 pub fn write(arguments: &[OsString], streams: &mut Streams) -> Result<Outcome, Failure> {
-    let [ops, core, round] = arguments else {
-        return Err(Failure::Usage("write takes three files: OPS CORE ROUND".into()));
-    };
-    let (path, core, round) = (Path::new(ops), Path::new(core), Path::new(round));
-    if core == round {
-        return Err(not_three_files());
+    let wrong = || help::wrong("write");
+    let takes = ["--all", "--rounds", "--floor", "--shipped"];
+    let (options, files) = Options::read(&takes, arguments).ok_or_else(wrong)?;
+    match (options.has("--all"), options.has("--shipped"), files) {
+        (true, _, [folder, ops]) => write_all(options.parameters()?, [folder, ops].map(Path::new), streams),
+        (false, false, [_, core, round]) if Path::new(core) == Path::new(round) => Err(not_three_files()),
+        (false, false, [ops, core, round]) => {
+            write_two(options.parameters()?, [ops, core, round].map(Path::new), streams)
+        }
+        _ => Err(wrong()),
     }
+}
+
+fn write_two(
+    parameters: Parameters,
+    [path, core, round]: [&Path; 3],
+    streams: &mut Streams,
+) -> Result<Outcome, Failure> {
     let mut ops = File::open(path).map_err(Failure::file(path))?;
-    match tally::sums_of_file(&mut ops, Parameters::default()).map_err(Failure::file(path))? {
+    match tally::sums_of_file(&mut ops, parameters).map_err(Failure::file(path))? {
+        Ok(sums) if sums.unaligned > 0 => unaligned::refuse(ops, path, &sums, streams),
         Ok(sums) => {
-            ops.rewind().map_err(Failure::file(path))?;
-            let [core, round] = opened(&ops, core, round)?;
-            let progress = Progress::new("rows", sums.core_rows + sums.round_rows);
-            let tables = Tables {
-                path,
-                core,
-                round,
-                written: 0,
-                progress,
-            };
-            tables.write(ops, &sums)?;
-            tally::print(&sums.lines()[..3], streams)
+            let heights = Heights::of(parameters, &sums)?;
+            let tables = Tables::new(parameters, path, opened(&ops, core, round)?, heights);
+            tables.write_file(&mut ops)?;
+            tally::print(&heights.lines(), streams)
         }
         Err(refusal) => file_refused(refusal, streams),
     }
@@ -56,7 +60,7 @@ fn not_three_files() -> Failure {
 }
 
 /// The two table files, to be written. Nothing is made before the three names are known to lead to files of their own.
-fn opened<'a>(ops: &File, core: &'a Path, round: &'a Path) -> Result<[WordFile<'a>; 2], Failure> {
+fn opened(ops: &File, core: &Path, round: &Path) -> Result<[WordFile; 2], Failure> {
     let [core, round] = [Target::of(core)?, Target::of(round)?];
     if core.is(&round) || core.is_file(ops)? || round.is_file(ops)? {
         return Err(not_three_files());
@@ -69,55 +73,109 @@ fn opened<'a>(ops: &File, core: &'a Path, round: &'a Path) -> Result<[WordFile<'
     Ok([WordFile::beside(&core)?, WordFile::beside(&round)?])
 }
 
+/// How many operations a file has, and the rows of its two tables.
+#[derive(Clone, Copy)]
+pub struct Heights {
+    ops: u64,
+    core: u64,
+    round: u64,
+}
+
+impl Heights {
+    /// Those of a file whose sums are these. They count 24 rounds, so the height of the round table is asked for.
+    pub fn of(parameters: Parameters, sums: &Sums) -> Result<Self, Failure> {
+        let round = keccak_rnd::keccak_rnd_height_with(parameters, sums.ops as usize).map_err(Failure::Refused)?;
+        Ok(Self {
+            ops: sums.ops,
+            core: sums.core_rows,
+            round: round as u64,
+        })
+    }
+
+    /// The same where the tables are not written.
+    pub const fn of_no_tables(self) -> Self {
+        Self {
+            core: 0,
+            round: 0,
+            ..self
+        }
+    }
+
+    /// The lines that are printed of them.
+    pub const fn lines(&self) -> [(&'static str, u64); 3] {
+        [("ops", self.ops), ("core-rows", self.core), ("round-rows", self.round)]
+    }
+}
+
 /// The two tables of the file at a path, of which some operations are written.
-struct Tables<'a> {
+pub struct Tables<'a> {
     path: &'a Path,
-    core: WordFile<'a>,
-    round: WordFile<'a>,
+    core: WordFile,
+    round: WordFile,
+    heights: Heights,
+    rows: Rows,
     written: u64,
     progress: Progress,
 }
 
-impl Tables<'_> {
-    /// Puts the rows of the whole file.
-    fn write(mut self, mut ops: File, sums: &Sums) -> Result<(), Failure> {
-        let mut buffer = [0; PIECE_RECORDS * RECORD_BYTES];
-        let mut rows = Rows::new();
-        loop {
-            match files::fill(&mut ops, &mut buffer).map_err(Failure::file(self.path))? {
-                0 => return self.close(sums),
-                got => self.put(&buffer[..got], &mut rows)?,
-            }
+impl<'a> Tables<'a> {
+    fn new(parameters: Parameters, path: &'a Path, [core, round]: [WordFile; 2], heights: Heights) -> Self {
+        Self {
+            path,
+            core,
+            round,
+            heights,
+            rows: Rows::new(parameters),
+            written: 0,
+            progress: Progress::new("rows", heights.core + heights.round),
         }
     }
 
-    /// The only reason for a refusal of what the first reading accepted.
-    fn changed(&self) -> Failure {
-        Failure::File(
-            self.path.to_path_buf(),
-            io::Error::other("it changed while it was read"),
-        )
+    /// The two as files of a folder.
+    pub fn into_folder(
+        parameters: Parameters,
+        folder: &NewFolder,
+        path: &'a Path,
+        heights: Heights,
+    ) -> Result<Self, Failure> {
+        let files = [folder.file("core")?, folder.file("round")?];
+        Ok(Self::new(parameters, path, files, heights))
     }
 
-    /// Puts the rows of some records.
-    fn put(&mut self, file: &[u8], rows: &mut Rows) -> Result<(), Failure> {
-        rows.make(file).map_err(|_| self.changed())?;
-        let records = file.len() / RECORD_BYTES;
-        self.core.put(&rows.core[..records * keccak::NUM_COLUMNS])?;
-        self.round.put(&rows.round[..records * ROUNDS_WORDS])?;
+    /// Puts the rows of the whole file.
+    fn write_file(mut self, ops: &mut File) -> Result<(), Failure> {
+        let mut pieces = Pieces::of(ops, self.path)?;
+        while let Some(piece) = pieces.next()? {
+            self.put(piece)?;
+        }
+        self.close()
+    }
+
+    /// Puts the rows of a list, which is the file's.
+    pub fn write_list(mut self, ops: &[u64]) -> Result<(), Failure> {
+        ops.chunks(PIECE_WORDS).try_for_each(|piece| self.put(piece))?;
+        self.close()
+    }
+
+    /// Puts the rows of some operations.
+    fn put(&mut self, ops: &[u64]) -> Result<(), Failure> {
+        self.rows.make(ops).map_err(|_| changed(self.path))?;
+        let records = ops.len() / OP_WORDS;
+        self.core.put(&self.rows.core[..records * keccak::NUM_COLUMNS])?;
+        self.round.put(&self.rows.round[..records * self.rows.round_words()])?;
         self.written += records as u64;
-        self.progress.add(((1 + keccak_rnd::ROUNDS) * records) as u64);
+        self.progress.add((1 + self.rows.parameters.rounds) * records as u64);
         Ok(())
     }
 
     /// Puts the padding, each row as in the table of no operations, and gives both files their names.
-    fn close(mut self, sums: &Sums) -> Result<(), Failure> {
-        let core = keccak::keccak_table(&[]).map_err(|_| self.changed())?;
-        let round = keccak_rnd::keccak_rnd_table(&[]).map_err(|_| self.changed())?;
-        if self.written != sums.ops {
-            return Err(self.changed());
+    fn close(mut self) -> Result<(), Failure> {
+        let core = keccak::keccak_table(&[]).map_err(|_| changed(self.path))?;
+        let round = keccak_rnd::keccak_rnd_table(&[]).map_err(|_| changed(self.path))?;
+        if self.written != self.heights.ops {
+            return Err(changed(self.path));
         }
-        let rounds = self.written * keccak_rnd::ROUNDS as u64;
+        let rounds = self.written * self.rows.parameters.rounds;
         let mut pad = |table: &mut WordFile, row: &[u64], times: u64| {
             for _ in 0..times {
                 table.put(row)?;
@@ -126,8 +184,8 @@ impl Tables<'_> {
             table.flush()
         };
         let (core_row, round_row) = (&core[..keccak::NUM_COLUMNS], &round[..keccak_rnd::NUM_COLUMNS]);
-        pad(&mut self.core, core_row, sums.core_rows - self.written)?;
-        pad(&mut self.round, round_row, sums.round_rows - rounds)?;
+        pad(&mut self.core, core_row, self.heights.core - self.written)?;
+        pad(&mut self.round, round_row, self.heights.round - rounds)?;
         self.core.finish()?;
         self.round.finish()
     }
@@ -135,40 +193,50 @@ impl Tables<'_> {
 
 /// Room for the rows of a piece.
 struct Rows {
+    parameters: Parameters,
     core: Vec<u64>,
     round: Vec<u64>,
     cores: usize,
 }
 
 impl Rows {
-    fn new() -> Self {
-        Self {
+    fn new(parameters: Parameters) -> Self {
+        let mut rows = Self {
+            parameters,
             core: vec![0; PIECE_RECORDS * keccak::NUM_COLUMNS],
-            round: vec![0; PIECE_RECORDS * ROUNDS_WORDS],
+            round: Vec::new(),
             cores: thread::available_parallelism().map_or(1, usize::from),
-        }
+        };
+        rows.round = vec![0; PIECE_RECORDS * rows.round_words()];
+        rows
     }
 
-    /// Makes the rows of some records. What the cores don't make together, one makes alone, or says why not.
-    fn make(&mut self, file: &[u8]) -> Result<(), Refusal> {
-        if self.make_in_parts(file) {
+    /// The words of an operation's round rows.
+    fn round_words(&self) -> usize {
+        self.parameters.rounds as usize * keccak_rnd::NUM_COLUMNS
+    }
+
+    /// Makes the rows of some operations. What the cores don't make together, one makes alone, or says why not.
+    fn make(&mut self, ops: &[u64]) -> Result<(), Refusal> {
+        if self.make_in_parts(ops) {
             return Ok(());
         }
-        make(file, &mut self.core, &mut self.round)
+        make(self.parameters, ops, &mut self.core, &mut self.round)
     }
 
     /// Makes a part on each core, and says whether all were made. What is one part alone is not worth a thread.
-    fn make_in_parts(&mut self, file: &[u8]) -> bool {
+    fn make_in_parts(&mut self, ops: &[u64]) -> bool {
         let part = PIECE_RECORDS.div_ceil(self.cores);
-        if file.len() <= part * RECORD_BYTES {
+        if ops.len() <= part * OP_WORDS {
             return false;
         }
+        let (parameters, round_words) = (self.parameters, self.round_words());
         let core = self.core.chunks_mut(part * keccak::NUM_COLUMNS);
-        let round = self.round.chunks_mut(part * ROUNDS_WORDS);
+        let round = self.round.chunks_mut(part * round_words);
         thread::scope(|scope| {
-            let parts = file.chunks(part * RECORD_BYTES).zip(core.zip(round));
-            let begun = parts.map(|(file, (core, round))| {
-                let make = move || make(file, core, round).is_ok();
+            let parts = ops.chunks(part * OP_WORDS).zip(core.zip(round));
+            let begun = parts.map(|(ops, (core, round))| {
+                let make = move || make(parameters, ops, core, round).is_ok();
                 Builder::new().spawn_scoped(scope, make).ok()
             });
             let begun: Option<Vec<_>> = begun.collect();
@@ -177,10 +245,8 @@ impl Rows {
     }
 }
 
-/// Writes the rows of some records.
-fn make(file: &[u8], core: &mut [u64], round: &mut [u64]) -> Result<(), Refusal> {
-    let mut ops = vec![0; file.len() / RECORD_BYTES * OP_WORDS];
-    read_operations(file, &mut ops)?;
-    keccak::keccak_rows(&ops, core)?;
-    keccak_rnd::keccak_rnd_rows(&ops, round)
+/// Writes the rows of some operations.
+fn make(parameters: Parameters, ops: &[u64], core: &mut [u64], round: &mut [u64]) -> Result<(), Refusal> {
+    keccak::keccak_rows(ops, core)?;
+    keccak_rnd::keccak_rnd_rows_with(parameters, ops, round)
 }

@@ -52,6 +52,18 @@ impl Folder {
             .current_dir(&self.0);
         command.output().unwrap()
     }
+
+    /// The program on a terminal, which `script` makes; where there is no such program, that is told.
+    fn terminal(&self, arguments: &str) -> Option<Output> {
+        let command = format!("{} {arguments}", env!("CARGO_BIN_EXE_keccak-tables"));
+        let mut script = Command::new("script");
+        script.args(["-qec", &command, "/dev/null"]).current_dir(&self.0);
+        let output = script.stdin(Stdio::null()).output().ok();
+        if output.is_none() {
+            eprintln!("there is no program script on the PATH: no terminal is tried");
+        }
+        output
+    }
 }
 
 impl Drop for Folder {
@@ -148,11 +160,14 @@ fn a_table_keeps_its_links_and_rights() {
 fn a_closed_standard_output_is_an_error_in_every_command() {
     let folder = Folder::new("closed-output", 1);
     fs::write(folder.0.join("none"), b"").unwrap();
-    let commands: [&[&str]; 7] = [
+    let commands: [&[&str]; 10] = [
         &["demo"],
         &["write", "ops", "core", "round"],
         &["judge", "none", "none"],
         &["tally", "ops"],
+        &["look", "ops", "none"],
+        &["charge", "ops", "none"],
+        &["write", "--all", "all", "ops"],
         &["explain", "core", "column", "0"],
         &["help"],
         &["--version"],
@@ -193,7 +208,62 @@ fn a_pipe_that_is_not_read_to_its_end_is_no_panic() {
     }
 }
 
-/// On a terminal, which `script` makes, whoever waits is told, and that the rows are not in the writer's order.
+/// A file of counters that hold this number, and words past them.
+fn put_counters(folder: &Folder, number: u64) -> Vec<u8> {
+    let mut counters = number.to_le_bytes().repeat(10_485_760);
+    counters.extend([0xFF; 16]);
+    fs::write(folder.0.join("counters"), &counters).unwrap();
+    counters
+}
+
+/// A limit on a file's length is met as a full disk is: by a write that fails, in the middle of the file.
+#[test]
+fn a_disk_that_is_full_leaves_what_was_there() {
+    let folder = Folder::new("full", 1);
+    let before = put_counters(&folder, 7);
+    let limited = "trap '' XFSZ; ulimit -f 20000; exec \"$@\"";
+    for arguments in [&["charge", "ops", "counters"][..], &["write", "--all", "all", "ops"]] {
+        let Output { status, stdout, stderr } = folder.shell(limited, arguments);
+        assert_eq!((status.code(), text(&stdout)), (Some(2), ""), "{arguments:?}");
+        assert!(text(&stderr).contains("File too large"), "{}", text(&stderr));
+        assert_eq!(folder.names(), ["counters", "ops"]);
+    }
+    assert!(fs::read(folder.0.join("counters")).unwrap() == before);
+}
+
+#[test]
+fn charges_at_once_are_all_made() {
+    let folder = Folder::new("at-once", 1);
+    let mut after = put_counters(&folder, 0);
+    let mut runs = [(); 3].map(|()| {
+        let mut run = folder.program(&["charge", "ops", "counters"]);
+        run.stdout(Stdio::null()).spawn().unwrap()
+    });
+    assert!(runs.iter_mut().all(|run| run.wait().unwrap().success()));
+    assert_eq!(folder.names(), ["counters", "ops"]);
+    let found = fs::read(folder.0.join("counters")).unwrap();
+    // IsHalfword of a pointer whose low half is 4096 + 8 i is made once an operation.
+    for i in 0..25 {
+        let place = 8 * ((4096 + 8 * i) * 10 + 4);
+        assert_eq!(found[place..place + 8], 3u64.to_le_bytes(), "pointer {i}");
+    }
+    let past = 8 * 10_485_760;
+    assert_eq!((found.len(), &found[past..]), (after.len(), &after.split_off(past)[..]));
+}
+
+/// On a terminal whoever waits for a charge is told so.
+#[test]
+fn a_charge_says_that_it_goes_on() {
+    let folder = Folder::new("charging", 1);
+    put_counters(&folder, 0);
+    let Some(output) = folder.terminal("look ops counters") else {
+        return;
+    };
+    assert_eq!(output.status.code(), Some(0));
+    assert!(text(&output.stdout).contains("charging 1 operations"));
+}
+
+/// On a terminal whoever waits is told, and that the rows are not in the writer's order.
 #[test]
 fn a_long_judgement_says_what_it_is_about() {
     let folder = Folder::new("waiting", 20);
@@ -206,15 +276,7 @@ fn a_long_judgement_says_what_it_is_about() {
         ("round", "judging 544 rows"),
         ("turned", "rows, which are not in the writer's order"),
     ] {
-        let command = format!("{} judge --all core {round}", env!("CARGO_BIN_EXE_keccak-tables"));
-        let mut script = Command::new("script");
-        let Ok(output) = script
-            .args(["-qec", &command, "/dev/null"])
-            .current_dir(&folder.0)
-            .stdin(Stdio::null())
-            .output()
-        else {
-            eprintln!("there is no program script on the PATH: no terminal is tried");
+        let Some(output) = folder.terminal(&format!("judge --all core {round}")) else {
             return;
         };
         assert_eq!(output.status.code(), Some(1));

@@ -92,14 +92,14 @@ pub static TUPLES: [Group<Make<Tuple>>; 8] = [
     Group {
         name: "state before",
         axes: &[],
-        says: "INPUT is given to round 0",
-        make: |_| sends(Bus::Keccak, keccak(0, INPUT_STATE)),
+        says: "INPUT is given to the first round",
+        make: |_| sends(Bus::Keccak, keccak(Operand::FirstRound, INPUT_STATE)),
     },
     Group {
         name: "state after",
         axes: &[],
         says: "OUTPUT is taken after round 23",
-        make: |_| receives(Bus::Keccak, keccak(24, OUTPUT_STATE)),
+        make: |_| receives(Bus::Keccak, keccak(constant(24), OUTPUT_STATE)),
     },
     Group {
         name: "pointer's limbs",
@@ -144,9 +144,9 @@ fn register() -> Tuple {
     sends(Bus::Memw, values)
 }
 
-fn keccak(round: u64, start: usize) -> Vec<Operand> {
+fn keccak(round: Operand, start: usize) -> Vec<Operand> {
     let mut values = cells([TIMESTAMP_0, TIMESTAMP_1]);
-    values.push(constant(round));
+    values.push(round);
     values.extend(cells(state(start)));
     values
 }

@@ -34,6 +34,8 @@ pub enum Operand {
     Sum(Sum),
     /// Half 0 or 1, low or high, of the number of the Keccak system call.
     Syscall(usize),
+    /// The first round, 24 less the number of rounds ([`Parameters::rounds`](crate::Parameters::rounds)).
+    FirstRound,
 }
 
 /// A tuple of a row.

@@ -1,7 +1,7 @@
 //! The descriptions, held against the proved code on drawn rows.
 
 use super::*;
-use crate::{P, keccak, keccak_rnd};
+use crate::{P, Parameters, keccak, keccak_rnd};
 
 const SYSCALL: u64 = 0x0000_0007_FFFF_FFFE;
 
@@ -99,24 +99,27 @@ fn values_are_the_proved_ones() {
     hold_values(Table::Round, keccak_rnd::NUM_VALUES, keccak_rnd::round_values);
 }
 
-type Ask = fn(&[u64], usize, &mut [u64]) -> Result<crate::BusInteraction, crate::Refusal>;
+type Ask = fn(Parameters, &[u64], usize, &mut [u64]) -> Result<crate::BusInteraction, crate::Refusal>;
 
-fn operand(operand: &Operand, row: &[u64]) -> u64 {
+fn operand(operand: &Operand, parameters: Parameters, row: &[u64]) -> u64 {
     match operand {
         Operand::Sum(terms) => sum(terms, row),
         Operand::Syscall(0) => SYSCALL & 0xFFFF_FFFF,
         Operand::Syscall(_) => SYSCALL >> 32,
+        Operand::FirstRound => 24 - parameters.rounds,
     }
 }
 
 fn hold_tuples(table: Table, count: usize, ask: Ask) {
     let mut out = [0; 203];
-    for row in rows(table) {
+    for (row, rounds) in rows(table).into_iter().zip([24, 23, 12, 2, 1, 24]) {
+        let parameters = Parameters::default().rounds(rounds);
         for index in 0..count {
-            let answer = ask(&row, index, &mut out).unwrap();
+            let answer = ask(parameters, &row, index, &mut out).unwrap();
             let (place, tuple) = tuple(table, index).unwrap();
-            let what = format!("{table} tuple {index}: {place}");
-            let values: Vec<u64> = tuple.values.iter().map(|value| operand(value, &row)).collect();
+            let what = format!("{table} tuple {index}: {place}, {rounds} rounds");
+            let operands = tuple.values.iter();
+            let values: Vec<u64> = operands.map(|value| operand(value, parameters, &row)).collect();
             assert_eq!((tuple.bus, tuple.side), (answer.bus, answer.side), "{what}");
             assert_eq!(values, out[..answer.length], "{what}");
             assert_eq!(
@@ -131,10 +134,12 @@ fn hold_tuples(table: Table, count: usize, ask: Ask) {
 
 #[test]
 fn tuples_are_the_proved_ones() {
-    hold_tuples(Table::Core, keccak::NUM_TUPLES, |row, index, out| {
-        keccak::bus_interaction(row, index, SYSCALL, out)
+    hold_tuples(Table::Core, keccak::NUM_TUPLES, |parameters, row, index, out| {
+        keccak::bus_interaction_with(parameters, row, index, SYSCALL, out)
     });
-    hold_tuples(Table::Round, keccak_rnd::NUM_TUPLES, keccak_rnd::bus_interaction);
+    hold_tuples(Table::Round, keccak_rnd::NUM_TUPLES, |_, row, index, out| {
+        keccak_rnd::bus_interaction(row, index, out)
+    });
 }
 
 #[test]

@@ -7,7 +7,7 @@ use borrow.Author.Needs.{needs}
 use Rattle.field.specs.Elements.{ElementRow}
 use Rattle.bitwise.specs.Columns.{NUM-COUNTERS}
 use Rattle.bitwise.specs.Counters.{charge}
-use Rattle.is_wh_counts.proofs.Charging.{elements-add, may-add}
+use Rattle.bitwise.proofs.Charge.{elements-add, may-add}
 use Rattle.is_wh_counts.proofs.charge_row.Statement.{statement}
 use Rattle.is_wh_counts.proofs.charge_row.Tie as tie
 

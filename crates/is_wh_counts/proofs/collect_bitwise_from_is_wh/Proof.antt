@@ -10,7 +10,7 @@ use Rattle.answer.proofs.Laws.{is-refused, is-done}
 use Rattle.bitwise.specs.Columns.{NUM-COUNTERS}
 use Rattle.keccak.proofs.Height.{height-ge}
 use Rattle.is_wh_counts.specs.Counts.{collectRefusal}
-use Rattle.is_wh_counts.proofs.Charging.{may-add, charged-elements}
+use Rattle.bitwise.proofs.Charge.{may-add, charged-elements}
 use Rattle.is_wh_counts.proofs.Refusals.{collect-passed, collect-refused, none-done, rows-done}
 use Rattle.is_wh_counts.proofs.collect_bitwise_from_is_wh.Statement.{statement}
 use Rattle.is_wh_counts.proofs.collect_bitwise_from_is_wh.Tie as tie

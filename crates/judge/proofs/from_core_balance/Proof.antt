@@ -1,5 +1,6 @@
 -- `judge::from_core_balance` meets its contract: chains balance, or else a tuple is found, or none.
 use mathlib.Core.Path.{sym, ap, _∙_}
+use native.Mathlib.Omega.{arith}
 use borrow.Author.Needs.{needs}
 use Rattle.verdict.specs.Verdict.{fromCoreBalance, fromRoundBalance}
 use Rattle.verdict.specs.declared.Verdict.the-variants.{Holds}
@@ -14,7 +15,7 @@ use Rattle.judge.proofs.from_core_balance.Statement.{statement}
 use Rattle.judge.proofs.from_core_balance.Tie as tie
 
 every-chain-requires : tie.Need-every-chain-requires
-every-chain-requires c κs = c .before .before .pre .0
+every-chain-requires c κs = omega (arith, c .before .before .pre .0)
 
 active-rows-requires : tie.Need-active-rows-requires
 active-rows-requires c κs = search needs

@@ -14,7 +14,7 @@ use Rattle.keccak_interactions.proofs.put_tuple.Tie as tie
 add-from : tie.Need-add-from
 add-from c =
     let a = c .before .before .args in
-    omega (arith, tuple-length (coreTuple 24 (a .syscall) (a .row .now) (a .index)))
+    omega (arith, tuple-length (coreTuple (a .nr) (a .syscall) (a .row .now) (a .index)))
 
 mul-row-tuple : tie.Need-mul-row-tuple
 mul-row-tuple c = search needs
@@ -22,12 +22,12 @@ mul-row-tuple c = search needs
 sub-row-tuple : tie.Need-sub-row-tuple
 sub-row-tuple c =
     let a = c .before .before .args in
-    omega (arith, tuple-length (coreTuple 24 (a .syscall) (a .row .now) (a .index)))
+    omega (arith, tuple-length (coreTuple (a .nr) (a .syscall) (a .row .now) (a .index)))
 
 part-row-tuple-start : tie.Need-part-row-tuple-start
 part-row-tuple-start c =
     let a = c .before .before .args in
-    omega (arith, tuple-length (coreTuple 24 (a .syscall) (a .row .now) (a .index)))
+    omega (arith, tuple-length (coreTuple (a .nr) (a .syscall) (a .row .now) (a .index)))
 
 part-row-tuple-end : tie.Need-part-row-tuple-end
 part-row-tuple-end c = search needs
@@ -37,13 +37,13 @@ row-tuple-requires c κs =
     let start = c .before .before .before in
     let a = start .args in
     let r = start .pre in
-    (r .0, r .1, part-room (a .out .now) (a .at) (coreTuple 24 (a .syscall) (a .row .now) (a .index)) (r .2))
+    (r .0, r .1, part-room (a .out .now) (a .at) (coreTuple (a .nr) (a .syscall) (a .row .now) (a .index)) (r .2))
 
 put-header-requires : tie.Need-put-header-requires
 put-header-requires c κs =
     let start = c .before .before .before .before .before .before .before in
     let a = start .args in
-    let t = coreTuple 24 (a .syscall) (a .row .now) (a .index) in
+    let t = coreTuple (a .nr) (a .syscall) (a .row .now) (a .index) in
     let back = part-back (a .out .now) (a .at) t (start .pre .2) _ (c .before .before .before .row-tuple .ensures .1) in
     omega (arith, tuple-length t, ap length back, length-sets (a .out .now) (a .at + 4) (t .values))
 
@@ -51,7 +51,7 @@ add-result : tie.Need-add-result
 add-result c =
     let start = c .before .before .before .before .before .before .before .before .before .before .before in
     let a = start .args in
-    let t = coreTuple 24 (a .syscall) (a .row .now) (a .index) in
+    let t = coreTuple (a .nr) (a .syscall) (a .row .now) (a .index) in
     omega (arith, tuple-length t, start .pre .2, ap (λ (b : BusInteraction). b .length) (c .before .before .before .before .before .before .before .row-tuple .ensures .0))
 
 same-length : tie.Need-same-length
@@ -62,7 +62,7 @@ returns c =
     let given = c .before .before .before .before .before .before .before in
     let start = given .before .before .before .before in
     let a = start .args in
-    let t = coreTuple 24 (a .syscall) (a .row .now) (a .index) in
+    let t = coreTuple (a .nr) (a .syscall) (a .row .now) (a .index) in
     let r = given .row-tuple in (
       omega (arith, tuple-length t, ap (λ (b : BusInteraction). b .length) (r .ensures .0)),
       c .before .before .before .put-header .ensures

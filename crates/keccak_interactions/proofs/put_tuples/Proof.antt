@@ -8,10 +8,10 @@ use Rattle.keccak_interactions.proofs.put_tuples.Statement.{statement}
 use Rattle.keccak_interactions.proofs.put_tuples.Tie as tie
 
 abbrev Inv-loop : tie.InvT-loop
-Inv-loop row syscall out₀ at₀ i₀ out at i = Listed out₀ 0 (coreTuple 24 syscall row) 84 out i at
+Inv-loop nr row syscall out₀ at₀ i₀ out at i = Listed out₀ 0 (coreTuple nr syscall row) 84 out i at
 
 abbrev μ-loop : tie.MeasureT-loop
-μ-loop row syscall out₀ at₀ i₀ out at i = 84 - i
+μ-loop nr row syscall out₀ at₀ i₀ out at i = 84 - i
 
 loop-holds : tie.Need-loop-holds Inv-loop μ-loop
 loop-holds c = listed-none _ _ _ _
@@ -21,7 +21,7 @@ put-tuple-requires c κs =
     let at-loop = c .before .before in
     let start = at-loop .before .before .before in
     let r = start .pre in
-    (r .0, c .before .loop-test .taken, listed-room (at-loop .loop .inv) (omega (arith, words-length (start .args .syscall) (start .args .row .now))) (c .before .loop-test .taken))
+    (r .0, c .before .loop-test .taken, listed-room (at-loop .loop .inv) (omega (arith, words-length (start .args .nr) (start .args .syscall) (start .args .row .now))) (c .before .loop-test .taken))
 
 add-i : tie.Need-add-i Inv-loop μ-loop
 add-i c = omega arith

@@ -4,19 +4,22 @@ use Prim.Native.Nat.{ℕ, _-_, _≤_}
 use native.Mathlib.Omega.{arith}
 use lib.ListN.{length, length-set}
 use Rattle.keccak_rc.specs.Table.{withMu, timesLookedUp, updated}
-use Rattle.keccak_rc.proofs.Table.{withMu-more, lookups-24}
+use Rattle.keccak_rc.proofs.Table.{withMu-more}
 use Rattle.keccak_rc_trace.proofs.put_multiplicities.Statement.{statement}
 use Rattle.keccak_rc_trace.proofs.put_multiplicities.Tie as tie
 
 abbrev Inv-loop : tie.InvT-loop
-Inv-loop table₀ n round₀ table round = (round ≤ 24) × ((length table ≡ length table₀) × (table ≡ withMu (timesLookedUp 24 n) round table₀))
+Inv-loop nr table₀ n round₀ table round = (round ≤ 24) × ((length table ≡ length table₀) × (table ≡ withMu (timesLookedUp nr n) round table₀))
 
 abbrev μ-loop : tie.MeasureT-loop
-μ-loop table₀ n round₀ table round = 24 - round
+μ-loop nr table₀ n round₀ table round = 24 - round
 
 loop-holds : tie.Need-loop-holds Inv-loop μ-loop
 unfolding withMu
 loop-holds c = (omega arith, (refl, refl))
+
+times-looked-up-requires : tie.Need-times-looked-up-requires Inv-loop μ-loop
+times-looked-up-requires c κs = omega arith
 
 mul-table : tie.Need-mul-table Inv-loop μ-loop
 mul-table c = omega arith
@@ -38,8 +41,10 @@ loop-less c = omega arith
 
 loop-again : tie.Need-loop-again Inv-loop μ-loop
 loop-again c =
-    let h = c .before .loop .inv .1 in
-    (omega arith, (simp length-set (h .0), withMu-more (timesLookedUp 24 _) _ _ _ (h .1) (lookups-24 _ _)))
+    let at = c .before .before in
+    let h = at .loop .inv .1 in
+    let a = at .before .before .args in
+    (omega arith, (simp length-set (h .0), withMu-more (timesLookedUp (a .nr) (a .n)) _ _ _ (h .1) (c .times-looked-up .ensures)))
 
 same-length : tie.Need-same-length Inv-loop μ-loop
 same-length c = omega arith
@@ -47,9 +52,9 @@ same-length c = omega arith
 returns : tie.Need-returns Inv-loop μ-loop
 unfolding updated
 returns c =
-    let start = c .before .before in
+    let start = c .before .before .before in
     let e : c .before .loop .round ≡ 24 = omega arith in
-    c .before .loop .inv .1 .1 ∙ ap (λ (r : ℕ). withMu (timesLookedUp 24 (start .args .n)) r (start .args .table .now)) e
+    c .before .loop .inv .1 .1 ∙ ap (λ (r : ℕ). withMu (timesLookedUp (start .args .nr) (start .args .n)) r (start .args .table .now)) e
 
 pub put-multiplicities-spec : {M : Type 1} → statement M
 put-multiplicities-spec =
@@ -58,6 +63,7 @@ put-multiplicities-spec =
     Inv-loop
     μ-loop
     loop-holds
+    times-looked-up-requires
     mul-table
     add-table
     mul-table-2

@@ -7,17 +7,17 @@ use Rattle.keccak_tuples.proofs.head_length.Statement.{statement}
 use Rattle.keccak_tuples.proofs.head_length.Tie as tie
 
 returns : tie.Need-returns
-returns c syscall row = length-of (is-ecall 24 syscall row _ (c .if1 .taken)) (ecall-length row syscall)
+returns c nr syscall row = length-of (is-ecall nr syscall row _ (c .if1 .taken)) (ecall-length row syscall)
 
 returns-2 : tie.Need-returns-2
-returns-2 c syscall row = length-of (is-addr 24 syscall row _ (c .if2 .taken)) (addr-length row)
+returns-2 c nr syscall row = length-of (is-addr nr syscall row _ (c .if2 .taken)) (addr-length row)
 
 returns-3 : tie.Need-returns-3
-returns-3 c syscall row =
+returns-3 c nr syscall row =
     let i = c .before .before .args .index in
     by-le i 2
-    (λ h. length-of (is-sent 24 syscall row i (omega arith)) (sent-length row 24))
-    (λ h. length-of (is-received 24 syscall row i (omega arith)) (received-length row))
+    (λ h. length-of (is-sent nr syscall row i (omega arith)) (sent-length row nr))
+    (λ h. length-of (is-received nr syscall row i (omega arith)) (received-length row))
 
 pub head-length-spec : {M : Type 1} → statement M
 head-length-spec = tie.close (tie.spec returns returns-2 returns-3)

@@ -10,8 +10,8 @@ use Rattle.keccak_tuples.proofs.row_tuple.Statement.{statement}
 use Rattle.keccak_tuples.proofs.row_tuple.Tie as tie
 
 pointer : (c : tie.Then2) → let s = c .before .before .before .before in
-    coreTuple 24 (s .args .syscall) (s .args .row .now) (s .args .index) ≡ pointerTuple (s .args .row .now) ((s .args .index - 4) / 2) ((s .args .index - 4) % 2)
-pointer c = is-pointer 24 _ _ _ (omega arith) (c .if2 .taken)
+    coreTuple (s .args .nr) (s .args .syscall) (s .args .row .now) (s .args .index) ≡ pointerTuple (s .args .row .now) ((s .args .index - 4) / 2) ((s .args .index - 4) % 2)
+pointer c = is-pointer _ _ _ _ (omega arith) (c .if2 .taken)
 
 head-tuple-requires : tie.Need-head-tuple-requires
 head-tuple-requires c κs = search needs

@@ -10,14 +10,14 @@ use Rattle.keccak_tuples.proofs.tail_tuple.Statement.{statement}
 use Rattle.keccak_tuples.proofs.tail_tuple.Tie as tie
 
 -- the tuple of the index, in the three branches
-align : (c : tie.Then1) → let s = c .before .before .before in coreTuple 24 (s .args .syscall) (s .args .row .now) (s .args .index) ≡ alignTuple (s .args .row .now)
-align c = is-align 24 _ _ _ (c .if1 .taken)
+align : (c : tie.Then1) → let s = c .before .before .before in coreTuple (s .args .nr) (s .args .syscall) (s .args .row .now) (s .args .index) ≡ alignTuple (s .args .row .now)
+align c = is-align _ _ _ _ (c .if1 .taken)
 
-bytes : (c : tie.Then2) → let s = c .before .before .before .before in coreTuple 24 (s .args .syscall) (s .args .row .now) (s .args .index) ≡ addrBytesTuple (s .args .row .now) (s .args .index - 55)
-bytes c = is-bytes 24 _ _ _ (omega arith) (c .if2 .taken)
+bytes : (c : tie.Then2) → let s = c .before .before .before .before in coreTuple (s .args .nr) (s .args .syscall) (s .args .row .now) (s .args .index) ≡ addrBytesTuple (s .args .row .now) (s .args .index - 55)
+bytes c = is-bytes _ _ _ _ (omega arith) (c .if2 .taken)
 
-lane : (c : tie.Else2) → let s = c .before .before .before .before in coreTuple 24 (s .args .syscall) (s .args .row .now) (s .args .index) ≡ laneMemw (s .args .row .now) (s .args .index - 59)
-lane c = is-lane 24 _ _ _ (c .if2 .left)
+lane : (c : tie.Else2) → let s = c .before .before .before .before in coreTuple (s .args .nr) (s .args .syscall) (s .args .row .now) (s .args .index) ≡ laneMemw (s .args .row .now) (s .args .index - 59)
+lane c = is-lane _ _ _ _ (c .if2 .left)
 
 align-tuple-requires : tie.Need-align-tuple-requires
 align-tuple-requires c κs = let s = c .before .before .before .before in (s .pre .0 .long, room (align (c .before)) (align-length _) (s .pre .3))

@@ -16,16 +16,16 @@ sub-result : tie.Need-sub-result
 sub-result c = search needs
 
 returns-2 : tie.Need-returns-2
-returns-2 c syscall row = length-of (is-pointer 24 syscall row _ (omega arith) (c .if2 .taken)) (pointer-length row _ _ (omega arith))
+returns-2 c nr syscall row = length-of (is-pointer nr syscall row _ (omega arith) (c .if2 .taken)) (pointer-length row _ _ (omega arith))
 
 returns-3 : tie.Need-returns-3
-returns-3 c syscall row = length-of (is-align 24 syscall row _ (c .if3 .taken)) (align-length row)
+returns-3 c nr syscall row = length-of (is-align nr syscall row _ (c .if3 .taken)) (align-length row)
 
 returns-4 : tie.Need-returns-4
-returns-4 c syscall row = length-of (is-bytes 24 syscall row _ (omega arith) (c .if4 .taken)) (bytes-length row _)
+returns-4 c nr syscall row = length-of (is-bytes nr syscall row _ (omega arith) (c .if4 .taken)) (bytes-length row _)
 
 returns-5 : tie.Need-returns-5
-returns-5 c syscall row = length-of (is-lane 24 syscall row _ (c .if4 .left)) (lane-length row _)
+returns-5 c nr syscall row = length-of (is-lane nr syscall row _ (c .if4 .left)) (lane-length row _)
 
 pub tuple-length-spec : {M : Type 1} → statement M
 tuple-length-spec =

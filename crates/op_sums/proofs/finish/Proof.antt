@@ -1,62 +1,48 @@
--- `op_sums::finish` meets its contract: the cases of the cursor.
-use Rattle.op_file.specs.declared.Tally.the-variants.{Counted}
-use Rattle.op_file.specs.Reader.{finishOf}
-use borrow.Author.Tests.{lt-ltb, le-ltb, le-leb, lt-leb, eq-eqb, ne-eqb}
-use mathlib.Core.Path.{ap, sym, _∙_}
+-- `op_sums::finish` meets its contract: the floor is checked first.
+use Prim.Native.Nat.{ℕ}
+use mathlib.Core.Bool.{Bool}
+use mathlib.Core.Option.{Option}
+use mathlib.Core.Path.{_≡_, ap, sym, _∙_}
+use Rattle.answer.specs.Refusal.{accepted, answerOf, notFloor, PowerFloor}
+use Rattle.answer.specs.declared.Refusal.{Refusal}
+use Rattle.answer.specs.declared.Answer.{Answer}
+use Rattle.answer.specs.declared.Answer.the-variants.{Done, Refused}
+use Rattle.answer.proofs.Laws.{is-refused, is-done}
+use Rattle.answer.proofs.Refusals.{floor-accepted, floor-most}
+use Rattle.op_file.specs.Reader.{endOf, checked, finishOf}
+use Rattle.op_file.specs.declared.Cursor.{Cursor}
+use Rattle.op_file.specs.declared.Tally.the-variants as tally
+use Rattle.op_file.proofs.Cases.{floor-ends}
 use borrow.Author.Needs.{needs}
 use Rattle.op_sums.proofs.finish.Statement.{statement}
 use Rattle.op_sums.proofs.finish.Tie as tie
 
-enum-known-c : tie.Need-enum-known-c
-enum-known-c c = search needs
+check-floor-requires : tie.Need-check-floor-requires
+check-floor-requires c κs = search needs
 
-enum-known-c-2 : tie.Need-enum-known-c-2
-enum-known-c-2 c = search needs
+-- what the check says
+refused : (floor : ℕ) (shipped : Bool) (c : Cursor) {r : Refusal} {a : Answer} → a ≡ answerOf (notFloor floor accepted) → a ≡ Refused r → tally.Refused r ≡ finishOf floor shipped c
+unfolding finishOf
+refused floor shipped c e q = ap (λ (o : Option Refusal). checked o (endOf floor shipped c)) (sym (is-refused _ (sym q ∙ e)))
 
-add-t9 : tie.Need-add-t9
-add-t9 c = search needs
+passed : (floor : ℕ) {a : Answer} → a ≡ answerOf (notFloor floor accepted) → a ≡ Done → PowerFloor floor
+passed floor e q = floor-accepted floor .0 (is-done _ (sym q ∙ e))
+
+enum-known-refusal : tie.Need-enum-known-refusal
+enum-known-refusal c = search needs
 
 returns : tie.Need-returns
-unfolding finishOf
-returns c = sym (ap (finishOf _) (c .before .before .c2 .given .1) ∙ simp (lt-ltb _ _ (c .if1 .taken)))
+returns c = refused _ _ _ (c .before .before .before .check-floor .ensures) (c .before .refusal .given .1)
 
-sum-up-requires : tie.Need-sum-up-requires
-sum-up-requires c κs = search needs
+enum-told : tie.Need-enum-told
+enum-told c = search needs
+
+ended-requires : tie.Need-ended-requires
+ended-requires c κs = floor-most _ (passed _ (c .before .before .check-floor .ensures) (c .enum-told .given .1))
 
 returns-2 : tie.Need-returns-2
-unfolding finishOf
-returns-2 c = ap Counted (c .sum-up .ensures) ∙ sym (ap (finishOf _) (c .before .before .before .before .c2 .given .1) ∙ simp (le-ltb _ _ (c .before .before .if1 .left), eq-eqb _ _ (c .before .if2 .taken)))
-
-add-t12 : tie.Need-add-t12
-add-t12 c = search needs
-
-returns-3 : tie.Need-returns-3
-unfolding finishOf
-returns-3 c = sym (ap (finishOf _) (c .before .before .before .before .c2 .given .1) ∙ simp (le-ltb _ _ (c .before .before .if1 .left), ne-eqb _ _ (c .before .if2 .left), le-leb _ _ (c .if3 .taken)))
-
-mul-t15 : tie.Need-mul-t15
-mul-t15 c = search needs
-
-returns-4 : tie.Need-returns-4
-unfolding finishOf
-returns-4 c = sym (ap (finishOf _) (c .before .c .given .1))
-
-returns-5 : tie.Need-returns-5
-unfolding finishOf
-returns-5 c = sym (ap (finishOf _) (c .before .before .before .before .c2 .given .1) ∙ simp (le-ltb _ _ (c .before .before .if1 .left), ne-eqb _ _ (c .before .if2 .left), lt-leb _ _ (c .if3 .left)))
+returns-2 c =
+    c .ended .ensures ∙ sym (floor-ends _ _ (passed _ (c .before .before .before .check-floor .ensures) (c .before .enum-told .given .1)) _)
 
 pub finish-spec : {M : Type 1} → statement M
-finish-spec =
-    tie.close
-    (tie.spec
-    enum-known-c
-    enum-known-c-2
-    add-t9
-    returns
-    sum-up-requires
-    returns-2
-    add-t12
-    returns-3
-    mul-t15
-    returns-4
-    returns-5)
+finish-spec = tie.close (tie.spec check-floor-requires enum-known-refusal returns enum-told ended-requires returns-2)

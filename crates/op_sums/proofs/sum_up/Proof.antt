@@ -1,4 +1,7 @@
 -- `op_sums::sum_up` meets its contract: the heights and the multiples of n.
+use Prim.Native.Nat.{_*_}
+use native.Mathlib.Omega.{arith}
+use Rattle.keccak.proofs.Height.{height-ge, height-le}
 use Rattle.op_file.specs.Reader.{countsOf}
 use borrow.Author.Needs.{needs}
 use Rattle.op_sums.proofs.sum_up.Statement.{statement}
@@ -13,23 +16,22 @@ mul-table-height c = search needs
 table-height-requires-2 : tie.Need-table-height-requires-2
 table-height-requires-2 c κs = search needs
 
-mul-t9 : tie.Need-mul-t9
-mul-t9 c = search needs
+mul-t11 : tie.Need-mul-t11
+mul-t11 c = search needs
 
-mul-t10 : tie.Need-mul-t10
-mul-t10 c = search needs
+mul-t12 : tie.Need-mul-t12
+mul-t12 c = search needs
 
 padding-requires : tie.Need-padding-requires
-padding-requires c κs = search needs
+padding-requires c κs =
+    let h = c .table-height2 .ensures in
+    let n = c .before .before .args .n in
+    let floor = c .before .before .args .floor in
+    let pre = c .before .before .pre in
+    (pre .1, omega (arith, h, height-ge floor (n * 24)), omega (arith, h, height-le floor (n * 24), pre .0, pre .1))
 
-add-t12 : tie.Need-add-t12
-add-t12 c = search needs
-
-mul-t14 : tie.Need-mul-t14
-mul-t14 c = search needs
-
-mul-t15 : tie.Need-mul-t15
-mul-t15 c = search needs
+add-t14 : tie.Need-add-t14
+add-t14 c = search needs
 
 mul-t16 : tie.Need-mul-t16
 mul-t16 c = search needs
@@ -37,9 +39,15 @@ mul-t16 c = search needs
 mul-t17 : tie.Need-mul-t17
 mul-t17 c = search needs
 
+mul-t18 : tie.Need-mul-t18
+mul-t18 c = search needs
+
+mul-t19 : tie.Need-mul-t19
+mul-t19 c = search needs
+
 returns : tie.Need-returns
 unfolding countsOf
-returns c = cc
+returns c = let e = c .padding .ensures .0 _ (c .before .table-height2 .ensures) in cc
 
 pub sum-up-spec : {M : Type 1} → statement M
 sum-up-spec =
@@ -48,12 +56,12 @@ sum-up-spec =
     table-height-requires
     mul-table-height
     table-height-requires-2
-    mul-t9
-    mul-t10
+    mul-t11
+    mul-t12
     padding-requires
-    add-t12
-    mul-t14
-    mul-t15
+    add-t14
     mul-t16
     mul-t17
+    mul-t18
+    mul-t19
     returns)

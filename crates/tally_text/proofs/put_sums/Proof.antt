@@ -1,4 +1,4 @@
--- `tally_text::put_sums` meets its contract: three parts, one after the other.
+-- `tally_text::put_sums` meets its contract: four parts, one after the other.
 use native.Mathlib.Omega.{arith}
 use Rattle.text.proofs.Laws.{puts-then}
 use Rattle.tally_text.specs.Output.{textOf}
@@ -15,16 +15,23 @@ put-lookups-requires c κs = search needs
 put-others-requires : tie.Need-put-others-requires
 put-others-requires c κs = search needs
 
+put-unaligned-requires : tie.Need-put-unaligned-requires
+put-unaligned-requires c κs = search needs
+
 same-length : tie.Need-same-length
 same-length c = search needs
 
 returns : tie.Need-returns
 unfolding textOf
 returns c =
-    let a = c .before .before .before .before .before .before .before .before .before .before .put-heights .ensures in
-    let b = c .before .before .before .before .before .before .put-lookups .ensures in
-    let d = c .before .before .put-others .ensures in
-    (puts-then (puts-then (a .0) (b .0)) (d .0), omega (arith, a .1, b .1, d .1))
+    let u = c .before .before in
+    let o = u .before .before .before .before in
+    let l = o .before .before .before .before in
+    let a = l .before .before .before .before .put-heights .ensures in
+    let b = l .put-lookups .ensures in
+    let d = o .put-others .ensures in
+    let e = u .put-unaligned .ensures in
+    (puts-then (puts-then (puts-then (a .0) (b .0)) (d .0)) (e .0), omega (arith, a .1, b .1, d .1, e .1))
 
 pub put-sums-spec : {M : Type 1} → statement M
 put-sums-spec =
@@ -33,5 +40,6 @@ put-sums-spec =
     put-heights-requires
     put-lookups-requires
     put-others-requires
+    put-unaligned-requires
     same-length
     returns)

@@ -32,7 +32,7 @@ slice-aggregate-put-failure : tie.Need-slice-aggregate-put-failure
 slice-aggregate-put-failure c = search needs
 
 put-failure-requires : tie.Need-put-failure-requires
-put-failure-requires c κs = let s = c .before .before .before .before .before .before .before .before in (lookup-named 24 _ _ _ _ _ (sym (s .pre .0) ∙ c .before .before .before .verdict3 .given .1), omega arith, s .pre .1)
+put-failure-requires c κs = let s = c .before .before .before .before .before .before .before .before in (lookup-named _ _ _ _ _ _ (sym (s .pre .0) ∙ c .before .before .before .verdict3 .given .1), omega arith, s .pre .1)
 
 enum-known-verdict-4 : tie.Need-enum-known-verdict-4
 enum-known-verdict-4 c = search needs
@@ -41,7 +41,7 @@ slice-aggregate-put-failure-2 : tie.Need-slice-aggregate-put-failure-2
 slice-aggregate-put-failure-2 c = search needs
 
 put-failure-requires-2 : tie.Need-put-failure-requires-2
-put-failure-requires-2 c κs = let s = c .before .before .before .before .before .before .before .before in (unbalanced-named 24 _ _ _ _ _ (sym (s .pre .0) ∙ c .before .before .before .verdict4 .given .1), omega arith, s .pre .1)
+put-failure-requires-2 c κs = let s = c .before .before .before .before .before .before .before .before in (unbalanced-named _ _ _ _ _ _ (sym (s .pre .0) ∙ c .before .before .before .verdict4 .given .1), omega arith, s .pre .1)
 
 enum-known-verdict-5 : tie.Need-enum-known-verdict-5
 enum-known-verdict-5 c = search needs
@@ -56,34 +56,34 @@ same-length : tie.Need-same-length
 same-length c = search needs
 
 returns : tie.Need-returns
-returns c = shows _ _ _ _ _ _ _ _ (c .before .before .before .before .before .before .verdict .given .1) tt (value-line _ _ _ _ _) (c .before .before .put-place .ensures .0) (omega (arith, c .before .before .put-place .ensures .1))
+returns c = shows _ _ _ _ _ _ _ _ _ (c .before .before .before .before .before .before .verdict .given .1) tt (value-line _ _ _ _ _ _) (c .before .before .put-place .ensures .0) (omega (arith, c .before .before .put-place .ensures .1))
 
 same-length-2 : tie.Need-same-length-2
 same-length-2 c = search needs
 
 returns-2 : tie.Need-returns-2
-returns-2 c = shows _ _ _ _ _ _ _ _ (c .before .before .before .before .before .before .verdict2 .given .1) tt (repeated-line _ _ _) (c .before .before .put-place2 .ensures .0) (omega (arith, c .before .before .put-place2 .ensures .1))
+returns-2 c = shows _ _ _ _ _ _ _ _ _ (c .before .before .before .before .before .before .verdict2 .given .1) tt (repeated-line _ _ _ _) (c .before .before .put-place2 .ensures .0) (omega (arith, c .before .before .put-place2 .ensures .1))
 
 same-length-3 : tie.Need-same-length-3
 same-length-3 c = search needs
 
 returns-3 : tie.Need-returns-3
-returns-3 c = shows _ _ _ _ _ _ _ _ (c .before .before .before .before .before .before .verdict3 .given .1) tt (lookup-line _ _ _ _ _) (c .before .before .put-failure .ensures .0) (omega (arith, c .before .before .put-failure .ensures .1))
+returns-3 c = shows _ _ _ _ _ _ _ _ _ (c .before .before .before .before .before .before .verdict3 .given .1) tt (lookup-line _ _ _ _ _ _) (c .before .before .put-failure .ensures .0) (omega (arith, c .before .before .put-failure .ensures .1))
 
 same-length-4 : tie.Need-same-length-4
 same-length-4 c = search needs
 
 returns-4 : tie.Need-returns-4
-returns-4 c = shows _ _ _ _ _ _ _ _ (c .before .before .before .before .before .before .verdict4 .given .1) tt (balance-line _ _ _ _ _) (c .before .before .put-failure2 .ensures .0) (omega (arith, c .before .before .put-failure2 .ensures .1))
+returns-4 c = shows _ _ _ _ _ _ _ _ _ (c .before .before .before .before .before .before .verdict4 .given .1) tt (balance-line _ _ _ _ _ _) (c .before .before .put-failure2 .ensures .0) (omega (arith, c .before .before .put-failure2 .ensures .1))
 
 same-length-5 : tie.Need-same-length-5
 same-length-5 c = search needs
 
 returns-5 : tie.Need-returns-5
-returns-5 c = shows _ _ _ _ _ _ _ _ (c .before .before .before .before .before .verdict5 .given .1) tt (holds-line _ _ _) (c .before .before .put-holds .ensures .0) (omega (arith, c .before .before .put-holds .ensures .1))
+returns-5 c = shows _ _ _ _ _ _ _ _ _ (c .before .before .before .before .before .verdict5 .given .1) tt (holds-line _ _ _ _) (c .before .before .put-holds .ensures .0) (omega (arith, c .before .before .put-holds .ensures .1))
 
 returns-6 : tie.Need-returns-6
-returns-6 c = shows-refused _ _ _ _ _ (c .before .verdict6 .given .1)
+returns-6 c = shows-refused _ _ _ _ _ _ (c .before .verdict6 .given .1)
 
 pub put-line-spec : {M : Type 1} → statement M
 put-line-spec =

@@ -21,7 +21,7 @@ row-at-requires c κs = let s = c .before .before .before .before .before in sub
 
 row-tuple-requires : tie.Need-row-tuple-requires
 unfolding layoutOf
-row-tuple-requires c κs = let s = c .before .before .before .before .before .before .before in core-asked _ _ _ _ _ _ _ (s .pre .1) (s .pre .0) (c .before .before .enum-told .given .1) (c .before .row-at .ensures)
+row-tuple-requires c κs = let s = c .before .before .before .before .before .before .before in core-asked _ _ _ _ _ _ _ _ (s .pre .1) (s .pre .0) (c .before .before .enum-told .given .1) (c .before .row-at .ensures)
 
 enum-told-2 : tie.Need-enum-told-2
 enum-told-2 c = search needs
@@ -32,7 +32,7 @@ row-at-requires-2 c κs = let s = c .before .before .before .before .before in s
 
 row-tuple-requires-2 : tie.Need-row-tuple-requires-2
 unfolding layoutOf
-row-tuple-requires-2 c κs = let s = c .before .before .before .before .before .before .before in round-asked _ _ _ _ _ _ _ (s .pre .1) (s .pre .0) (c .before .before .enum-told2 .given .1) (c .before .row-at2 .ensures)
+row-tuple-requires-2 c κs = let s = c .before .before .before .before .before .before .before in round-asked (s .args .nr) _ _ _ _ _ _ _ (s .pre .1) (s .pre .0) (c .before .before .enum-told2 .given .1) (c .before .row-at2 .ensures)
 
 same-length : tie.Need-same-length
 same-length c = search needs
@@ -42,7 +42,7 @@ unfolding layoutOf
 returns c =
     let s = c .before .before .before .before .before .before .before .before .before .before in
     let e = c .before .before .row-tuple .ensures in
-    let q = core-is _ _ _ _ _ _ _ (s .pre .1) (s .pre .0) (c .before .before .before .before .before .enum-told .given .1) (c .before .before .before .before .row-at .ensures) in
+    let q = core-is (s .args .nr) _ _ _ _ _ _ _ (s .pre .1) (s .pre .0) (c .before .before .before .before .before .enum-told .given .1) (c .before .before .before .before .row-at .ensures) in
     (e .0 ∙ ap interactionOf q, e .1 ∙ ap (λ (t : Tuple). overwrite (t .values) (now (s .args .out))) q)
 
 same-length-2 : tie.Need-same-length-2
@@ -53,7 +53,7 @@ unfolding layoutOf
 returns-2 c =
     let s = c .before .before .before .before .before .before .before .before .before .before in
     let e = c .before .before .row-tuple2 .ensures in
-    let q = round-is _ _ _ _ _ _ _ (s .pre .1) (s .pre .0) (c .before .before .before .before .before .enum-told2 .given .1) (c .before .before .before .before .row-at2 .ensures) in
+    let q = round-is (s .args .nr) _ _ _ _ _ _ _ (s .pre .1) (s .pre .0) (c .before .before .before .before .before .enum-told2 .given .1) (c .before .before .before .before .row-at2 .ensures) in
     (e .0 ∙ ap interactionOf q, e .1 ∙ ap (λ (t : Tuple). overwrite (t .values) (now (s .args .out))) q)
 
 pub tuple-at-spec : {M : Type 1} → statement M

@@ -61,7 +61,7 @@ pub const CORE_ROWS: &[Named] = &[
         t.core_row(1)[limb(0, 0)] = P - 1;
         Value(Core, 1, 0)
     }),
-    ("an address off the eight, as written", |t, _| {
+    ("an address off the eight, as the Rust writes it", |t, _| {
         let row = t.core_row(1);
         row[core_cols::addr(0)] |= 1;
         (0..25).for_each(|lane| row[limb(lane, 0)] |= 1);

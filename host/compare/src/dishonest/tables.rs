@@ -1,10 +1,11 @@
 //! A core table and a round table, and what is done to the rows of either.
 
-use keccak_tables::{keccak, keccak_rnd};
+use keccak_tables::{OP_WORDS, Parameters, keccak, keccak_rnd};
 use oracle::tables::keccak::cols as core_cols;
 use oracle::tables::keccak_rnd::cols;
 use oracle::tables::types::FE;
 
+use crate::by_rounds::ALL;
 use crate::inputs::Words;
 
 /// The columns and rows.
@@ -25,28 +26,38 @@ impl Tables {
     /// The tables of `n` calls with distinct timestamps and right outputs, at addresses from 2^32 to 2^48 whose low word has
     /// room for the 25 lanes.
     pub fn written(n: usize, words: &mut Words) -> Self {
+        Self::written_by(ALL, n, words)
+    }
+
+    /// The same by nr rounds.
+    pub fn written_by(nr: u64, n: usize, words: &mut Words) -> Self {
+        Self::by_rounds(nr, &Self::list(n, words))
+    }
+
+    /// The operations of such tables.
+    pub fn list(n: usize, words: &mut Words) -> Vec<u64> {
         let stamps: Vec<u64> = (1..=n as u64).map(|call| words.word() << 16 | call << 2).collect();
-        Self::at(&stamps, words)
+        list_at(&stamps, words)
     }
 
     /// The tables of calls with these timestamps.
     pub(super) fn at(stamps: &[u64], words: &mut Words) -> Self {
-        let mut list = Vec::new();
-        for &timestamp in stamps {
-            list.extend([timestamp, words.word() & 0x0000_FFFF_7FFF_FFF8 | 1 << 32]);
-            list.extend((0..25).map(|_| words.lane()));
-            list.extend([0; 25]);
-        }
-        Self::of(&list)
+        Self::of(&list_at(stamps, words))
     }
 
     /// The tables of a list of operations, each with the output that its last round row hands on.
     pub(super) fn of(list: &[u64]) -> Self {
-        let round = keccak_rnd::keccak_rnd_table(list).expect("the list is accepted");
+        Self::by_rounds(ALL, list)
+    }
+
+    /// The same by nr rounds.
+    pub fn by_rounds(nr: u64, list: &[u64]) -> Self {
+        let parameters = Parameters::default().rounds(nr);
+        let round = keccak_rnd::keccak_rnd_table_with(parameters, list).expect("the list is accepted");
         let core = keccak::keccak_table(list).expect("the list is accepted");
         let mut tables = Self { core, round };
-        for call in 0..list.len() / keccak_tables::OP_WORDS {
-            tables.take_output(call, CALL * call + CALL - 1);
+        for call in 0..list.len() / OP_WORDS {
+            tables.take_output(call, nr as usize * (call + 1) - 1);
         }
         tables
     }
@@ -62,7 +73,7 @@ impl Tables {
     }
 
     /// OUTPUT of a core row is what a round row hands on.
-    pub(super) fn take_output(&mut self, call: usize, last: usize) {
+    pub fn take_output(&mut self, call: usize, last: usize) {
         let row = self.round_row(last);
         let mut state = row[cols::CHI..cols::CHI + 200].to_vec();
         state[..8].copy_from_slice(&row[cols::IOTA..cols::IOTA + 8]);
@@ -82,6 +93,17 @@ impl Tables {
             self.round_row(row)[..2].copy_from_slice(&timestamp);
         }
     }
+}
+
+/// Operations with these timestamps and no outputs.
+fn list_at(stamps: &[u64], words: &mut Words) -> Vec<u64> {
+    let mut list = Vec::new();
+    for &timestamp in stamps {
+        list.extend([timestamp, words.word() & 0x0000_FFFF_7FFF_FFF8 | 1 << 32]);
+        list.extend((0..25).map(|_| words.lane()));
+        list.extend([0; 25]);
+    }
+    list
 }
 
 /// Exchanges two rows.

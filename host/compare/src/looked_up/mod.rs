@@ -26,7 +26,7 @@ fn added(a: u64, b: u64) -> u64 {
 }
 
 /// What each word is when a count is added to it, mod p.
-fn charged(before: &[u64], counts: &[u64]) -> Vec<u64> {
+pub(crate) fn charged(before: &[u64], counts: &[u64]) -> Vec<u64> {
     before.iter().zip(counts).map(|(&a, &b)| added(a, b)).collect()
 }
 
@@ -40,12 +40,12 @@ fn elements(words: &mut Words, length: usize) -> Vec<u64> {
 }
 
 /// Every counter, drawn.
-fn counters(words: &mut Words) -> Vec<u64> {
+pub(crate) fn counters(words: &mut Words) -> Vec<u64> {
     elements(words, NUM_COUNTERS)
 }
 
 /// Names a counter by its place.
-fn at_counter(what: &str, place: usize) -> String {
+pub(crate) fn at_counter(what: &str, place: usize) -> String {
     format!(
         "{what}: the counter at {place}, row {}, kind {}",
         place / 10,
@@ -54,7 +54,7 @@ fn at_counter(what: &str, place: usize) -> String {
 }
 
 /// Words, and then some more that are not to be read or written.
-fn longer(words: &mut Words, mut list: Vec<u64>) -> Vec<u64> {
+pub(crate) fn longer(words: &mut Words, mut list: Vec<u64>) -> Vec<u64> {
     let past = words.below(5);
     list.extend((0..past).map(|_| u64::MAX));
     list

@@ -43,7 +43,7 @@ struct Long {
 }
 
 /// Words that are put into a slice: places and what stands there for one call.
-type Spoilt<'a> = &'a [(usize, u64)];
+pub(crate) type Spoilt<'a> = &'a [(usize, u64)];
 
 impl Long {
     /// Every counter and every multiplicity is p - 1; the fixed columns are no elements.
@@ -81,7 +81,7 @@ fn exchange(slice: &mut [u64], spoilt: &mut [(usize, u64)]) {
 }
 
 /// A call with some words changed for the time of it.
-fn spoiling<T>(slice: &mut Lent, spoilt: Spoilt, call: impl FnOnce(&mut [u64]) -> T) -> T {
+pub(crate) fn spoiling<T>(slice: &mut Lent, spoilt: Spoilt, call: impl FnOnce(&mut [u64]) -> T) -> T {
     let mut spoilt = spoilt.to_vec();
     exchange(slice.slice(), &mut spoilt);
     let answer = call(slice.slice());
@@ -91,13 +91,13 @@ fn spoiling<T>(slice: &mut Lent, spoilt: Spoilt, call: impl FnOnce(&mut [u64]) -
 }
 
 /// The first of these words, up to `end`, that is p or more.
-fn first_not_element(spoilt: Spoilt, end: usize) -> Option<u64> {
+pub(crate) fn first_not_element(spoilt: Spoilt, end: usize) -> Option<u64> {
     let places = spoilt.iter().filter(|(place, word)| *place < end && *word >= P);
     places.map(|(place, _)| *place as u64).min()
 }
 
 /// What may be wrong with counters: nothing, the first, one between, the last, two of them, a word past the last.
-const SPOILT_COUNTERS: [Spoilt; 7] = [
+pub(crate) const SPOILT_COUNTERS: [Spoilt; 7] = [
     &[],
     &[(0, P)],
     &[(1_234_567, P + 1)],
@@ -113,11 +113,11 @@ fn drawn_or_none(words: &mut Words, none: bool) -> Spoilt<'static> {
     SPOILT_COUNTERS[if none { 0 } else { drawn }]
 }
 
-fn short(length: usize, needed: usize) -> (bool, u64, u64) {
+pub(crate) fn short(length: usize, needed: usize) -> (bool, u64, u64) {
     (length < needed, 3, needed as u64)
 }
 
-fn not_element(place: Option<u64>) -> (bool, u64, u64) {
+pub(crate) fn not_element(place: Option<u64>) -> (bool, u64, u64) {
     (place.is_some(), 5, place.unwrap_or(0))
 }
 
@@ -463,6 +463,14 @@ fn own_memory(comparison: &mut Comparison, words: &mut Words) {
     );
     let cut = IsWhRows::of_operations(&ops[..2 * OP_WORDS + 1]);
     refused(comparison, "operations that are not whole", cut, 2, 2);
+    ops[1] = 4100;
+    refused(
+        comparison,
+        "an address off the eight",
+        IsWhRows::of_operations(&ops),
+        7,
+        4100,
+    );
     ops[OP_WORDS + 1] = u64::MAX;
     refused(comparison, "a high address", IsWhRows::of_operations(&ops), 4, u64::MAX);
 }

@@ -3,12 +3,13 @@
 use keccak_tables::is_wh::{self, IsWhKey};
 
 use crate::comparison::Comparison;
-use crate::inputs::{Words, addresses};
+use crate::inputs::{Words, addresses, unaligned_addresses};
 use crate::tuple_list::tuples;
 
 pub fn compare(comparison: &mut Comparison, words: &mut Words) {
     comparison.group("keys of numbers");
-    let mut numbers = addresses();
+    // A key is of any number.
+    let mut numbers = [addresses(), unaligned_addresses()].concat();
     numbers.extend((0..64).flat_map(|bit| [1 << bit, (1 << bit) - 1, u64::MAX << bit]));
     numbers.push(u64::MAX);
     numbers.extend(words.take(2000));

@@ -5,7 +5,7 @@ mod bitwise;
 mod constants;
 mod keys;
 pub mod refusals;
-mod tables;
+pub(crate) mod tables;
 
 use crate::comparison::Comparison;
 use crate::inputs::Words;

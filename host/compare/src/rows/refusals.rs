@@ -2,12 +2,14 @@
 //! panics there or has no such call); and every lent word as it was.
 
 use keccak_tables::keccak::LAST_ADDRESS;
-use keccak_tables::{MAX_OPS, OP_WORDS, P, bitwise, is_wh, keccak, keccak_rc, keccak_rnd};
+use keccak_tables::{MAX_OPS, OP_WORDS, P, Parameters, bitwise, is_wh, keccak, keccak_rc, keccak_rnd};
 
+use crate::by_floor::{self, FLOORS, REFUSED};
+use crate::by_rounds;
 use crate::comparison::Comparison;
-use crate::inputs::Words;
+use crate::inputs::{LAST_ALIGNED, Words};
 use crate::lent::Lent;
-use crate::list_calls::{LIST_CALLS, ListCall, TOO_MANY};
+use crate::list_calls::{LIST_CALLS, ListCall, TOO_MANY, of_addresses};
 use crate::refused::{on_slice, tuple_calls};
 use crate::untouched::Untouched;
 
@@ -29,6 +31,9 @@ pub fn compare(comparison: &mut Comparison, words: &mut Words) {
     round_rows(comparison, words);
     counts(comparison);
 }
+
+/// Numbers of rounds about both ends of those that are accepted.
+const ROUNDS: [u64; 9] = [0, 1, 12, 23, 24, 25, 26, 1 << 32, u64::MAX];
 
 fn bitwise_rows(comparison: &mut Comparison, words: &mut Words) {
     let end = bitwise::NUM_ROWS;
@@ -120,12 +125,15 @@ fn constant_tables(comparison: &mut Comparison, words: &mut Words) {
         let call = keccak_rc::generate_keccak_rc_trace;
         on_slice(comparison, words, what, length, short, call);
         for n in [0, 1, TOO_MANY - 1, TOO_MANY, TOO_MANY + 1, u64::MAX] {
-            let expected = if n >= TOO_MANY { Some((1, TOO_MANY)) } else { short };
-            let input = || format!("update_multiplicities to {n}");
-            let what = ("keccak_rc_update_multiplicities", input);
-            on_slice(comparison, words, what, length, expected, |table| {
-                keccak_rc::update_multiplicities(table, n)
-            });
+            let many = (n >= TOO_MANY).then_some((1, TOO_MANY));
+            for nr in ROUNDS {
+                let expected = by_rounds::refusal(nr).or(many).or(short);
+                let input = || format!("update_multiplicities to {n} by {nr} rounds");
+                let what = ("keccak_rc_update_multiplicities", input);
+                on_slice(comparison, words, what, length, expected, |table| {
+                    keccak_rc::update_multiplicities_with(Parameters::default().rounds(nr), table, n)
+                });
+            }
         }
     }
 }
@@ -147,7 +155,7 @@ fn operation_calls(comparison: &mut Comparison, words: &mut Words) {
     for call in &LIST_CALLS {
         for n in [0, 1, 3, 5] {
             lists_about_whole(comparison, words, call, n);
-            high_addresses(comparison, words, call, n);
+            refused_addresses(comparison, words, call, n);
         }
     }
     indexes(comparison, words);
@@ -157,7 +165,7 @@ fn operation_calls(comparison: &mut Comparison, words: &mut Words) {
 /// Lists with and without words past the last operation, and slices about the length needed.
 fn lists_about_whole(comparison: &mut Comparison, words: &mut Words, call: &ListCall, n: usize) {
     let none = (call.takes_index && n == 0).then_some((1, 0));
-    let needed = (call.needed)(n);
+    let needed = call.needed(n);
     for past in [0, 1, 51] {
         let mut ops = words.operations(n);
         ops.extend(words.take(past));
@@ -172,25 +180,36 @@ fn lists_about_whole(comparison: &mut Comparison, words: &mut Words, call: &List
     }
 }
 
-/// Each operation in turn at an address past the last one, and a second one after it; shorter slices are refused first.
-fn high_addresses(comparison: &mut Comparison, words: &mut Words, call: &ListCall, n: usize) {
-    let needed = (call.needed)(n);
+/// Each operation in turn at an address about the last one or off the eight, and the last operation at another; shorter slices are refused
+/// first.
+fn refused_addresses(comparison: &mut Comparison, words: &mut Words, call: &ListCall, n: usize) {
+    let needed = call.needed(n);
     for at in 0..n {
-        for address in [LAST_ADDRESS, LAST_ADDRESS + 1, LAST_ADDRESS + 2, u64::MAX] {
-            let mut ops = words.operations(n);
-            ops[at * OP_WORDS + 1] = address;
-            let high = address > LAST_ADDRESS;
-            if high && at + 1 < n {
-                ops[(n - 1) * OP_WORDS + 1] = u64::MAX - 1;
-            }
-            let input = || format!("{}, operation {at} of {n} at address {address}", call.name);
-            let short = Some((3, needed as u64));
-            for (length, expected) in [(needed, high.then_some((4, address))), (needed - 1, short)] {
-                let what = (call.name, input);
-                on_slice(comparison, words, what, length, expected, |out| call.at_last(&ops, out));
+        for address in refused_or_not() {
+            for last in [LAST_ALIGNED, 3, u64::MAX - 1] {
+                let mut ops = words.operations(n);
+                ops[(n - 1) * OP_WORDS + 1] = last;
+                ops[at * OP_WORDS + 1] = address;
+                let input = || {
+                    format!(
+                        "{}, operation {at} of {n} at address {address}, the last at {last}",
+                        call.name
+                    )
+                };
+                let short = Some((3, needed as u64));
+                for (length, expected) in [(needed, of_addresses(&ops)), (needed - 1, short)] {
+                    let what = (call.name, input);
+                    on_slice(comparison, words, what, length, expected, |out| call.at_last(&ops, out));
+                }
             }
         }
     }
+}
+
+/// The highest accepted address and the next multiple of 8; what is between them and behind; and each rest by 8.
+fn refused_or_not() -> Vec<u64> {
+    let about_the_last = [LAST_ALIGNED, LAST_ADDRESS, LAST_ADDRESS + 1, LAST_ADDRESS + 2, u64::MAX];
+    about_the_last.into_iter().chain(4096..4104).collect()
 }
 
 fn indexes(comparison: &mut Comparison, words: &mut Words) {
@@ -212,7 +231,7 @@ fn too_many(comparison: &mut Comparison, words: &mut Words) {
     };
     for call in &LIST_CALLS {
         for (operations, past, expected) in [
-            (MAX_OPS, 0, (3, (call.needed)(MAX_OPS) as u64)),
+            (MAX_OPS, 0, (3, call.needed(MAX_OPS) as u64)),
             (MAX_OPS, 1, (2, 2)),
             (MAX_OPS + 1, 0, (1, TOO_MANY)),
             (MAX_OPS + 1, 1, (1, TOO_MANY)),
@@ -248,16 +267,28 @@ fn round_rows(comparison: &mut Comparison, words: &mut Words) {
     }
 }
 
-fn counts(comparison: &mut Comparison) {
-    for n in [MAX_OPS, MAX_OPS + 1, MAX_OPS + 2, usize::MAX] {
-        let answers = [
-            ("keccak_height", keccak::keccak_height(n).map(drop)),
-            ("keccak_rnd_height", keccak_rnd::keccak_rnd_height(n).map(drop)),
-            ("padding_are_bytes", keccak_rnd::padding_are_bytes(n).map(drop)),
-        ];
-        for (name, answer) in answers {
-            let expected = (n > MAX_OPS).then_some((1, TOO_MANY));
-            comparison.answered(name, || format!("{name}({n})"), answer, expected);
+/// Every floor and those that are none, numbers of rounds about both ends, and numbers of operations about the limit.
+pub fn counts(comparison: &mut Comparison) {
+    for n in [0, MAX_OPS, MAX_OPS + 1, MAX_OPS + 2, usize::MAX] {
+        let many = (n > MAX_OPS).then_some((1, TOO_MANY));
+        for floor in FLOORS.into_iter().chain(REFUSED) {
+            let floored = by_floor::refusal(floor).or(many);
+            let core = keccak::keccak_height_with(Parameters::default().floor(floor), n);
+            comparison.answered(
+                "keccak_height",
+                || format!("keccak_height({floor}, {n})"),
+                core,
+                floored,
+            );
+            for nr in ROUNDS {
+                let with = Parameters::default().rounds(nr).floor(floor);
+                let expected = by_rounds::refusal(nr).or(floored);
+                let height = keccak_rnd::keccak_rnd_height_with(with, n).map(drop);
+                let padding = keccak_rnd::padding_are_bytes_with(with, n).map(drop);
+                for (name, answer) in [("keccak_rnd_height", height), ("padding_are_bytes", padding)] {
+                    comparison.answered(name, || format!("{name}({nr}, {floor}, {n})"), answer, expected);
+                }
+            }
         }
     }
 }

@@ -1,7 +1,8 @@
 //! Core and round tables, their single rows, keys and heights.
 
-use keccak_tables::{MAX_OPS, OP_WORDS, Operation, Refusal, keccak, keccak_rnd};
+use keccak_tables::{MAX_OPS, OP_WORDS, Operation, Parameters, Refusal, keccak, keccak_rnd};
 
+use crate::by_floor;
 use crate::comparison::Comparison;
 use crate::inputs::{Words, addresses, number, operation_of_row, states};
 use crate::lent::Lent;
@@ -82,7 +83,6 @@ fn tables(comparison: &mut Comparison, words: &mut Words, ops: &[u64]) {
     let call = keccak_rnd::generate_keccak_rnd_trace;
     table(comparison, words, round, ops, call, &expected);
     own_memory(comparison, round, ops, keccak_rnd::keccak_rnd_table, &expected);
-    let round = ("round rows", keccak_rnd::NUM_COLUMNS, keccak_rnd::ROUNDS);
     parts(comparison, words, round, ops, keccak_rnd::keccak_rnd_rows, &expected);
     let keys = ("keys", keccak::KEY_WORDS, 1);
     let expected = oracle::is_wh_keys(ops);
@@ -94,8 +94,31 @@ fn core_tables(comparison: &mut Comparison, words: &mut Words, ops: &[u64]) {
     let expected = oracle::core_table(ops);
     table(comparison, words, core, ops, keccak::generate_keccak_trace, &expected);
     own_memory(comparison, core, ops, keccak::keccak_table, &expected);
-    let core = ("core rows", keccak::NUM_COLUMNS, 1);
     parts(comparison, words, core, ops, keccak::keccak_rows, &expected);
+}
+
+/// A core table by the calls that take parameters: whole, and in memory of its own.
+pub fn core_tables_by(comparison: &mut Comparison, words: &mut Words, with: Parameters, ops: &[u64]) {
+    let expected = by_floor::core_table(with.floor, ops);
+    let name = format!("core table with floor {}", with.floor);
+    let core = (name.as_str(), keccak::NUM_COLUMNS, 1);
+    let whole = |ops: &[u64], table: &mut [u64]| keccak::generate_keccak_trace_with(with, ops, table);
+    table(comparison, words, core, ops, whole, &expected);
+    let own = |ops: &[u64]| keccak::keccak_table_with(with, ops);
+    own_memory(comparison, core, ops, own, &expected);
+}
+
+/// A round table by the calls that take parameters: whole, in memory of its own, and its rows in parts.
+pub fn round_tables_by(comparison: &mut Comparison, words: &mut Words, with: Parameters, ops: &[u64]) {
+    let expected = by_floor::round_table(with, ops);
+    let name = format!("round table of {} rounds with floor {}", with.rounds, with.floor);
+    let round = (name.as_str(), keccak_rnd::NUM_COLUMNS, with.rounds as usize);
+    let whole = |ops: &[u64], table: &mut [u64]| keccak_rnd::generate_keccak_rnd_trace_with(with, ops, table);
+    table(comparison, words, round, ops, whole, &expected);
+    let own = |ops: &[u64]| keccak_rnd::keccak_rnd_table_with(with, ops);
+    own_memory(comparison, round, ops, own, &expected);
+    let rows = |ops: &[u64], table: &mut [u64]| keccak_rnd::keccak_rnd_rows_with(with, ops, table);
+    parts(comparison, words, round, ops, rows, &expected);
 }
 
 /// A table in memory of its own, where a long list is written on all cores.
@@ -103,7 +126,7 @@ fn own_memory(
     comparison: &mut Comparison,
     (name, width, rows): (&str, usize, usize),
     ops: &[u64],
-    call: fn(&[u64]) -> Result<Vec<u64>, Refusal>,
+    call: impl Fn(&[u64]) -> Result<Vec<u64>, Refusal>,
     expected: &[u64],
 ) {
     let input = || format!("{name} of {} operations in memory of its own", ops.len() / OP_WORDS);
@@ -118,12 +141,13 @@ fn parts(
     words: &mut Words,
     (name, width, rows): (&str, usize, usize),
     ops: &[u64],
-    call: fn(&[u64], &mut [u64]) -> Result<(), Refusal>,
+    call: impl Fn(&[u64], &mut [u64]) -> Result<(), Refusal>,
     expected: &[u64],
 ) {
     let n = ops.len() / OP_WORDS;
     let expected = &expected[..n * rows * width];
-    table(comparison, words, (name, width, rows), ops, call, expected);
+    let name = &format!("rows of the {name}");
+    table(comparison, words, (name, width, rows), ops, &call, expected);
     let cut = words.below(n as u64 + 1) as usize;
     let mut lent = Lent::drawn(expected.len() + words.below(9) as usize, words);
     let (early, late) = lent.slice().split_at_mut(cut * rows * width);
@@ -140,7 +164,7 @@ fn table(
     words: &mut Words,
     (name, width, rows): (&str, usize, usize),
     ops: &[u64],
-    call: fn(&[u64], &mut [u64]) -> Result<(), Refusal>,
+    call: impl Fn(&[u64], &mut [u64]) -> Result<(), Refusal>,
     expected: &[u64],
 ) {
     let mut table = Lent::drawn(expected.len() + words.below(9) as usize, words);
@@ -249,7 +273,7 @@ fn heights_of_tables(comparison: &mut Comparison) {
 
 /// Heights against the Rust's expression, padding lookups against its function.
 fn heights(comparison: &mut Comparison) {
-    for n in counts() {
+    for n in counts(24) {
         let input = |what| move || format!("{what} for n = {n}");
         let core = comparison.done(input("the core height"), keccak::keccak_height(n));
         let round = comparison.done(input("the round height"), keccak_rnd::keccak_rnd_height(n));
@@ -269,12 +293,29 @@ fn heights(comparison: &mut Comparison) {
     }
 }
 
-/// Numbers of operations about every change of either height, and at the limit.
-fn counts() -> Vec<usize> {
+/// Heights and padding lookups by these parameters, against the requests' words.
+pub fn heights_by(comparison: &mut Comparison, with: Parameters) {
+    for n in counts(with.rounds as usize) {
+        let input = || format!("heights and padding lookups for n = {n}, {with:?}");
+        let core = comparison.done(input, keccak::keccak_height_with(with, n));
+        let round = comparison.done(input, keccak_rnd::keccak_rnd_height_with(with, n));
+        let padding = comparison.done(input, keccak_rnd::padding_are_bytes_with(with, n));
+        let [core, round] = [core, round].map(|rows| rows.unwrap_or(0) as u64);
+        let expected = [
+            by_floor::height(with.floor, n) as u64,
+            by_floor::round_height(with, n) as u64,
+            by_floor::padding_are_bytes(with, n),
+        ];
+        comparison.equal(|_| input(), &[core, round, padding.unwrap_or(0)], &expected);
+    }
+}
+
+/// Numbers of operations of so many rounds about every change of either height, and at the limit.
+fn counts(rounds: usize) -> Vec<usize> {
     let mut counts: Vec<usize> = (0..=200).collect();
     for power in 2..=31 {
         let rows = 1usize << power;
-        for at in [rows, rows / 24] {
+        for at in [rows, rows / rounds] {
             counts.extend(at.saturating_sub(2)..=at + 2);
         }
     }

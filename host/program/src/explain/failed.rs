@@ -4,6 +4,7 @@ use keccak_tables::layout;
 use keccak_tables::verdict::Table;
 
 use super::{table_named, tuple, value};
+use crate::options;
 
 /// What a line says, given by its words; a lookup or a balance may stand without its tuple.
 pub fn text(line: &[&str]) -> Result<String, String> {
@@ -18,14 +19,13 @@ pub fn text(line: &[&str]) -> Result<String, String> {
 }
 
 fn number(word: &str) -> Result<u64, String> {
-    let digits = word.bytes().all(|byte| byte.is_ascii_digit());
-    let number = word.parse().ok().filter(|_| digits);
-    number.ok_or_else(|| format!("{word} is no number below 2^64"))
+    options::number(word).ok_or_else(|| format!("{word} is no number below 2^64"))
 }
 
 fn holds(active: u64) -> String {
     format!(
-        "Both tables hold. Each of the {active} active core rows has an OUTPUT that is Keccak-f[1600] of its INPUT.\n"
+        "Both tables hold. Each of the {active} active core rows has an OUTPUT that is Keccak-p[1600, NR] of its INPUT, NR being the \
+         rounds by which they were judged: of 24, Keccak-f[1600].\n"
     )
 }
 

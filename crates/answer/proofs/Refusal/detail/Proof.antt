@@ -21,6 +21,15 @@ enum-known-self-5 c = search needs
 enum-known-self-6 : tie.Need-enum-known-self-6
 enum-known-self-6 c = search needs
 
+enum-known-self-7 : tie.Need-enum-known-self-7
+enum-known-self-7 c = search needs
+
+enum-known-self-8 : tie.Need-enum-known-self-8
+enum-known-self-8 c = search needs
+
+enum-known-self-9 : tie.Need-enum-known-self-9
+enum-known-self-9 c = search needs
+
 returns : tie.Need-returns
 returns c = rw (c .before .self .given .1)
 
@@ -39,6 +48,15 @@ returns-5 c = rw (c .before .self5 .given .1)
 returns-6 : tie.Need-returns-6
 returns-6 c = rw (c .before .self6 .given .1)
 
+returns-7 : tie.Need-returns-7
+returns-7 c = rw (c .before .self7 .given .1)
+
+returns-8 : tie.Need-returns-8
+returns-8 c = rw (c .before .self8 .given .1)
+
+returns-9 : tie.Need-returns-9
+returns-9 c = rw (c .before .self9 .given .1)
+
 pub detail-spec : {M : Type 1} → statement M
 detail-spec =
     tie.close
@@ -49,9 +67,15 @@ detail-spec =
     enum-known-self-4
     enum-known-self-5
     enum-known-self-6
+    enum-known-self-7
+    enum-known-self-8
+    enum-known-self-9
     returns
     returns-2
     returns-3
     returns-4
     returns-5
-    returns-6)
+    returns-6
+    returns-7
+    returns-8
+    returns-9)

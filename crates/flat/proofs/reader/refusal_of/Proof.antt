@@ -1,32 +1,45 @@
 -- `refusal_of` meets its contract: one number after the other.
-use borrow.Author.Tests.{eq-eqb, ne-eqb}
+use mathlib.Core.Path.{sym, ap}
+use borrow.Author.Tests.{ne-eqb}
 use Rattle.flat.specs.FlatReader.{refusalOf}
 use Rattle.flat.proofs.reader.refusal_of.Statement.{statement}
 use Rattle.flat.proofs.reader.refusal_of.Tie as tie
 
 returns : tie.Need-returns
 unfolding refusalOf
-returns c = simp (eq-eqb _ _ (c .if1 .taken))
+returns c = let args = c .before .args in sym (ap (λ n. refusalOf n (args .detail)) (c .match .keys1))
 
 returns-2 : tie.Need-returns-2
 unfolding refusalOf
-returns-2 c = simp (ne-eqb _ _ (c .before .if1 .left), eq-eqb _ _ (c .if2 .taken))
+returns-2 c = let args = c .before .args in sym (ap (λ n. refusalOf n (args .detail)) (c .match .keys2))
 
 returns-3 : tie.Need-returns-3
 unfolding refusalOf
-returns-3 c = simp (ne-eqb _ _ (c .before .before .if1 .left), ne-eqb _ _ (c .before .if2 .left), eq-eqb _ _ (c .if3 .taken))
+returns-3 c = let args = c .before .args in sym (ap (λ n. refusalOf n (args .detail)) (c .match .keys3))
 
 returns-4 : tie.Need-returns-4
 unfolding refusalOf
-returns-4 c = simp (ne-eqb _ _ (c .before .before .before .if1 .left), ne-eqb _ _ (c .before .before .if2 .left), ne-eqb _ _ (c .before .if3 .left), eq-eqb _ _ (c .if4 .taken))
+returns-4 c = let args = c .before .args in sym (ap (λ n. refusalOf n (args .detail)) (c .match .keys4))
 
 returns-5 : tie.Need-returns-5
 unfolding refusalOf
-returns-5 c = simp (ne-eqb _ _ (c .before .before .before .before .if1 .left), ne-eqb _ _ (c .before .before .before .if2 .left), ne-eqb _ _ (c .before .before .if3 .left), ne-eqb _ _ (c .before .if4 .left), eq-eqb _ _ (c .if5 .taken))
+returns-5 c = let args = c .before .args in sym (ap (λ n. refusalOf n (args .detail)) (c .match .keys5))
 
 returns-6 : tie.Need-returns-6
 unfolding refusalOf
-returns-6 c = simp (ne-eqb _ _ (c .before .before .before .before .if1 .left), ne-eqb _ _ (c .before .before .before .if2 .left), ne-eqb _ _ (c .before .before .if3 .left), ne-eqb _ _ (c .before .if4 .left), ne-eqb _ _ (c .if5 .left))
+returns-6 c = let args = c .before .args in sym (ap (λ n. refusalOf n (args .detail)) (c .match .keys6))
+
+returns-7 : tie.Need-returns-7
+unfolding refusalOf
+returns-7 c = let args = c .before .args in sym (ap (λ n. refusalOf n (args .detail)) (c .match .keys7))
+
+returns-8 : tie.Need-returns-8
+unfolding refusalOf
+returns-8 c = let args = c .before .args in sym (ap (λ n. refusalOf n (args .detail)) (c .match .keys8))
+
+returns-9 : tie.Need-returns-9
+unfolding refusalOf
+returns-9 c = let r = c .match .rest in simp (ne-eqb _ _ (r .0 .0 .0 .0 .0 .0 .0 .1), ne-eqb _ _ (r .0 .0 .0 .0 .0 .0 .1), ne-eqb _ _ (r .0 .0 .0 .0 .0 .1), ne-eqb _ _ (r .0 .0 .0 .0 .1), ne-eqb _ _ (r .0 .0 .0 .1), ne-eqb _ _ (r .0 .0 .1), ne-eqb _ _ (r .0 .1), ne-eqb _ _ (r .1))
 
 pub refusal-of-spec : {M : Type 1} → statement M
-refusal-of-spec = tie.close (tie.spec returns returns-2 returns-3 returns-4 returns-5 returns-6)
+refusal-of-spec = tie.close (tie.spec returns returns-2 returns-3 returns-4 returns-5 returns-6 returns-7 returns-8 returns-9)

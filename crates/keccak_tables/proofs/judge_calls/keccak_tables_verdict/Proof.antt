@@ -32,17 +32,17 @@ verdict-requires c κs = search needs
 verdict-words-requires : tie.Need-verdict-words-requires
 verdict-words-requires c κs = search needs
 
-array-read-t8 : tie.Need-array-read-t8
-array-read-t8 c = search needs
+array-read-t9 : tie.Need-array-read-t9
+array-read-t9 c = search needs
 
-array-read-t11 : tie.Need-array-read-t11
-array-read-t11 c = search needs
+array-read-t12 : tie.Need-array-read-t12
+array-read-t12 c = search needs
 
-array-read-t14 : tie.Need-array-read-t14
-array-read-t14 c = search needs
+array-read-t15 : tie.Need-array-read-t15
+array-read-t15 c = search needs
 
-array-read-t17 : tie.Need-array-read-t17
-array-read-t17 c = search needs
+array-read-t18 : tie.Need-array-read-t18
+array-read-t18 c = search needs
 
 returns : tie.Need-returns
 returns c =
@@ -56,8 +56,8 @@ keccak-tables-verdict-spec =
     (tie.spec
     verdict-requires
     verdict-words-requires
-    array-read-t8
-    array-read-t11
-    array-read-t14
-    array-read-t17
+    array-read-t9
+    array-read-t12
+    array-read-t15
+    array-read-t18
     returns)

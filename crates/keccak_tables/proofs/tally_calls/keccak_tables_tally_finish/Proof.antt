@@ -18,7 +18,7 @@ flat-tally-requires c κs = search needs
 returns : tie.Need-returns
 returns c =
     let read = c .before .before .cursor-of .ensures in
-    c .flat-tally .ensures ∙ ap flatTally (c .before .finish .ensures ∙ ap (finishOf _) read)
+    c .flat-tally .ensures ∙ ap flatTally (c .before .finish .ensures ∙ ap (finishOf _ _) read)
 
 pub keccak-tables-tally-finish-spec : {M : Type 1} → statement M
 keccak-tables-tally-finish-spec =

@@ -1,10 +1,11 @@
 //! Times the proved calls against the published Rust's on the same inputs: `bench rows`, `bench lookups`, `bench looked_up`,
-//! `bench values`, `bench tuples`, `bench verdict`; and what has no counterpart there: `bench cores`, `bench tally`,
+//! `bench values`, `bench tuples`, `bench verdict`; and what has no counterpart there: `bench charge`, `bench cores`, `bench tally`,
 //! `bench shuffled`, `bench descending`.
 //! `bench all` runs each in turn and ends with a table of the ratios.
 //! It prints for each call the best of several runs, ours and theirs in turn, and lines `ratio NAME X.XX`: our time over
 //! theirs. The comment at the top of each area's file says what is timed.
 
+mod charge;
 mod cores;
 mod descending;
 mod looked_up;
@@ -20,7 +21,7 @@ mod verdict;
 use std::process::ExitCode;
 
 const USAGE: &str = "\
-usage: bench all | bench rows | bench lookups | bench looked_up | bench values | bench tuples | bench verdict | bench cores
+usage: bench all | bench rows | bench lookups | bench looked_up | bench charge | bench values | bench tuples | bench verdict | bench cores
        bench tally [BYTES]      (of the operation file; 1000000000 where none are given)
        bench shuffled [CALLS]   (100 where none are given)
        bench descending [CALLS] (1000 where none are given)
@@ -42,6 +43,7 @@ fn main() -> ExitCode {
         ("rows", None) => rows::run(),
         ("lookups", None) => lookups::run(),
         ("looked_up", None) => looked_up::run(),
+        ("charge", None) => charge::run(),
         ("values", None) => values::run(),
         ("tuples", None) => tuples::run(),
         ("verdict", None) => verdict::run(),
@@ -55,6 +57,7 @@ fn main() -> ExitCode {
                 cores::run,
                 lookups::run,
                 looked_up::run,
+                charge::run,
                 values::run,
                 tuples::run,
                 verdict::run,

@@ -115,13 +115,17 @@ fn rust(mut file: &File) -> io::Result<u64> {
     file.rewind()?;
     let mut reader = BufReader::with_capacity(BUFFER, file);
     let mut record = [0; RECORD_BYTES];
-    let mut records = 0;
+    let (mut records, mut unaligned) = (0, 0);
     while !reader.fill_buf()?.is_empty() {
         reader.read_exact(&mut record)?;
         let address = u64::from_le_bytes(record[10..18].try_into().expect("eight bytes"));
         assert!(record.starts_with(b"KO") && address <= LAST_ADDRESS);
-        records += 1;
+        match address % 8 {
+            0 => records += 1,
+            _ => unaligned += 1,
+        }
     }
+    assert_eq!(unaligned, 0, "drawn operations are on the eight");
     Ok(records)
 }
 

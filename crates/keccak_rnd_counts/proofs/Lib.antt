@@ -1,0 +1,4 @@
+pub mod Charging
+pub mod Ops
+pub mod Round
+pub mod Sums

@@ -1,0 +1,11 @@
+pub mod RowKinds
+pub mod Sums
+pub mod Accepted
+pub mod Look
+pub mod Orders
+pub mod Stays
+pub mod Rows
+pub mod Padding
+pub mod Segments
+pub mod Refusals
+pub mod Looking

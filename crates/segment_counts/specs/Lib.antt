@@ -1,0 +1,4 @@
+pub mod Segment
+pub mod Sums
+pub mod Orders
+pub mod Kinds
