@@ -14,7 +14,8 @@
  *   N  what is wrong                                                            detail
  *   1  an index, kind, Z, round or number of operations, keys or rows past its  the least number refused
  *      end
- *   2  a table or a list that is not whole rows, operations, lookups or keys    0 core, 1 round, 2 list
+ *   2  a table or a list that is not whole rows, operations, lookups or keys;   0 core, 1 round, 2 list
+ *      a list of row counts that does not split a job's tables
  *   3  a slice too short                                                        the length needed
  *   4  an address above 2^64 - 193: a lane would start past 2^64 - 1            the first such address
  *   5  a column, a word of a judged table or a counter that is not below p; a   its place in the slice, from 0
@@ -26,6 +27,12 @@
  *      others
  *   9  a floor that is no power of two from 4 to 65,536. It is checked after 8  that floor
  *      and before 1
+ *  10  a register that is not in use. It is checked after 9 and before 1        its number
+ *  11  a segment word of 2^32 or more in a list of operations. It is checked    the first such word
+ *      after 7 and before 5
+ *  12  a message of more than 65,536 bytes. It is checked after 1 and before 2  its length
+ *  13  timestamps that pass 2^64 - 1. It is checked after 12 and before 2       the first of them
+ *  14  more than 4,096 files of a month. It is checked after 9 and before 1     their number
  *
  * `nr` is the number of rounds, one for a whole segment: 24 makes and judges the tables of Keccak-f[1600], and nr those of
  * Keccak-p[1600, nr] of FIPS 202, whose rounds run from 24 - nr to 23.
@@ -34,9 +41,11 @@
  * 65,536. A table has as many rows as the next power of two of those that it needs, and no fewer than the floor; the rest is padding.
  * The tables that are looked up have no part in it.
  *
- * A list of operations is flat, 52 words each: timestamp, address, 25 input lanes, 25 output lanes; lane (x, y) is at x + 5y.
+ * A list of operations is flat, 53 words each: timestamp, address, 25 input lanes, 25 output lanes, segment number; lane (x, y) is at
+ * x + 5y. A segment number has 32 bits, and no table, key or counter depends on it.
  * A list of lookups is flat too, 4 words each: kind, x, y, z. A list of keys has 2 words each: a pointer's upper 32 bits, and its bits
- * 16 to 31; a list of rows of the IS_WH table 3 words each: a key's two, and how often.
+ * 16 to 31; a list of rows of the IS_WH table 3 words each: a key's two, and how often. A list of a job's row counts has 2 words a
+ * segment: its core rows and its round rows.
  * A row may be lent longer than its columns; the rest is neither read nor written.
  *
  * A state has two orders. Columns, and lanes of operations, run by lane x + 5y: byte b of lane (x, y) is 8 (x + 5 y) + b columns
@@ -77,6 +86,11 @@ extern "C" {
 #define KECCAK_TABLES_REFUSAL_UNALIGNED 7
 #define KECCAK_TABLES_REFUSAL_ROUNDS 8
 #define KECCAK_TABLES_REFUSAL_FLOOR 9
+#define KECCAK_TABLES_REFUSAL_REGISTER 10
+#define KECCAK_TABLES_REFUSAL_SEGMENT 11
+#define KECCAK_TABLES_REFUSAL_LONG_MESSAGE 12
+#define KECCAK_TABLES_REFUSAL_LATE_TIMESTAMP 13
+#define KECCAK_TABLES_REFUSAL_FILES 14
 #define KECCAK_TABLES_LENT_CORE 0
 #define KECCAK_TABLES_LENT_ROUND 1
 #define KECCAK_TABLES_LENT_LIST 2
@@ -129,17 +143,24 @@ extern "C" {
 #define KECCAK_TABLES_P 0xFFFFFFFF00000001
 
 /*
- * The words of an operation, the most operations of a list, the highest address that is not refused by 4 (the highest multiple of
- * 8 is 7 below it), the bytes of a file's record.
+ * The words of an operation, and the place of its segment number among them; the most operations of a list, the highest address that is
+ * not refused by 4 (the highest multiple of 8 is 7 below it), the bytes of a file's record without and with a segment number, and the bytes of
+ * their marks: the first, and the second of either.
  */
-#define KECCAK_TABLES_OP_WORDS 52
+#define KECCAK_TABLES_OP_WORDS 53
+#define KECCAK_TABLES_SEGMENT_WORD 52
 #define KECCAK_TABLES_MAX_OPS 89478485
 #define KECCAK_TABLES_LAST_ADDRESS 0xFFFFFFFFFFFFFF3F
 #define KECCAK_TABLES_RECORD_BYTES 418
+#define KECCAK_TABLES_SEGMENT_RECORD_BYTES 422
+#define KECCAK_TABLES_FIRST_MARK 0x4B
+#define KECCAK_TABLES_PLAIN_MARK 0x4F
+#define KECCAK_TABLES_SEGMENT_MARK 0x50
 
 /*
  * Bitwise rows: their number, the columns that the index fixes, all columns, the words of the table; the kinds of lookup; the
- * counters; the words of a lookup in a list; the words of a look at a charge.
+ * counters; the words of a lookup in a list; the words of a look at a charge; the most registers in use, the words of a register's
+ * ledger, and the words of its look.
  */
 #define KECCAK_TABLES_BITWISE_ROWS 1048576
 #define KECCAK_TABLES_BITWISE_FIXED_COLUMNS 11
@@ -149,6 +170,14 @@ extern "C" {
 #define KECCAK_TABLES_BITWISE_COUNTERS 10485760
 #define KECCAK_TABLES_LOOKUP_WORDS 4
 #define KECCAK_TABLES_LOOK_WORDS 20
+#define KECCAK_TABLES_MAX_REGISTERS 16
+#define KECCAK_TABLES_LEDGER_WORDS 10
+#define KECCAK_TABLES_REGISTER_LOOK_WORDS 30
+
+/* Of a message: the bytes of a block, the most bytes, and the bytes of its digest. */
+#define KECCAK_TABLES_RATE 136
+#define KECCAK_TABLES_MAX_MESSAGE 65536
+#define KECCAK_TABLES_DIGEST_BYTES 32
 
 /* Constant rows: their number, the columns that the row's number fixes, all columns, the words of the table. */
 #define KECCAK_TABLES_RC_ROWS 32
@@ -187,6 +216,23 @@ extern "C" {
 #define KECCAK_TABLES_FLOOR 4
 #define KECCAK_TABLES_MAX_FLOOR 65536
 
+/*
+ * A month: the most files, its words and what each is. From KECCAK_TABLES_MONTH_HEIGHTS on stand the files at each round height, 2^2 to
+ * 2^31; KECCAK_TABLES_MONTH_SHOWN is 1 where there is a file, and so a fullest and an emptiest, else 0.
+ */
+#define KECCAK_TABLES_MAX_FILES 4096
+#define KECCAK_TABLES_MONTH_WORDS 39
+#define KECCAK_TABLES_MONTH_FILES 0
+#define KECCAK_TABLES_MONTH_OPERATIONS 1
+#define KECCAK_TABLES_MONTH_USED_ROWS 2
+#define KECCAK_TABLES_MONTH_PADDING_ROWS 3
+#define KECCAK_TABLES_MONTH_FULLEST_USED 4
+#define KECCAK_TABLES_MONTH_FULLEST_TOTAL 5
+#define KECCAK_TABLES_MONTH_EMPTIEST_USED 6
+#define KECCAK_TABLES_MONTH_EMPTIEST_TOTAL 7
+#define KECCAK_TABLES_MONTH_HEIGHTS 8
+#define KECCAK_TABLES_MONTH_SHOWN 38
+
 /* Columns of a core row: each group's first. */
 #define KECCAK_TABLES_CORE_TIMESTAMP_0 0
 #define KECCAK_TABLES_CORE_TIMESTAMP_1 1
@@ -217,6 +263,10 @@ extern "C" {
 /* The most values that a tuple of any row has, and the most bytes that the line of a verdict has. */
 #define KECCAK_TABLES_MAX_TUPLE_LENGTH 203
 #define KECCAK_TABLES_LINE_MOST 4335
+
+/* The words of a segment in a list of row counts, and those of a verdict in the report on a job. */
+#define KECCAK_TABLES_COUNT_WORDS 2
+#define KECCAK_TABLES_VERDICT_WORDS 4
 
 /* The answer of a call that only writes. */
 typedef struct keccak_tables_answer {
@@ -281,8 +331,9 @@ typedef struct keccak_tables_judgement {
 
 /*
  * Where a reader of an operation file stands: refusal and detail of the first fault, or 0 and 0 and then the whole records at
- * multiples of 8, the bytes of the next one, what its address bytes so far make, and the whole records at other addresses. Hand it
- * from call to call as it is.
+ * multiples of 8, the bytes of the next one, what its address bytes so far make, the whole records at other addresses, where the next one
+ * starts, the second byte of its mark, what the bytes of its segment number so far make, and of the records at multiples of 8 whether one has a
+ * segment number, the least and the greatest. Hand it from call to call as it is.
  */
 typedef struct keccak_tables_cursor {
     uint64_t refusal;
@@ -291,11 +342,18 @@ typedef struct keccak_tables_cursor {
     size_t at;
     uint64_t address;
     uint64_t unaligned;
+    uint64_t start;
+    uint64_t mark;
+    uint64_t tail;
+    uint64_t segments;
+    uint64_t least_segment;
+    uint64_t greatest_segment;
 } keccak_tables_cursor;
 
 /*
  * What a file's tables would hold and send: operations, heights, and per bus the sum of multiplicities (Ecall: received). Records at
- * addresses that are no multiples of 8 are left out of all of these, and `unaligned` is their number.
+ * addresses that are no multiples of 8 are left out of all of these, and `unaligned` is their number. Where a record that is counted is marked
+ * 4B 50, `segments` is 1, and the least and the greatest segment number are those of all that are counted; else the three are 0.
  */
 typedef struct keccak_tables_sums {
     uint64_t refusal;
@@ -311,6 +369,9 @@ typedef struct keccak_tables_sums {
     uint64_t memw;
     uint64_t ecall;
     uint64_t unaligned;
+    uint64_t segments;
+    uint64_t least_segment;
+    uint64_t greatest_segment;
 } keccak_tables_sums;
 
 /* ---- bitwise rows and their counters ---- */
@@ -465,9 +526,10 @@ keccak_tables_tuple keccak_tables_is_wh_bus_interaction(const uint64_t *row, siz
 /* ---- the core table ---- */
 
 /*
- * Writes the core row of operation `index` of a list. Every address of the list is checked, so a call's time grows with the list: where
- * one row is wanted, lend its 52 words alone, `keccak_tables_keccak_row(ops + 52 * index, 52, 0, row, 486)`.
- * 1 more than 89,478,485 operations, then index >= their number; 2 the list; 3 row < 486; 4, 7 the first such address of the list.
+ * Writes the core row of operation `index` of a list. Every operation of the list is checked, so a call's time grows with the list: where
+ * one row is wanted, lend its 53 words alone, `keccak_tables_keccak_row(ops + 53 * index, 53, 0, row, 486)`.
+ * 1 more than 89,478,485 operations, then index >= their number; 2 the list; 3 row < 486; 4, 7 the first such address of the list; 11 its
+ * first such segment word.
  */
 KECCAK_TABLES_MUST_USE
 keccak_tables_answer keccak_tables_keccak_row(const uint64_t *ops, size_t ops_length, size_t index, uint64_t *row,
@@ -475,7 +537,7 @@ keccak_tables_answer keccak_tables_keccak_row(const uint64_t *ops, size_t ops_le
 
 /*
  * Writes the core table of a list. 9 floor; 1 more than 89,478,485 operations; 2 the list; 3 table < height * 486; 4, 7 an
- * address.
+ * address; 11 a segment word.
  */
 KECCAK_TABLES_MUST_USE
 keccak_tables_answer keccak_tables_generate_keccak_trace(uint64_t floor, const uint64_t *ops, size_t ops_length, uint64_t *table,
@@ -484,12 +546,15 @@ keccak_tables_answer keccak_tables_generate_keccak_trace(uint64_t floor, const u
 /*
  * Writes the rows of a list's operations alone, with no padding. The rows of two lists, one after the other, are those of the list that
  * the two make, so threads can fill one table, each its own part from its part of the list.
- * 1 more than 89,478,485 operations; 2 the list; 3 table < 486 n; 4, 7 an address.
+ * 1 more than 89,478,485 operations; 2 the list; 3 table < 486 n; 4, 7 an address; 11 a segment word.
  */
 KECCAK_TABLES_MUST_USE
 keccak_tables_answer keccak_tables_keccak_rows(const uint64_t *ops, size_t ops_length, uint64_t *table, size_t table_length);
 
-/* Writes the keys of a list, 25 to an operation. 1 more than 89,478,485 operations; 2 the list; 3 out < 50 n; 4, 7 an address. */
+/*
+ * Writes the keys of a list, 25 to an operation. 1 more than 89,478,485 operations; 2 the list; 3 out < 50 n; 4, 7 an address; 11 a
+ * segment word.
+ */
 KECCAK_TABLES_MUST_USE
 keccak_tables_answer keccak_tables_is_wh_keys(const uint64_t *ops, size_t ops_length, uint64_t *out, size_t out_length);
 
@@ -526,13 +591,13 @@ keccak_tables_answer keccak_tables_keccak_rnd_row(uint64_t timestamp, const uint
 
 /*
  * Writes the round table of a list, nr rows to an operation. 8 nr; 9 floor; 1 more than 89,478,485 operations; 2 the list; 3 table <
- * height * 1,480; 4, 7 an address.
+ * height * 1,480; 4, 7 an address; 11 a segment word.
  */
 KECCAK_TABLES_MUST_USE
 keccak_tables_answer keccak_tables_generate_keccak_rnd_trace(uint64_t nr, uint64_t floor, const uint64_t *ops, size_t ops_length,
                                                              uint64_t *table, size_t table_length);
 
-/* Writes the rows of a list's operations alone, nr to each, likewise. 8, 1, 2, 4 and 7 as the table; 3 table < nr * 1,480 n. */
+/* Writes the rows of a list's operations alone, nr to each, likewise. 8, 1, 2, 4, 7 and 11 as the table; 3 table < nr * 1,480 n. */
 KECCAK_TABLES_MUST_USE
 keccak_tables_answer keccak_tables_keccak_rnd_rows(uint64_t nr, const uint64_t *ops, size_t ops_length, uint64_t *table,
                                                    size_t table_length);
@@ -567,7 +632,8 @@ keccak_tables_answer keccak_tables_keccak_rnd_bus_interactions(const uint64_t *r
 /*
  * Adds to the counters of the bitwise table, mod p, all that the core and the round table of a list look up there, padding rows included.
  * An empty list adds nothing, and where its tables are shipped the padding rows' pairs of bytes, 220 times the floor. 8 nr; 9 floor;
- * 1 more than 89,478,485 operations; 2 the list; 3 counters < 10,485,760; 4, 7 an address; 5 any counter.
+ * 1 more than 89,478,485 operations; 2 the list; 3 counters < 10,485,760; 4, 7 an address; 11 a segment word; 5 any
+ * counter.
  */
 KECCAK_TABLES_MUST_USE
 keccak_tables_answer keccak_tables_charge(uint64_t nr, uint64_t floor, bool shipped, const uint64_t *ops, size_t ops_length,
@@ -575,13 +641,68 @@ keccak_tables_answer keccak_tables_charge(uint64_t nr, uint64_t floor, bool ship
 
 /*
  * A look at that beforehand: `copy` then begins with the counters as the charge would leave them, and `out` with two words for each of
- * the ten kinds, how many are added and the largest of its counters afterwards. 8, 9, 1, 2, 4, 7 and 5 as above; 3 counters <
+ * the ten kinds, how many are added and the largest of its counters afterwards. 8, 9, 1, 2, 4, 7, 11 and 5 as above; 3 counters <
  * 10,485,760, then copy < 10,485,760, then out < 20.
  */
 KECCAK_TABLES_MUST_USE
 keccak_tables_answer keccak_tables_look(uint64_t nr, uint64_t floor, bool shipped, const uint64_t *ops, size_t ops_length,
                                         const uint64_t *counters, size_t counters_length, uint64_t *copy, size_t copy_length,
                                         uint64_t *out, size_t out_length);
+
+/* ---- from message to operations ---- */
+
+/*
+ * Writes the operations that hash a message with SHA3-256, all at one address, from a first timestamp on, and answers how many there
+ * are: a block each, length / 136 + 1. Each output is Keccak-f[1600] of its input; each input is the previous output with the next
+ * block of the padded message added by exclusive or, the first from zero; timestamps rise by 1, and the segment is 0. The first 4 lanes
+ * of the last output are the digest, lowest byte first. 12 the message; 13 the timestamp; 3 ops < 53 n; 4, 7 the address.
+ */
+KECCAK_TABLES_MUST_USE
+keccak_tables_number keccak_tables_message_operations(const uint8_t *message, size_t message_length, uint64_t address,
+                                                      uint64_t timestamp, uint64_t *ops, size_t ops_length);
+
+/*
+ * Whether a list of operations is the one that is written for a message at the list's own first address and from its first timestamp
+ * on: 1 yes, 0 no. An empty list is not, and none whose timestamps would pass 2^64 - 1. 1 more than 89,478,485 operations; 12 the
+ * message; 2 the list; 4, 7 an address; 11 a segment word.
+ */
+KECCAK_TABLES_MUST_USE
+keccak_tables_number keccak_tables_judge_message(const uint8_t *message, size_t message_length, const uint64_t *ops,
+                                                 size_t ops_length);
+
+/*
+ * The same charge through a register, one of several that share the counters. A register has a ledger of ten words at register * 10, the
+ * sum of each kind that it has charged, mod p; in use are as many registers as whole ledgers stand in the lent words, 16 at most. The
+ * charge adds to its own ledger how many it adds of each kind; every other ledger word is as it was, those past the sixteenth ledger too.
+ * 8 nr; 9 floor; 10 the register is not in use; 1, 2, 3, 4, 7 and 5 as `charge`; then 5 a word of its own ledger, its place in `ledgers`.
+ */
+KECCAK_TABLES_MUST_USE
+keccak_tables_answer keccak_tables_register_charge(uint64_t nr, uint64_t floor, bool shipped, uint64_t register_number,
+                                                   const uint64_t *ops, size_t ops_length, uint64_t *counters,
+                                                   size_t counters_length, uint64_t *ledgers, size_t ledgers_length);
+
+/*
+ * A look at that beforehand: `copy` as the look above leaves it, and `out` begins with its twenty words and then the ten of the
+ * register's ledger as the charge would leave it. 8, 9, 10, 1, 2, 4, 7 and 5 as the charge; 3 counters < 10,485,760, then copy <
+ * 10,485,760, then out < 30.
+ */
+KECCAK_TABLES_MUST_USE
+keccak_tables_answer keccak_tables_register_look(uint64_t nr, uint64_t floor, bool shipped, uint64_t register_number,
+                                                 const uint64_t *ops, size_t ops_length, const uint64_t *counters,
+                                                 size_t counters_length, const uint64_t *ledgers, size_t ledgers_length,
+                                                 uint64_t *copy, size_t copy_length, uint64_t *out, size_t out_length);
+
+/* ---- the month in whole numbers ---- */
+
+/*
+ * What the segments of many files use of their round tables, nr rows to an operation, from the files' operation counts: the 39 words
+ * KECCAK_TABLES_MONTH_FILES to KECCAK_TABLES_MONTH_SHOWN. A file of no operations is one whose tables are shipped, with as many rows of
+ * padding as the floor. Fullness is used rows to all rows, and of tables that are equally full the first is shown; else the order of the
+ * counts changes no word. Of no files all words are 0. 8 nr; 9 floor; 14 more than 4,096 counts; 1 a count above 89,478,485; 3 out < 39.
+ */
+KECCAK_TABLES_MUST_USE
+keccak_tables_answer keccak_tables_month(uint64_t nr, uint64_t floor, const uint64_t *counts, size_t counts_length, uint64_t *out,
+                                         size_t out_length);
 
 /* ---- the verdict ---- */
 
@@ -603,7 +724,27 @@ KECCAK_TABLES_MUST_USE
 keccak_tables_number keccak_tables_verdict_line(uint64_t nr, const uint64_t *core, size_t core_length, const uint64_t *round,
                                                 size_t round_length, uint8_t *line, size_t line_length);
 
-/* ---- operation files: records of 418 bytes, 4B 4F and then an operation's 52 words, lowest byte first ---- */
+/* ---- segments, then the job ---- */
+
+/*
+ * Judges each segment of a job, and then the job: `core` and `round` have all rows of its segments, one segment after the other, `counts`
+ * the two row counts of each segment. `report` then begins with four words for each segment in order, and four for the job: 0, the count
+ * of active core rows, 0, 0; or the failure's kind, 1 to 6 of KECCAK_TABLES_VERDICT_.., its table, row and index, counted from the first
+ * row of what was judged. A job of no segments has no rows. A job can hold while a segment fails: where a round row stands with the wrong
+ * one. 8 nr; 2 core, then round, is not whole rows, then counts that are no pairs, or whose sums, as whole numbers, are not the rows of
+ * both tables; 3 report < 4 (segments + 1); 5 a word of core, then of round.
+ */
+KECCAK_TABLES_MUST_USE
+keccak_tables_answer keccak_tables_job(uint64_t nr, const uint64_t *core, size_t core_length, const uint64_t *round,
+                                       size_t round_length, const uint64_t *counts, size_t counts_length, uint64_t *report,
+                                       size_t report_length);
+
+/*
+ * ---- operation files: records under two marks, in any order ----
+ *
+ * 4B 4F: 418 bytes, the mark and then an operation's 52 words before its segment number, lowest byte first; of segment 0.
+ * 4B 50: 422 bytes, the same and then four bytes of the segment number, lowest first.
+ */
 
 /* A reader at the beginning of a file. Never refused. */
 KECCAK_TABLES_MUST_USE
@@ -611,9 +752,9 @@ keccak_tables_cursor keccak_tables_tally_start(void);
 
 /*
  * Reads the next piece of the file, cut anywhere; a fault stays what it is. 1 a byte after record 89,478,485; 4 a record's
- * address, told when all 418 bytes of the record are read; 6 a wrong mark. No file gives 7: a record at an address that is no multiple
- * of 8 is counted apart; nor 8 or 9. A cursor that a caller made up is answered by the refusal that it names, 7 to 9 too; a refusal that
- * is none of 0 to 9 counts as 6.
+ * address, told when all bytes of the record are read; 6 a wrong mark, told at its first wrong byte. No file gives 7: a record at an address
+ * that is no multiple of 8 is counted apart; nor 8 to 14. A cursor that a caller made up is answered by the refusal that it names, a number
+ * that no refusal has counts as 6; one that stands past the most bytes of a file, 422 times 89,478,485, gets 1.
  */
 KECCAK_TABLES_MUST_USE
 keccak_tables_cursor keccak_tables_tally_feed(keccak_tables_cursor cursor, const uint8_t *bytes, size_t bytes_length);
@@ -629,12 +770,15 @@ keccak_tables_sums keccak_tables_tally_finish(uint64_t floor, bool shipped, kecc
 
 /*
  * Writes the operations of a whole file, also at addresses that are no multiples of 8, which the calls that take a list refuse. 1, 4 and
- * 6 as a reader gives them, for the first faulty record; then 3 ops < 52 n.
+ * 6 as a reader gives them, for the first faulty record; then 3 ops < 53 n.
  */
 KECCAK_TABLES_MUST_USE
 keccak_tables_answer keccak_tables_read_operations(const uint8_t *file, size_t file_length, uint64_t *ops, size_t ops_length);
 
-/* Writes the records of a list. 1 more than 89,478,485 operations; 2 the list; 3 file < 418 n; 4, 7 an address. */
+/*
+ * Writes the records of a list, of segment 0 under 4B 4F, of any other under 4B 50. 1 more than 89,478,485 operations; 2 the list; 3 file <
+ * 418 for each segment word of 0 and 422 for each other; 4, 7 an address; 11 a segment word.
+ */
 KECCAK_TABLES_MUST_USE
 keccak_tables_answer keccak_tables_write_operations(const uint64_t *ops, size_t ops_length, uint8_t *file, size_t file_length);
 

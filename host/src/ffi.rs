@@ -83,6 +83,12 @@ pub struct FlatCursor {
     at: usize,
     address: u64,
     unaligned: u64,
+    start: u64,
+    mark: u64,
+    tail: u64,
+    segments: u64,
+    least_segment: u64,
+    greatest_segment: u64,
 }
 
 /// What a reader says at the end of its file.
@@ -212,10 +218,26 @@ bind! {
     look = keccak_tables_look(
         nr: u64, floor: u64, shipped: bool, ops: &[u64], counters: &[u64], copy: &mut [u64], out: &mut [u64]
     ) -> FlatAnswer;
+    register_charge = keccak_tables_register_charge(
+        nr: u64, floor: u64, shipped: bool, register: u64, ops: &[u64], counters: &mut [u64], ledgers: &mut [u64]
+    ) -> FlatAnswer;
+    register_look = keccak_tables_register_look(
+        nr: u64, floor: u64, shipped: bool, register: u64, ops: &[u64], counters: &[u64], ledgers: &[u64],
+        copy: &mut [u64], out: &mut [u64]
+    ) -> FlatAnswer;
+
+    month = keccak_tables_month(nr: u64, floor: u64, counts: &[u64], out: &mut [u64]) -> FlatAnswer;
+
+    message_operations = keccak_tables_message_operations(
+        message: &[u8], address: u64, timestamp: u64, ops: &mut [u64]) -> FlatNumber;
+    judge_message = keccak_tables_judge_message(message: &[u8], ops: &[u64]) -> FlatNumber;
 
     verdict = keccak_tables_verdict(nr: u64, core: &[u64], round: &[u64]) -> FlatVerdict;
     verdict_line =
         keccak_tables_verdict_line(nr: u64, core: &[u64], round: &[u64], line: &mut [u8]) -> FlatNumber;
+
+    job = keccak_tables_job(
+        nr: u64, core: &[u64], round: &[u64], counts: &[u64], report: &mut [u64]) -> FlatAnswer;
 
     tally_start = keccak_tables_tally_start() -> FlatCursor;
     tally_feed = keccak_tables_tally_feed(cursor: FlatCursor, bytes: &[u8]) -> FlatCursor;

@@ -157,8 +157,8 @@ impl IsWhRows {
     ///
     /// # Errors
     ///
-    /// [`PastEnd`](Refusal::PastEnd), [`NotWhole`](Refusal::NotWhole), [`HighAddress`](Refusal::HighAddress) and
-    /// [`Unaligned`](Refusal::Unaligned) as [`is_wh_keys`].
+    /// [`PastEnd`](Refusal::PastEnd), [`NotWhole`](Refusal::NotWhole), [`HighAddress`](Refusal::HighAddress),
+    /// [`Unaligned`](Refusal::Unaligned) and [`Segment`](Refusal::Segment) as [`is_wh_keys`].
     pub fn of_operations(ops: &[u64]) -> Result<Self, Refusal> {
         let n = ops.len() / OP_WORDS;
         let room = if n > MAX_OPS { 0 } else { n };

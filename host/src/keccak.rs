@@ -3,7 +3,7 @@
 //! ```
 //! use keccak_tables::{Bus, Operation, Refusal, Side, keccak};
 //!
-//! let list = Operation { timestamp: 5, address: 4096, input: [0; 25], output: [0; 25] }.words();
+//! let list = Operation { timestamp: 5, address: 4096, input: [0; 25], output: [0; 25], segment: 0 }.words();
 //! let mut row = [0; keccak::NUM_COLUMNS];
 //! keccak::keccak_row(&list, 0, &mut row)?;
 //!
@@ -56,7 +56,7 @@ pub const LAST_ADDRESS: u64 = u64::MAX - 192;
 /// ```
 /// use keccak_tables::{OP_WORDS, Operation, Refusal, keccak};
 ///
-/// let operation = |timestamp| Operation { timestamp, address: 4096, input: [0; 25], output: [0; 25] };
+/// let operation = |timestamp| Operation { timestamp, address: 4096, input: [0; 25], output: [0; 25], segment: 0 };
 /// let list = Operation::list(&[operation(5), operation(6), operation(7)]);
 /// let mut row = [0; keccak::NUM_COLUMNS];
 /// keccak::keccak_row(&list[2 * OP_WORDS..][..OP_WORDS], 0, &mut row)?;
@@ -69,7 +69,8 @@ pub const LAST_ADDRESS: u64 = u64::MAX - 192;
 /// [`PastEnd`](Refusal::PastEnd): more than [`MAX_OPS`](crate::MAX_OPS) operations, then `index` is not below their
 /// number; [`NotWhole`](Refusal::NotWhole): `ops` is not whole operations; [`TooShort`](Refusal::TooShort): `row` has
 /// fewer than 486 words; [`HighAddress`](Refusal::HighAddress): an operation's address is above
-/// [`LAST_ADDRESS`], in any operation of the list; [`Unaligned`](Refusal::Unaligned): one is no multiple of 8.
+/// [`LAST_ADDRESS`], in any operation of the list; [`Unaligned`](Refusal::Unaligned): one is no multiple of 8;
+/// [`Segment`](Refusal::Segment): a segment word is 2^32 or more.
 pub fn keccak_row(ops: &[u64], index: usize, row: &mut [u64]) -> Result<(), Refusal> {
     ffi::keccak_row(ops, index, row).named(|number, _| match number {
         PAST_END if ops.len() / OP_WORDS <= MAX_OPS => "index",
@@ -85,7 +86,8 @@ pub fn keccak_row(ops: &[u64], index: usize, row: &mut [u64]) -> Result<(), Refu
 /// [`PastEnd`](Refusal::PastEnd): more than [`MAX_OPS`](crate::MAX_OPS) operations; [`NotWhole`](Refusal::NotWhole):
 /// `ops` is not whole operations; [`TooShort`](Refusal::TooShort): `table` has fewer than 486 words for each row of
 /// [`keccak_height`]; [`HighAddress`](Refusal::HighAddress): an operation's address is above
-/// [`LAST_ADDRESS`]; [`Unaligned`](Refusal::Unaligned): one is no multiple of 8.
+/// [`LAST_ADDRESS`]; [`Unaligned`](Refusal::Unaligned): one is no multiple of 8;
+/// [`Segment`](Refusal::Segment): a segment word is 2^32 or more.
 pub fn generate_keccak_trace(ops: &[u64], table: &mut [u64]) -> Result<(), Refusal> {
     generate_keccak_trace_with(Parameters::default(), ops, table)
 }
@@ -115,7 +117,7 @@ pub(crate) fn of_list(number: u64, _: u64) -> &'static str {
 /// ```
 /// use keccak_tables::{OP_WORDS, Operation, Refusal, keccak};
 ///
-/// let operation = |timestamp| Operation { timestamp, address: 4096, input: [0; 25], output: [0; 25] };
+/// let operation = |timestamp| Operation { timestamp, address: 4096, input: [0; 25], output: [0; 25], segment: 0 };
 /// let list = Operation::list(&[operation(5), operation(6), operation(7)]);
 /// let mut rows = vec![0; 3 * keccak::NUM_COLUMNS];
 /// let (early, late) = rows.split_at_mut(2 * keccak::NUM_COLUMNS);
@@ -133,7 +135,8 @@ pub(crate) fn of_list(number: u64, _: u64) -> &'static str {
 /// [`PastEnd`](Refusal::PastEnd): more than [`MAX_OPS`](crate::MAX_OPS) operations; [`NotWhole`](Refusal::NotWhole):
 /// `ops` is not whole operations; [`TooShort`](Refusal::TooShort): `table` has fewer than 486 words for each operation;
 /// [`HighAddress`](Refusal::HighAddress): an operation's address is above
-/// [`LAST_ADDRESS`]; [`Unaligned`](Refusal::Unaligned): one is no multiple of 8.
+/// [`LAST_ADDRESS`]; [`Unaligned`](Refusal::Unaligned): one is no multiple of 8;
+/// [`Segment`](Refusal::Segment): a segment word is 2^32 or more.
 pub fn keccak_rows(ops: &[u64], table: &mut [u64]) -> Result<(), Refusal> {
     ffi::keccak_rows(ops, table).named(of_list)
 }
@@ -144,7 +147,8 @@ pub fn keccak_rows(ops: &[u64], table: &mut [u64]) -> Result<(), Refusal> {
 ///
 /// [`PastEnd`](Refusal::PastEnd): more than [`MAX_OPS`](crate::MAX_OPS) operations; [`NotWhole`](Refusal::NotWhole):
 /// `ops` is not whole operations; [`HighAddress`](Refusal::HighAddress): an operation's address is above
-/// [`LAST_ADDRESS`]; [`Unaligned`](Refusal::Unaligned): one is no multiple of 8.
+/// [`LAST_ADDRESS`]; [`Unaligned`](Refusal::Unaligned): one is no multiple of 8;
+/// [`Segment`](Refusal::Segment): a segment word is 2^32 or more.
 pub fn keccak_table(ops: &[u64]) -> Result<Vec<u64>, Refusal> {
     keccak_table_with(Parameters::default(), ops)
 }
@@ -154,7 +158,7 @@ pub fn keccak_table(ops: &[u64]) -> Result<Vec<u64>, Refusal> {
 /// ```
 /// use keccak_tables::{Operation, Parameters, Refusal, keccak};
 ///
-/// let list = Operation { timestamp: 5, address: 4096, input: [0; 25], output: [0; 25] }.words();
+/// let list = Operation { timestamp: 5, address: 4096, input: [0; 25], output: [0; 25], segment: 0 }.words();
 /// let sixteen = Parameters::default().floor(16);
 /// let table = keccak::keccak_table_with(sixteen, &list)?;
 /// assert_eq!(table.len(), 16 * keccak::NUM_COLUMNS);
@@ -194,7 +198,8 @@ fn pad(rows: &mut [u64]) -> Result<(), Refusal> {
 /// [`PastEnd`](Refusal::PastEnd): more than [`MAX_OPS`](crate::MAX_OPS) operations; [`NotWhole`](Refusal::NotWhole):
 /// `ops` is not whole operations; [`TooShort`](Refusal::TooShort): `out` has fewer than 50 words for each operation;
 /// [`HighAddress`](Refusal::HighAddress): an operation's address is above
-/// [`LAST_ADDRESS`]; [`Unaligned`](Refusal::Unaligned): one is no multiple of 8.
+/// [`LAST_ADDRESS`]; [`Unaligned`](Refusal::Unaligned): one is no multiple of 8;
+/// [`Segment`](Refusal::Segment): a segment word is 2^32 or more.
 pub fn is_wh_keys(ops: &[u64], out: &mut [u64]) -> Result<(), Refusal> {
     ffi::is_wh_keys(ops, out).named(|number, _| match number {
         TOO_SHORT => "out",

@@ -64,7 +64,8 @@ pub fn keccak_rnd_row(timestamp: u64, start: &[u64], round: usize, row: &mut [u6
 /// [`PastEnd`](Refusal::PastEnd): more than [`MAX_OPS`](crate::MAX_OPS) operations; [`NotWhole`](Refusal::NotWhole):
 /// `ops` is not whole operations; [`TooShort`](Refusal::TooShort): `table` has fewer than 1,480 words for each row of
 /// [`keccak_rnd_height`]; [`HighAddress`](Refusal::HighAddress): an operation's address is above
-/// [`LAST_ADDRESS`](crate::keccak::LAST_ADDRESS); [`Unaligned`](Refusal::Unaligned): one is no multiple of 8.
+/// [`LAST_ADDRESS`](crate::keccak::LAST_ADDRESS); [`Unaligned`](Refusal::Unaligned): one is no multiple of 8;
+/// [`Segment`](Refusal::Segment): a segment word is 2^32 or more.
 pub fn generate_keccak_rnd_trace(ops: &[u64], table: &mut [u64]) -> Result<(), Refusal> {
     generate_keccak_rnd_trace_with(Parameters::default(), ops, table)
 }
@@ -89,7 +90,8 @@ pub fn generate_keccak_rnd_trace_with(parameters: Parameters, ops: &[u64], table
 /// [`PastEnd`](Refusal::PastEnd): more than [`MAX_OPS`](crate::MAX_OPS) operations; [`NotWhole`](Refusal::NotWhole):
 /// `ops` is not whole operations; [`TooShort`](Refusal::TooShort): `table` has fewer than 24 times 1,480 words for each
 /// operation; [`HighAddress`](Refusal::HighAddress): an operation's address is above
-/// [`LAST_ADDRESS`](crate::keccak::LAST_ADDRESS); [`Unaligned`](Refusal::Unaligned): one is no multiple of 8.
+/// [`LAST_ADDRESS`](crate::keccak::LAST_ADDRESS); [`Unaligned`](Refusal::Unaligned): one is no multiple of 8;
+/// [`Segment`](Refusal::Segment): a segment word is 2^32 or more.
 pub fn keccak_rnd_rows(ops: &[u64], table: &mut [u64]) -> Result<(), Refusal> {
     keccak_rnd_rows_with(Parameters::default(), ops, table)
 }
@@ -110,7 +112,8 @@ pub fn keccak_rnd_rows_with(parameters: Parameters, ops: &[u64], table: &mut [u6
 ///
 /// [`PastEnd`](Refusal::PastEnd): more than [`MAX_OPS`](crate::MAX_OPS) operations; [`NotWhole`](Refusal::NotWhole):
 /// `ops` is not whole operations; [`HighAddress`](Refusal::HighAddress): an operation's address is above
-/// [`LAST_ADDRESS`](crate::keccak::LAST_ADDRESS); [`Unaligned`](Refusal::Unaligned): one is no multiple of 8.
+/// [`LAST_ADDRESS`](crate::keccak::LAST_ADDRESS); [`Unaligned`](Refusal::Unaligned): one is no multiple of 8;
+/// [`Segment`](Refusal::Segment): a segment word is 2^32 or more.
 pub fn keccak_rnd_table(ops: &[u64]) -> Result<Vec<u64>, Refusal> {
     keccak_rnd_table_with(Parameters::default(), ops)
 }
@@ -120,7 +123,7 @@ pub fn keccak_rnd_table(ops: &[u64]) -> Result<Vec<u64>, Refusal> {
 /// ```
 /// use keccak_tables::{Operation, Parameters, Refusal, keccak_rnd};
 ///
-/// let list = Operation { timestamp: 5, address: 4096, input: [0; 25], output: [0; 25] }.words();
+/// let list = Operation { timestamp: 5, address: 4096, input: [0; 25], output: [0; 25], segment: 0 }.words();
 /// let twelve = Parameters::default().rounds(12);
 /// let table = keccak_rnd::keccak_rnd_table_with(twelve, &list)?;
 /// assert_eq!(table.len(), 16 * keccak_rnd::NUM_COLUMNS);

@@ -12,7 +12,7 @@
 //! ```
 //! use keccak_tables::{Operation, Refusal, keccak, keccak_rnd};
 //!
-//! let operation = Operation { timestamp: 5, address: 4096, input: [0; 25], output: [0; 25] };
+//! let operation = Operation { timestamp: 5, address: 4096, input: [0; 25], output: [0; 25], segment: 0 };
 //! let list = operation.words();
 //! let mut table = vec![0; keccak_rnd::keccak_rnd_height(1)? * keccak_rnd::NUM_COLUMNS];
 //! keccak_rnd::generate_keccak_rnd_trace(&list, &mut table)?;
@@ -30,11 +30,15 @@
 
 pub mod bitwise;
 pub mod is_wh;
+pub mod job;
 pub mod keccak;
 pub mod keccak_rc;
 pub mod keccak_rnd;
 pub mod layout;
+pub mod message;
+pub mod month;
 pub mod operation_file;
+pub mod registers;
 pub mod segment;
 pub mod verdict;
 
@@ -46,7 +50,7 @@ mod parameters;
 mod refusal;
 mod tuple;
 
-pub use operation::{MAX_OPS, OP_WORDS, Operation};
+pub use operation::{MAX_OPS, OP_WORDS, Operation, SEGMENT_WORD};
 pub use parameters::{FLOOR, MAX_FLOOR, Parameters};
 pub use refusal::{Lent, Refusal};
 pub use tuple::{Bus, BusInteraction, Side, transposed, tuples};

@@ -1,10 +1,12 @@
-//! The operation file: records of [`RECORD_BYTES`] bytes, the mark 4B 4F and then an operation's 52 words, lowest byte first.
+//! The operation file: records under two marks, in any order. One under 4B 4F has [`RECORD_BYTES`] bytes, the mark and then an operation's 52
+//! words before its segment number, lowest byte first, and is of segment 0. One under 4B 50 has [`SEGMENT_RECORD_BYTES`]: behind the same words
+//! four bytes of its segment number.
 //!
 //! ```
-//! use keccak_tables::operation_file::{RECORD_BYTES, Tally, read_operations, write_operations};
+//! use keccak_tables::operation_file::{RECORD_BYTES, Tally, file_bytes, read_operations, write_operations};
 //! use keccak_tables::{OP_WORDS, Operation, Parameters, Refusal};
 //!
-//! let list = Operation { timestamp: 5, address: 4096, input: [0; 25], output: [0; 25] }.words();
+//! let list = Operation { timestamp: 5, address: 4096, input: [0; 25], output: [0; 25], segment: 0 }.words();
 //! let mut file = [0; RECORD_BYTES];
 //! write_operations(&list, &mut file)?;
 //!
@@ -20,6 +22,16 @@
 //! assert_eq!(read, list);
 //! assert_eq!(read_operations(&file[1..], &mut read), Err(Refusal::BadRecord { start: 0 }));
 //!
+//! // An operation of another segment than 0 is written under 4B 50.
+//! let numbered = Operation { timestamp: 6, address: 8192, input: [0; 25], output: [0; 25], segment: 9 }.words();
+//! let both = [list, numbered].concat();
+//! let mut mixed = vec![0; file_bytes(&both)];
+//! write_operations(&both, &mut mixed)?;
+//! assert_eq!((mixed.len(), &mixed[418..420]), (418 + 422, &[0x4B, 0x50][..]));
+//! let mut tally = Tally::new();
+//! tally.feed(&mixed);
+//! assert_eq!(tally.finish()?.segments(), Some((0, 9)));
+//!
 //! // Old files may have records at addresses that are no multiples of 8. They are read, and left out of the count.
 //! file[10] = 4;
 //! let mut tally = Tally::new();
@@ -34,14 +46,35 @@
 use std::fmt;
 
 use crate::ffi::{self, FlatCursor};
+use crate::operation::{OP_WORDS, SEGMENT_WORD};
 use crate::parameters::Parameters;
 use crate::refusal::{Refusal, TOO_SHORT};
 
-/// The bytes of a record.
+/// The bytes of a record under 4B 4F.
 pub const RECORD_BYTES: usize = 418;
 
-/// What a file's tables would hold and send: operations, heights, and per bus the sum of multiplicities; and how many records these leave
-/// out. As text, the lines that `tally` prints.
+/// The bytes of a record under 4B 50: its segment number has four.
+pub const SEGMENT_RECORD_BYTES: usize = 422;
+
+/// The byte that both marks begin with.
+pub const FIRST_MARK: u8 = 0x4B;
+/// The second byte of the mark of a record without a segment number.
+pub const PLAIN_MARK: u8 = 0x4F;
+/// The second byte of the mark of a record with one.
+pub const SEGMENT_MARK: u8 = 0x50;
+
+/// How many bytes the records of a list have: what [`write_operations`] needs.
+#[must_use]
+pub fn file_bytes(ops: &[u64]) -> usize {
+    let bytes = |operation: &[u64]| match operation[SEGMENT_WORD] {
+        0 => RECORD_BYTES,
+        _ => SEGMENT_RECORD_BYTES,
+    };
+    ops.chunks_exact(OP_WORDS).map(bytes).sum()
+}
+
+/// What a file's tables would hold and send: operations, heights, and per bus the sum of multiplicities; how many records these leave
+/// out; and the segment numbers. As text, the lines that `tally` prints.
 #[repr(C)]
 #[derive(Debug, Clone, Copy, PartialEq, Eq, Hash)]
 pub struct Sums {
@@ -67,11 +100,26 @@ pub struct Sums {
     pub ecall: u64,
     /// Records at other addresses, which all the others leave out.
     pub unaligned: u64,
+    /// Whether there are segment numbers to tell: 1 or 0.
+    segments: u64,
+    least_segment: u64,
+    greatest_segment: u64,
 }
 
 impl Sums {
-    /// The ten numbers that `tally` always prints, in its order and by its names. Its last line, `unaligned N`, stands only where there are
-    /// such records.
+    /// The least and the greatest segment number of the records that are counted, where one of these is marked 4B 50; a record under 4B 4F
+    /// is of segment 0.
+    #[must_use]
+    pub const fn segments(&self) -> Option<(u32, u32)> {
+        match self.segments {
+            0 => None,
+            // The bytes of a segment number are four, so it is no more than a half word.
+            _ => Some((self.least_segment as u32, self.greatest_segment as u32)),
+        }
+    }
+
+    /// The ten numbers that `tally` always prints, in its order and by its names. Two lines more, `segments A B` and `unaligned N`, stand only
+    /// where there is something to tell.
     #[must_use]
     pub const fn lines(&self) -> [(&'static str, u64); 10] {
         [
@@ -94,6 +142,9 @@ impl fmt::Display for Sums {
         for (name, number) in self.lines() {
             writeln!(f, "{name} {number}")?;
         }
+        if let Some((least, greatest)) = self.segments() {
+            writeln!(f, "segments {least} {greatest}")?;
+        }
         match self.unaligned {
             0 => Ok(()),
             records => writeln!(f, "unaligned {records}"),
@@ -101,7 +152,7 @@ impl fmt::Display for Sums {
     }
 }
 
-/// A reader of a file that comes in pieces, cut anywhere. It holds six words, however long the file is.
+/// A reader of a file that comes in pieces, cut anywhere. It holds twelve words, however long the file is.
 #[must_use = "what the file says is the answer of `finish`"]
 #[derive(Debug, Clone)]
 pub struct Tally(FlatCursor);
@@ -160,7 +211,7 @@ impl Default for Tally {
 ///
 /// # Errors
 ///
-/// Those of [`Tally::finish`]; then [`TooShort`](Refusal::TooShort): `ops` has fewer than 52 words for each record.
+/// Those of [`Tally::finish`]; then [`TooShort`](Refusal::TooShort): `ops` has fewer than [`OP_WORDS`] words for each record.
 pub fn read_operations(file: &[u8], ops: &mut [u64]) -> Result<(), Refusal> {
     ffi::read_operations(file, ops).named(|number, _| match number {
         TOO_SHORT => "ops",
@@ -168,14 +219,16 @@ pub fn read_operations(file: &[u8], ops: &mut [u64]) -> Result<(), Refusal> {
     })
 }
 
-/// Writes the records of a list of operations to the front of `file`.
+/// Writes the records of a list of operations to the front of `file`: of segment 0 under 4B 4F, of any other under 4B 50. What readers of old could
+/// read, they read as before.
 ///
 /// # Errors
 ///
 /// [`PastEnd`](Refusal::PastEnd): more than [`MAX_OPS`](crate::MAX_OPS) operations; [`NotWhole`](Refusal::NotWhole):
-/// `ops` is not whole operations; [`TooShort`](Refusal::TooShort): `file` has fewer than 418 bytes for each operation;
+/// `ops` is not whole operations; [`TooShort`](Refusal::TooShort): `file` has fewer than [`file_bytes`] of the list;
 /// [`HighAddress`](Refusal::HighAddress): an operation's address is above
-/// [`LAST_ADDRESS`](crate::keccak::LAST_ADDRESS); [`Unaligned`](Refusal::Unaligned): one is no multiple of 8.
+/// [`LAST_ADDRESS`](crate::keccak::LAST_ADDRESS); [`Unaligned`](Refusal::Unaligned): one is no multiple of 8;
+/// [`Segment`](Refusal::Segment): a segment word is 2^32 or more.
 pub fn write_operations(ops: &[u64], file: &mut [u8]) -> Result<(), Refusal> {
     ffi::write_operations(ops, file).named(|number, _| match number {
         TOO_SHORT => "file",

@@ -6,8 +6,11 @@ use crate::P;
 use crate::bitwise::NUM_LOOKUP_TYPES;
 use crate::is_wh::MAX_KEYS;
 use crate::keccak_rnd::ROUNDS as MAX_ROUNDS;
+use crate::message::MAX_MESSAGE;
+use crate::month::MAX_FILES;
 use crate::operation::MAX_OPS;
 use crate::parameters::{FLOOR as LEAST_FLOOR, MAX_FLOOR};
+use crate::registers::MAX_REGISTERS;
 
 // The refusals' numbers.
 pub(crate) const PAST_END: u64 = 1;
@@ -19,6 +22,11 @@ const BAD_RECORD: u64 = 6;
 const UNALIGNED: u64 = 7;
 const ROUNDS: u64 = 8;
 const FLOOR: u64 = 9;
+const REGISTER: u64 = 10;
+const SEGMENT: u64 = 11;
+const LONG_MESSAGE: u64 = 12;
+const LATE_TIMESTAMP: u64 = 13;
+const FILES: u64 = 14;
 
 /// Which of the lent slices is not whole.
 #[derive(Debug, Clone, Copy, PartialEq, Eq, Hash)]
@@ -27,12 +35,12 @@ pub enum Lent {
     Core,
     /// A round table.
     Round,
-    /// A list of operations, lookups, keys or rows of keys.
+    /// A list of operations, lookups, keys, rows of keys or row counts.
     List,
 }
 
-/// Why a call did nothing. A call's checks are made in the order of the numbers, but for 8 and then 9, which come before all others, and 7,
-/// which comes between 4 and 5; each over all its arguments. But a file is read before the slice that takes its words is looked at, record by
+/// Why a call did nothing. A call's checks are made in the order of the numbers, but for 8, 9, 10 and 14, which come before all others, 7
+/// and then 11, which come between 4 and 5, and 12 and then 13, which come between 1 and 2; each over all its arguments. But a file is read before the slice that takes its words is looked at, record by
 /// record, and there 6 comes before 4.
 ///
 /// `argument` is the name of the argument in the call's signature; of a [`Tally`](crate::operation_file::Tally) it is that of `feed`.
@@ -48,7 +56,7 @@ pub enum Refusal {
         /// The least number refused.
         limit: u64,
     },
-    /// 2: a table or list that is not whole rows, operations, lookups or keys.
+    /// 2: a table or list that is not whole rows, operations, lookups or keys; or row counts that do not split a job's tables.
     NotWhole {
         /// The table or list.
         argument: &'static str,
@@ -95,6 +103,31 @@ pub enum Refusal {
         /// That floor.
         floor: u64,
     },
+    /// 10: a register that is not in use: its ledger does not stand whole in the lent words, or is not one of the first 16.
+    Register {
+        /// The register's number.
+        register: u64,
+    },
+    /// 11: the segment word of an operation in a list is 2^32 or more.
+    Segment {
+        /// The first such word.
+        word: u64,
+    },
+    /// 12: a message of more than 65,536 bytes.
+    LongMessage {
+        /// How many it has.
+        length: u64,
+    },
+    /// 13: the timestamps of a message's operations would pass 2^64 - 1.
+    LateTimestamp {
+        /// The first of them.
+        timestamp: u64,
+    },
+    /// 14: a month of more than 4,096 files.
+    Files {
+        /// Their number.
+        files: u64,
+    },
 }
 
 impl Refusal {
@@ -111,6 +144,11 @@ impl Refusal {
             Self::Unaligned { .. } => UNALIGNED,
             Self::Rounds { .. } => ROUNDS,
             Self::Floor { .. } => FLOOR,
+            Self::Register { .. } => REGISTER,
+            Self::Segment { .. } => SEGMENT,
+            Self::LongMessage { .. } => LONG_MESSAGE,
+            Self::LateTimestamp { .. } => LATE_TIMESTAMP,
+            Self::Files { .. } => FILES,
         }
     }
 
@@ -127,6 +165,11 @@ impl Refusal {
             Self::Unaligned { address } => address,
             Self::Rounds { rounds } => rounds,
             Self::Floor { floor } => floor,
+            Self::Register { register } => register,
+            Self::Segment { word } => word,
+            Self::LongMessage { length } => length,
+            Self::LateTimestamp { timestamp } => timestamp,
+            Self::Files { files } => files,
         }
     }
 
@@ -165,6 +208,11 @@ impl Refusal {
             UNALIGNED => Self::Unaligned { address: detail },
             ROUNDS => Self::Rounds { rounds: detail },
             FLOOR => Self::Floor { floor: detail },
+            REGISTER => Self::Register { register: detail },
+            SEGMENT => Self::Segment { word: detail },
+            LONG_MESSAGE => Self::LongMessage { length: detail },
+            LATE_TIMESTAMP => Self::LateTimestamp { timestamp: detail },
+            FILES => Self::Files { files: detail },
             _ => unreachable!("the definition of the answers has no refusal {number}"),
         })
     }
@@ -186,6 +234,9 @@ impl fmt::Display for Refusal {
             Self::PastEnd { argument, limit } => past_end(f, argument, limit),
             Self::NotWhole { which: Lent::Core, .. } => write!(f, "the core table is not whole rows"),
             Self::NotWhole { which: Lent::Round, .. } => write!(f, "the round table is not whole rows"),
+            Self::NotWhole { argument: "counts", .. } => {
+                write!(f, "counts are not pairs whose sums are the rows of the two tables")
+            }
             Self::NotWhole { argument, .. } => write!(f, "the last entry of the list {argument} is not whole"),
             Self::TooShort { argument, needed } => {
                 // No other slice of bytes is written to.
@@ -216,13 +267,27 @@ impl fmt::Display for Refusal {
                 f,
                 "a floor of the tables' heights is a power of two from {LEAST_FLOOR} to {MAX_FLOOR}, and not {floor}"
             ),
+            Self::Register { register } => write!(
+                f,
+                "register {register} is not in use: its ledger is not a whole one of the first {MAX_REGISTERS}"
+            ),
+            Self::Segment { word } => write!(f, "a segment number has 32 bits, and {word} has more"),
+            Self::LongMessage { length } => {
+                write!(f, "a message has at most {MAX_MESSAGE} bytes, and this one {length}")
+            }
+            Self::LateTimestamp { timestamp } => {
+                write!(f, "the timestamps from {timestamp} on would pass 2^64 - 1")
+            }
+            Self::Files { files } => write!(f, "a month has at most {MAX_FILES} files, and not {files}"),
         }
     }
 }
 
-/// The words of refusal 1. No other argument has the ends of the first two sentences.
+/// The words of refusal 1. No other argument has the ends of the first three sentences.
 fn past_end(f: &mut fmt::Formatter<'_>, argument: &str, limit: u64) -> fmt::Result {
-    if limit == MAX_OPS as u64 + 1 {
+    if argument == "counts" {
+        write!(f, "a file of the list counts has more than {MAX_OPS} operations")
+    } else if limit == MAX_OPS as u64 + 1 {
         write!(f, "there are more than {MAX_OPS} operations")
     } else if limit == MAX_KEYS as u64 + 1 {
         write!(f, "there are more than {MAX_KEYS} keys or rows of keys")
@@ -264,6 +329,11 @@ mod tests {
             (7, 4100, argument, Refusal::Unaligned { address: 4100 }),
             (8, 25, argument, Refusal::Rounds { rounds: 25 }),
             (9, 2, argument, Refusal::Floor { floor: 2 }),
+            (10, 16, argument, Refusal::Register { register: 16 }),
+            (11, 1 << 32, argument, Refusal::Segment { word: 1 << 32 }),
+            (12, 65_537, argument, Refusal::LongMessage { length: 65_537 }),
+            (13, u64::MAX, argument, Refusal::LateTimestamp { timestamp: u64::MAX }),
+            (14, 4097, argument, Refusal::Files { files: 4097 }),
         ];
         for (number, detail, argument, refusal) in cases {
             assert_eq!(told(number, detail, argument), refusal);
@@ -284,6 +354,12 @@ mod tests {
             (1, 89_478_486, "n", "there are more than 89478485 operations"),
             (
                 1,
+                89_478_486,
+                "counts",
+                "a file of the list counts has more than 89478485 operations",
+            ),
+            (
+                1,
                 2_236_962_126,
                 "keys",
                 "there are more than 2236962125 keys or rows of keys",
@@ -291,6 +367,12 @@ mod tests {
             (2, 0, "core", "the core table is not whole rows"),
             (2, 1, "round", "the round table is not whole rows"),
             (2, 2, "keys", "the last entry of the list keys is not whole"),
+            (
+                2,
+                2,
+                "counts",
+                "counts are not pairs whose sums are the rows of the two tables",
+            ),
             (3, 486, "row", "row is shorter than the 486 words that are needed"),
             (3, 418, "file", "file is shorter than the 418 bytes that are needed"),
             (
@@ -320,6 +402,26 @@ mod tests {
                 "ops",
                 "a floor of the tables' heights is a power of two from 4 to 65536, and not 6",
             ),
+            (
+                10,
+                2,
+                "ledgers",
+                "register 2 is not in use: its ledger is not a whole one of the first 16",
+            ),
+            (
+                11,
+                1 << 32,
+                "ops",
+                "a segment number has 32 bits, and 4294967296 has more",
+            ),
+            (
+                12,
+                65_537,
+                "ops",
+                "a message has at most 65536 bytes, and this one 65537",
+            ),
+            (13, 7, "ops", "the timestamps from 7 on would pass 2^64 - 1"),
+            (14, 4097, "counts", "a month has at most 4096 files, and not 4097"),
         ];
         for (number, detail, argument, words) in cases {
             assert_eq!(told(number, detail, argument).to_string(), words);

@@ -8,7 +8,7 @@
 //! use keccak_tables::segment::{self, Look};
 //! use keccak_tables::{Operation, Refusal};
 //!
-//! let list = Operation { timestamp: 5, address: 4096, input: [0; 25], output: [0; 25] }.words();
+//! let list = Operation { timestamp: 5, address: 4096, input: [0; 25], output: [0; 25], segment: 0 }.words();
 //! let mut counters = vec![0; bitwise::NUM_COUNTERS];
 //!
 //! // What a charge would do, and then the charge.
@@ -37,7 +37,8 @@ pub const LOOK_WORDS: usize = 2 * NUM_LOOKUP_TYPES;
 /// [`PastEnd`](Refusal::PastEnd): more than [`MAX_OPS`](crate::MAX_OPS) operations; [`NotWhole`](Refusal::NotWhole): `ops` is not
 /// whole operations; [`TooShort`](Refusal::TooShort): `counters` has fewer than 10,485,760 words;
 /// [`HighAddress`](Refusal::HighAddress): an operation's address is above [`LAST_ADDRESS`](crate::keccak::LAST_ADDRESS);
-/// [`Unaligned`](Refusal::Unaligned): one is no multiple of 8; [`NotElement`](Refusal::NotElement): a counter, charged or not, is p or more.
+/// [`Unaligned`](Refusal::Unaligned): one is no multiple of 8; [`Segment`](Refusal::Segment): a segment word is 2^32 or more;
+/// [`NotElement`](Refusal::NotElement): a counter, charged or not, is p or more.
 pub fn charge(ops: &[u64], counters: &mut [u64]) -> Result<(), Refusal> {
     charge_with(Parameters::default(), ops, counters)
 }
@@ -133,6 +134,14 @@ impl Look {
         };
         look_with(parameters, ops, counters, &mut look.counters, &mut look.words)?;
         Ok(look)
+    }
+
+    /// A look whose copy and words are these.
+    pub(crate) fn of(counters: Vec<u64>, words: &[u64]) -> Self {
+        Self {
+            counters,
+            words: words.try_into().expect("a look's twenty words"),
+        }
     }
 
     /// The charged counters, without words past them.

@@ -79,7 +79,7 @@ impl Verdict {
 /// assert_eq!(verdict(&[], &[])?, Verdict::Holds { active: 0 });
 ///
 /// // The writers take any OUTPUT. This one is not Keccak-f[1600] of INPUT, so no round row sends it.
-/// let list = Operation { timestamp: 5, address: 4096, input: [0; 25], output: [0; 25] }.words();
+/// let list = Operation { timestamp: 5, address: 4096, input: [0; 25], output: [0; 25], segment: 0 }.words();
 /// let (core, round) = (keccak::keccak_table(&list)?, keccak_rnd::keccak_rnd_table(&list)?);
 /// let answer = verdict(&core, &round)?;
 /// assert_eq!(answer, Verdict::Unbalanced { table: Table::Core, row: 0, index: 3 });
@@ -103,7 +103,7 @@ pub fn verdict(core: &[u64], round: &[u64]) -> Result<Verdict, Refusal> {
 /// use keccak_tables::{Operation, Parameters, Refusal, keccak, keccak_rnd};
 ///
 /// let twelve = Parameters::default().rounds(12);
-/// let list = Operation { timestamp: 5, address: 4096, input: [0; 25], output: [0; 25] }.words();
+/// let list = Operation { timestamp: 5, address: 4096, input: [0; 25], output: [0; 25], segment: 0 }.words();
 /// let (core, round) = (keccak::keccak_table(&list)?, keccak_rnd::keccak_rnd_table_with(twelve, &list)?);
 /// let unbalanced = |index| Ok(Verdict::Unbalanced { table: Table::Core, row: 0, index });
 /// // OUTPUT is not right; by another number of rounds nobody takes INPUT either.
@@ -206,25 +206,33 @@ fn from_flat(flat: FlatVerdict, core: &[u64]) -> Result<Verdict, Refusal> {
     let FlatVerdict {
         kind,
         first,
-        second: row,
-        third: index,
+        second,
+        third,
     } = flat;
+    if let Some(verdict) = from_words([kind, first, second, third]) {
+        return Ok(verdict);
+    }
+    match Refusal::from_flat(first, second, |number, detail| of_verdict(number, detail, core)) {
+        Err(refusal) => Err(refusal),
+        Ok(()) => unreachable!("the definition of the verdicts has no kind {kind} with refusal 0"),
+    }
+}
+
+/// The verdict of four words, or none where they say a refusal.
+pub(crate) fn from_words([kind, first, row, index]: [u64; 4]) -> Option<Verdict> {
     let table = if first == 0 { Table::Core } else { Table::Round };
-    Ok(match kind {
+    Some(match kind {
         0 => Verdict::Holds { active: first },
         1 | 4 => Verdict::Value { table, row, index },
         2 | 5 => Verdict::Lookup { table, row, index },
         3 => Verdict::Repeated { row },
         6 => Verdict::Unbalanced { table, row, index },
-        _ => match Refusal::from_flat(first, row, |number, detail| of_verdict(number, detail, core)) {
-            Err(refusal) => return Err(refusal),
-            Ok(()) => unreachable!("the definition of the verdicts has no kind {kind} with refusal 0"),
-        },
+        _ => return None,
     })
 }
 
 /// The argument of a refusal: of what is not whole the detail says which, and the core table's words are checked first.
-fn of_verdict(number: u64, detail: u64, core: &[u64]) -> &'static str {
+pub(crate) fn of_verdict(number: u64, detail: u64, core: &[u64]) -> &'static str {
     let is_core = if number == NOT_WHOLE {
         detail == 0
     } else {

@@ -29,8 +29,9 @@
 
 enum { ADDRESS_HALF = 2, ADDRESS_WORD = 3, TIMESTAMP = 5, CORE = 4 * 486, ROUND = 32 * 1480 };
 enum { ROUNDS = KECCAK_TABLES_ROUNDS, FEWER = 12, FLOOR = KECCAK_TABLES_FLOOR, HIGHER = 64 };
+enum { OP = KECCAK_TABLES_OP_WORDS, SEGMENT = KECCAK_TABLES_SEGMENT_WORD };
 
-static uint64_t operation[52];
+static uint64_t operation[OP];
 static uint64_t core[CORE + 1];
 static uint64_t rounds[ROUND + 1];
 static uint64_t all[KECCAK_TABLES_ROUND_TUPLE_WORDS + 1];
@@ -314,22 +315,22 @@ static void segment(void) {
     CHECK(counters != NULL && copy != NULL);
     out[20] = GUARD;
     keccak_tables_answer answer =
-        CALL(keccak_tables_look)(ROUNDS, FLOOR, false, operation, 52, counters, length, copy, length, out, 20);
+        CALL(keccak_tables_look)(ROUNDS, FLOOR, false, operation, OP, counters, length, copy, length, out, 20);
     DONE(answer);
     /* AreBytes, IsHalfword, AND and XOR; every counter was 0. */
     CHECK(out[6] == 7044 && out[8] == 25 && out[14] == 4801 && out[18] == 14592 && out[20] == GUARD);
     CHECK(out[2 * KECCAK_TABLES_KIND_OR] == 0 && out[9] == 1 && counters[3] == 0 && copy[3] == out[7]);
-    answer = CALL(keccak_tables_charge)(ROUNDS, FLOOR, false, operation, 52, counters, length);
+    answer = CALL(keccak_tables_charge)(ROUNDS, FLOOR, false, operation, OP, counters, length);
     DONE(answer);
     CHECK(memcmp(counters, copy, length * sizeof *copy) == 0);
     answer = keccak_tables_charge(ROUNDS, FLOOR, true, operation, 0, counters, length);
     DONE(answer);
     CHECK(counters[3] == copy[3] + 880);
     /* Twelve rounds, and four rows of padding. */
-    answer = keccak_tables_look(FEWER, FLOOR, false, operation, 52, counters, length, copy, length, out, 20);
+    answer = keccak_tables_look(FEWER, FLOOR, false, operation, OP, counters, length, copy, length, out, 20);
     DONE(answer);
     CHECK(out[6] == 4 + 16 * 220 && out[8] == 25 && out[14] == 1 + 12 * 200 && out[18] == 12 * 608);
-    answer = keccak_tables_charge(FEWER, FLOOR, true, operation, 52, counters, length);
+    answer = keccak_tables_charge(FEWER, FLOOR, true, operation, OP, counters, length);
     DONE(answer);
     CHECK(memcmp(counters, copy, length * sizeof *copy) == 0);
     /* Sixty-four rows of the round table, all of them padding. */
@@ -339,48 +340,124 @@ static void segment(void) {
     answer = keccak_tables_charge(FEWER, HIGHER, true, operation, 0, counters, length);
     DONE(answer);
     CHECK(memcmp(counters, copy, length * sizeof *copy) == 0);
-    answer = keccak_tables_charge(ROUNDS, FLOOR, false, operation, 51, counters, length);
+    answer = keccak_tables_charge(ROUNDS, FLOOR, false, operation, OP - 1, counters, length);
     REFUSED(answer, 2, 2);
-    answer = keccak_tables_look(ROUNDS, FLOOR, false, operation, 52, counters, length, copy, length - 1, out, 0);
+    answer = keccak_tables_look(ROUNDS, FLOOR, false, operation, OP, counters, length, copy, length - 1, out, 0);
     REFUSED(answer, 3, length);
-    answer = keccak_tables_look(ROUNDS, FLOOR, false, operation, 52, counters, length, copy, length, out, 19);
+    answer = keccak_tables_look(ROUNDS, FLOOR, false, operation, OP, counters, length, copy, length, out, 19);
     REFUSED(answer, 3, 20);
     counters[9] = KECCAK_TABLES_P;
-    answer = keccak_tables_charge(ROUNDS, FLOOR, false, operation, 52, counters, length);
+    answer = keccak_tables_charge(ROUNDS, FLOOR, false, operation, OP, counters, length);
     REFUSED(answer, 5, 9);
     free(counters);
     free(copy);
 }
 
+/* The same charge through two registers of three, whose ledgers stand before a cut one. */
+static void registers(void) {
+    size_t length = KECCAK_TABLES_BITWISE_COUNTERS;
+    uint64_t out[KECCAK_TABLES_REGISTER_LOOK_WORDS + 1], ledgers[3 * KECCAK_TABLES_LEDGER_WORDS + 1] = {0};
+    uint64_t *counters = calloc(length, sizeof *counters);
+    uint64_t *copy = calloc(length, sizeof *copy);
+    CHECK(counters != NULL && copy != NULL);
+    out[30] = ledgers[30] = GUARD;
+    keccak_tables_answer answer = CALL(keccak_tables_register_look)(ROUNDS, FLOOR, false, 2, operation, OP, counters, length,
+                                                                    ledgers, 31, copy, length, out, 30);
+    DONE(answer);
+    CHECK(out[6] == 7044 && out[18] == 14592 && out[20 + 3] == 7044 && out[20 + 7] == 4801 && out[29] == 14592 && out[30] == GUARD);
+    CHECK(counters[3] == 0 && copy[3] == out[7] && ledgers[29] == 0);
+    answer = CALL(keccak_tables_register_charge)(ROUNDS, FLOOR, false, 2, operation, OP, counters, length, ledgers, 31);
+    DONE(answer);
+    CHECK(memcmp(counters, copy, length * sizeof *copy) == 0 && memcmp(ledgers + 20, out + 20, 10 * sizeof *out) == 0);
+    answer = keccak_tables_register_charge(FEWER, HIGHER, true, 0, operation, 0, counters, length, ledgers, 31);
+    DONE(answer);
+    CHECK(ledgers[3] == HIGHER * 220 && ledgers[13] == 0 && ledgers[23] == 7044 && ledgers[30] == GUARD);
+    CHECK(counters[3] == copy[3] + HIGHER * 220);
+    /* A register that is not in use comes before a list that is cut; another's ledger is not looked at. */
+    answer = keccak_tables_register_charge(ROUNDS, FLOOR, false, 3, operation, OP - 1, counters, length, ledgers, 31);
+    REFUSED(answer, KECCAK_TABLES_REFUSAL_REGISTER, 3);
+    answer = keccak_tables_register_look(ROUNDS, FLOOR, false, UINT64_MAX, operation, OP - 1, counters, 0, ledgers, 31, copy, 0, out, 0);
+    REFUSED(answer, KECCAK_TABLES_REFUSAL_REGISTER, UINT64_MAX);
+    answer = keccak_tables_register_look(ROUNDS, FLOOR, false, 2, operation, OP, counters, length, ledgers, 31, copy, length, out, 29);
+    REFUSED(answer, 3, 30);
+    ledgers[14] = KECCAK_TABLES_P;
+    answer = keccak_tables_register_charge(ROUNDS, FLOOR, false, 1, operation, OP, counters, length, ledgers, 31);
+    REFUSED(answer, 5, 14);
+    answer = keccak_tables_register_charge(ROUNDS, FLOOR, false, 2, operation, OP, counters, length, ledgers, 31);
+    DONE(answer);
+    CHECK(ledgers[29] == 2 * 14592 && ledgers[14] == KECCAK_TABLES_P);
+    free(counters);
+    free(copy);
+}
+
+/* Two blocks of A3, whose digest is published, and what is judged; then each refusal. */
+static void messages(void) {
+    uint8_t page[200], most[KECCAK_TABLES_MAX_MESSAGE + 1] = {0};
+    uint64_t ops[2 * OP + 1];
+    memset(page, 0xA3, sizeof page);
+    ops[2 * OP] = GUARD;
+    keccak_tables_number number = CALL(keccak_tables_message_operations)(page, sizeof page, 4096, 5, ops, 2 * OP);
+    DONE(number);
+    CHECK(number.value == sizeof page / KECCAK_TABLES_RATE + 1 && ops[2 * OP] == GUARD);
+    CHECK(ops[0] == 5 && ops[OP] == 6 && ops[1] == 4096 && ops[OP + 1] == 4096 && ops[SEGMENT] == 0 && ops[OP + SEGMENT] == 0);
+    CHECK(ops[OP + 27] == 0x0703C2C5DE8AF379 && ops[OP + 27 + KECCAK_TABLES_DIGEST_BYTES / 8 - 1] == 0x8717E39DBDA15FC6);
+    number = CALL(keccak_tables_judge_message)(page, sizeof page, ops, 2 * OP);
+    DONE(number);
+    CHECK(number.value == 1);
+    number = keccak_tables_judge_message(page, sizeof page - 1, ops, 2 * OP);
+    DONE(number);
+    CHECK(number.value == 0);
+    number = keccak_tables_judge_message(page, sizeof page, ops, 0);
+    DONE(number);
+    CHECK(number.value == 0);
+    number = keccak_tables_message_operations(most, sizeof most, 1, UINT64_MAX, ops, 0);
+    REFUSED(number, KECCAK_TABLES_REFUSAL_LONG_MESSAGE, sizeof most);
+    number = keccak_tables_message_operations(page, sizeof page, 1, UINT64_MAX, ops, 0);
+    REFUSED(number, KECCAK_TABLES_REFUSAL_LATE_TIMESTAMP, UINT64_MAX);
+    number = keccak_tables_message_operations(page, sizeof page, 1, UINT64_MAX - 1, ops, 2 * OP - 1);
+    REFUSED(number, 3, 2 * OP);
+    number = keccak_tables_message_operations(page, sizeof page, 1, UINT64_MAX - 1, ops, 2 * OP);
+    REFUSED(number, 7, 1);
+    number = keccak_tables_message_operations(page, 0, UINT64_MAX, UINT64_MAX, ops, OP);
+    REFUSED(number, 4, UINT64_MAX);
+    number = keccak_tables_judge_message(most, sizeof most, ops, 1);
+    REFUSED(number, 12, sizeof most);
+    number = keccak_tables_judge_message(page, sizeof page, ops, 1);
+    REFUSED(number, 2, 2);
+    ops[OP + SEGMENT] = 4294967296u;
+    number = keccak_tables_judge_message(page, sizeof page, ops, 2 * OP);
+    REFUSED(number, 11, 4294967296u);
+}
+
 static void core_rows(void) {
     uint64_t row[487];
     row[486] = core[CORE] = GUARD;
-    keccak_tables_answer answer = CALL(keccak_tables_keccak_row)(operation, 52, 0, row, 486);
+    keccak_tables_answer answer = CALL(keccak_tables_keccak_row)(operation, OP, 0, row, 486);
     DONE(answer);
     CHECK(row[0] == TIMESTAMP && row[2 + 2] == ADDRESS_HALF && row[2 + 4] == ADDRESS_WORD && row[485] == 1 && row[486] == GUARD);
-    answer = keccak_tables_keccak_row(operation, 52, 1, row, 486);
+    answer = keccak_tables_keccak_row(operation, OP, 1, row, 486);
     REFUSED(answer, 1, 1);
-    answer = keccak_tables_keccak_row(operation, 52, 0, row, 485);
+    answer = keccak_tables_keccak_row(operation, OP, 0, row, 485);
     REFUSED(answer, 3, 486);
 
-    answer = CALL(keccak_tables_generate_keccak_trace)(FLOOR, operation, 52, core, CORE);
+    answer = CALL(keccak_tables_generate_keccak_trace)(FLOOR, operation, OP, core, CORE);
     DONE(answer);
     CHECK(memcmp(core, row, 486 * sizeof *row) == 0 && core[486 + 413] == 8 && core[486 + 485] == 0 && core[CORE] == GUARD);
-    answer = keccak_tables_generate_keccak_trace(FLOOR, operation, 51, core, CORE);
+    answer = keccak_tables_generate_keccak_trace(FLOOR, operation, OP - 1, core, CORE);
     REFUSED(answer, 2, 2);
-    answer = keccak_tables_generate_keccak_trace(FLOOR, operation, 52, core, CORE - 1);
+    answer = keccak_tables_generate_keccak_trace(FLOOR, operation, OP, core, CORE - 1);
     REFUSED(answer, 3, CORE);
 }
 
 static void core_keys(void) {
     uint64_t keys[51];
     keys[50] = GUARD;
-    keccak_tables_answer answer = CALL(keccak_tables_is_wh_keys)(operation, 52, keys, 50);
+    keccak_tables_answer answer = CALL(keccak_tables_is_wh_keys)(operation, OP, keys, 50);
     DONE(answer);
     CHECK(keys[0] == ADDRESS_WORD && keys[1] == ADDRESS_HALF && keys[48] == ADDRESS_WORD && keys[50] == GUARD);
     uint64_t address = operation[1];
     operation[1] = KECCAK_TABLES_LAST_ADDRESS + 1;
-    answer = keccak_tables_is_wh_keys(operation, 52, keys, 50);
+    answer = keccak_tables_is_wh_keys(operation, OP, keys, 50);
     REFUSED(answer, 4, operation[1]);
     operation[1] = address;
 
@@ -442,81 +519,89 @@ static void round_rows(void) {
     answer = keccak_tables_keccak_rnd_row(TIMESTAMP, operation + 2, 25, 23, row, 1479);
     REFUSED(answer, 3, 1480);
 
-    answer = CALL(keccak_tables_generate_keccak_rnd_trace)(ROUNDS, FLOOR, operation, 52, rounds, ROUND);
+    answer = CALL(keccak_tables_generate_keccak_rnd_trace)(ROUNDS, FLOOR, operation, OP, rounds, ROUND);
     DONE(answer);
     CHECK(memcmp(rounds, row, 1480 * sizeof *row) == 0 && rounds[24 * 1480 + 1479] == 0 && rounds[ROUND] == GUARD);
-    answer = keccak_tables_generate_keccak_rnd_trace(ROUNDS, FLOOR, operation, 53, rounds, ROUND);
+    answer = keccak_tables_generate_keccak_rnd_trace(ROUNDS, FLOOR, operation, OP + 1, rounds, ROUND);
     REFUSED(answer, 2, 2);
-    answer = keccak_tables_generate_keccak_rnd_trace(ROUNDS, FLOOR, operation, 52, rounds, ROUND - 1);
+    answer = keccak_tables_generate_keccak_rnd_trace(ROUNDS, FLOOR, operation, OP, rounds, ROUND - 1);
     REFUSED(answer, 3, ROUND);
 }
 
 /* The rows of two operations, each in its own half of a slice; and one call for both. */
 static void rows_in_parts(void) {
-    uint64_t list[104], rows[2 * 486 + 1], parts[2 * 486];
+    uint64_t list[2 * OP], rows[2 * 486 + 1], parts[2 * 486];
     memcpy(list, operation, sizeof operation);
-    memcpy(list + 52, operation, sizeof operation);
-    list[52] = TIMESTAMP + 1;
+    memcpy(list + OP, operation, sizeof operation);
+    list[OP] = TIMESTAMP + 1;
     rows[2 * 486] = GUARD;
-    keccak_tables_answer answer = CALL(keccak_tables_keccak_rows)(list, 104, rows, 2 * 486);
+    keccak_tables_answer answer = CALL(keccak_tables_keccak_rows)(list, 2 * OP, rows, 2 * 486);
     DONE(answer);
     CHECK(memcmp(rows, core, 486 * sizeof *rows) == 0 && rows[486] == TIMESTAMP + 1 && rows[2 * 486] == GUARD);
     for (size_t i = 0; i < 2; i++) {
-        answer = keccak_tables_keccak_rows(list + 52 * i, 52, parts + 486 * i, 486);
+        answer = keccak_tables_keccak_rows(list + OP * i, OP, parts + 486 * i, 486);
         DONE(answer);
     }
     CHECK(memcmp(rows, parts, sizeof parts) == 0);
-    answer = keccak_tables_keccak_rows(list, 104, rows, 2 * 486 - 1);
+    answer = keccak_tables_keccak_rows(list, 2 * OP, rows, 2 * 486 - 1);
     REFUSED(answer, 3, 2 * 486);
 
     uint64_t *round = calloc(2 * 24 * 1480 + 1, sizeof *round);
     CHECK(round != NULL);
     round[2 * 24 * 1480] = GUARD;
-    answer = CALL(keccak_tables_keccak_rnd_rows)(ROUNDS, list, 104, round, 2 * 24 * 1480);
+    answer = CALL(keccak_tables_keccak_rnd_rows)(ROUNDS, list, 2 * OP, round, 2 * 24 * 1480);
     DONE(answer);
     CHECK(memcmp(round, rounds, 24 * 1480 * sizeof *round) == 0 && round[24 * 1480] == TIMESTAMP + 1);
     CHECK(round[2 * 24 * 1480] == GUARD);
-    answer = keccak_tables_keccak_rnd_rows(ROUNDS, list, 103, round, 2 * 24 * 1480);
+    answer = keccak_tables_keccak_rnd_rows(ROUNDS, list, 2 * OP - 1, round, 2 * 24 * 1480);
     REFUSED(answer, 2, 2);
     free(round);
 }
 
-/* Each call that takes operations, on a list of two: refused by 7, or by 4 where the other address is high; then accepted. */
+/*
+ * Each call that takes operations, on a list of two, by the second's address and the first's segment word: accepted, refused by 4, by 7
+ * where no address is high, by 11 where none is refused.
+ */
 static void addresses(void) {
     static const struct {
-        uint64_t first, second, refusal, detail;
+        uint64_t first, second, segment, refusal, detail;
     } cases[] = {
-        {4096, 18446744073709551416u, 0, 0},
-        {4096, 18446744073709551424u, KECCAK_TABLES_REFUSAL_HIGH_ADDRESS, 18446744073709551424u},
-        {4096, 18446744073709551423u, KECCAK_TABLES_REFUSAL_UNALIGNED, 18446744073709551423u},
-        {4100, 1, KECCAK_TABLES_REFUSAL_UNALIGNED, 4100},
-        {4100, 18446744073709551424u, KECCAK_TABLES_REFUSAL_HIGH_ADDRESS, 18446744073709551424u},
+        {4096, 18446744073709551416u, 4294967295u, 0, 0},
+        {4096, 18446744073709551424u, 0, KECCAK_TABLES_REFUSAL_HIGH_ADDRESS, 18446744073709551424u},
+        {4096, 18446744073709551423u, 0, KECCAK_TABLES_REFUSAL_UNALIGNED, 18446744073709551423u},
+        {4100, 1, 4294967296u, KECCAK_TABLES_REFUSAL_UNALIGNED, 4100},
+        {4100, 18446744073709551424u, 4294967296u, KECCAK_TABLES_REFUSAL_HIGH_ADDRESS, 18446744073709551424u},
+        {4096, 4096, 4294967296u, KECCAK_TABLES_REFUSAL_SEGMENT, 4294967296u},
+        {4096, 4096, UINT64_MAX, KECCAK_TABLES_REFUSAL_SEGMENT, UINT64_MAX},
     };
     size_t length = KECCAK_TABLES_BITWISE_COUNTERS;
-    uint64_t list[104], out[4 * 486], *table = calloc(64 * 1480, sizeof *table);
+    uint64_t list[2 * OP], out[4 * 486], *table = calloc(64 * 1480, sizeof *table);
     uint64_t *counters = calloc(length, sizeof *counters), *copy = calloc(length, sizeof *copy);
-    uint8_t bytes[2 * 418];
+    uint8_t bytes[1024];
     CHECK(table != NULL && counters != NULL && copy != NULL);
     memcpy(list, operation, sizeof operation);
-    memcpy(list + 52, operation, sizeof operation);
+    memcpy(list + OP, operation, sizeof operation);
     for (size_t i = 0; i < sizeof cases / sizeof *cases; i++) {
         list[1] = cases[i].first;
-        list[53] = cases[i].second;
+        list[OP + 1] = cases[i].second;
+        list[SEGMENT] = cases[i].segment;
         const keccak_tables_answer answers[] = {
-            keccak_tables_keccak_row(list, 104, 0, out, 486),
-            keccak_tables_generate_keccak_trace(FLOOR, list, 104, out, 4 * 486),
-            keccak_tables_keccak_rows(list, 104, out, 2 * 486),
-            keccak_tables_is_wh_keys(list, 104, out, 100),
-            keccak_tables_generate_keccak_rnd_trace(ROUNDS, FLOOR, list, 104, table, 64 * 1480),
-            keccak_tables_keccak_rnd_rows(ROUNDS, list, 104, table, 48 * 1480),
-            keccak_tables_charge(ROUNDS, FLOOR, false, list, 104, counters, length),
-            keccak_tables_look(ROUNDS, FLOOR, false, list, 104, counters, length, copy, length, out, KECCAK_TABLES_LOOK_WORDS),
-            keccak_tables_write_operations(list, 104, bytes, sizeof bytes),
+            keccak_tables_keccak_row(list, 2 * OP, 0, out, 486),
+            keccak_tables_generate_keccak_trace(FLOOR, list, 2 * OP, out, 4 * 486),
+            keccak_tables_keccak_rows(list, 2 * OP, out, 2 * 486),
+            keccak_tables_is_wh_keys(list, 2 * OP, out, 100),
+            keccak_tables_generate_keccak_rnd_trace(ROUNDS, FLOOR, list, 2 * OP, table, 64 * 1480),
+            keccak_tables_keccak_rnd_rows(ROUNDS, list, 2 * OP, table, 48 * 1480),
+            keccak_tables_charge(ROUNDS, FLOOR, false, list, 2 * OP, counters, length),
+            keccak_tables_look(ROUNDS, FLOOR, false, list, 2 * OP, counters, length, copy, length, out, KECCAK_TABLES_LOOK_WORDS),
+            keccak_tables_register_charge(ROUNDS, FLOOR, false, 0, list, 2 * OP, counters, length, table, 10),
+            keccak_tables_register_look(ROUNDS, FLOOR, false, 0, list, 2 * OP, counters, length, table, 10, copy, length, out, 30),
+            keccak_tables_write_operations(list, 2 * OP, bytes, sizeof bytes),
         };
         for (size_t call = 0; call < sizeof answers / sizeof *answers; call++)
             REFUSED(answers[call], cases[i].refusal, cases[i].detail);
         /* A short slice comes first. */
-        REFUSED(keccak_tables_is_wh_keys(list, 104, out, 99), 3, 100);
+        REFUSED(keccak_tables_is_wh_keys(list, 2 * OP, out, 99), 3, 100);
     }
     free(table);
     free(counters);
@@ -622,13 +707,13 @@ static void fewer_rounds(void) {
     number = keccak_tables_padding_are_bytes(FEWER, FLOOR, 1);
     DONE(number);
     CHECK(number.value == 4 * 220);
-    keccak_tables_answer answer = keccak_tables_generate_keccak_rnd_trace(FEWER, FLOOR, operation, 52, table, 16 * 1480);
+    keccak_tables_answer answer = keccak_tables_generate_keccak_rnd_trace(FEWER, FLOOR, operation, OP, table, 16 * 1480);
     DONE(answer);
     for (size_t row = 0; row < 12; row++)
         CHECK(table[1480 * row + KECCAK_TABLES_ROUND_ROUND] == 12 + row && table[1480 * row + KECCAK_TABLES_ROUND_MU] == 1);
     CHECK(table[12 * 1480 + KECCAK_TABLES_ROUND_MU] == 0 && table[16 * 1480] == GUARD);
     memset(table + 1480, 0, 15 * 1480 * sizeof *table);
-    answer = keccak_tables_keccak_rnd_rows(FEWER, operation, 52, table, 12 * 1480);
+    answer = keccak_tables_keccak_rnd_rows(FEWER, operation, OP, table, 12 * 1480);
     DONE(answer);
 
     const uint64_t *last = table + 11 * 1480;
@@ -660,6 +745,58 @@ static void fewer_rounds(void) {
     CHECK(constants[320] == GUARD);
 }
 
+/*
+ * The operation twice, at two times and with its output, as a job of two segments: as written; then with the first round row of the second
+ * filed with the first, where nobody sends what it receives.
+ */
+static void job(void) {
+    static uint64_t cores[2 * CORE], tables[2 * ROUND];
+    uint64_t list[52], report[13], counts[] = {4, 32, 4, 32};
+    memcpy(list, operation, sizeof list);
+    for (size_t segment = 0; segment < 2; segment++) {
+        list[0] = TIMESTAMP + segment;
+        keccak_tables_answer answer = keccak_tables_generate_keccak_trace(FLOOR, list, 52, cores + segment * CORE, CORE);
+        DONE(answer);
+        answer = keccak_tables_generate_keccak_rnd_trace(ROUNDS, FLOOR, list, 52, tables + segment * ROUND, ROUND);
+        DONE(answer);
+        const uint64_t *last = tables + segment * ROUND + 23 * 1480;
+        memcpy(cores + segment * CORE + 210, last + 1471, 8 * sizeof *cores);
+        memcpy(cores + segment * CORE + 218, last + 1271, 192 * sizeof *cores);
+    }
+    for (size_t word = 0; word < 13; word++)
+        report[word] = GUARD;
+    keccak_tables_answer answer = keccak_tables_job(ROUNDS, cores, 2 * CORE, tables, 2 * ROUND, counts, 3, report, 12);
+    REFUSED(answer, KECCAK_TABLES_REFUSAL_NOT_WHOLE, KECCAK_TABLES_LENT_LIST);
+    answer = keccak_tables_job(ROUNDS, cores, 2 * CORE, tables, 2 * ROUND, counts, 4, report, 11);
+    REFUSED(answer, 3, 3 * KECCAK_TABLES_VERDICT_WORDS);
+    CHECK(report[0] == GUARD && report[10] == GUARD);
+
+    const uint64_t each[12] = {0, 1, 0, 0, 0, 1, 0, 0, 0, 2, 0, 0};
+    answer = CALL(keccak_tables_job)(ROUNDS, cores, 2 * CORE, tables, 2 * ROUND, counts, 2 * KECCAK_TABLES_COUNT_WORDS, report, 13);
+    DONE(answer);
+    CHECK(memcmp(report, each, sizeof each) == 0 && report[12] == GUARD);
+    const uint64_t misfiled[12] = {KECCAK_TABLES_VERDICT_BALANCE, KECCAK_TABLES_TABLE_ROUND, 32, 0,
+                                   KECCAK_TABLES_VERDICT_BALANCE, KECCAK_TABLES_TABLE_CORE,  0,  2, 0, 2, 0, 0};
+    counts[1]++;
+    counts[3]--;
+    answer = keccak_tables_job(ROUNDS, cores, 2 * CORE, tables, 2 * ROUND, counts, 4, report, 12);
+    DONE(answer);
+    CHECK(memcmp(report, misfiled, sizeof misfiled) == 0);
+    /* Sums that are right mod 2^64 alone. */
+    counts[0] += 8;
+    counts[2] -= 8;
+    answer = keccak_tables_job(ROUNDS, cores, 2 * CORE, tables, 2 * ROUND, counts, 4, report, 12);
+    REFUSED(answer, 2, 2);
+    counts[0] -= 8;
+    counts[2] += 8;
+    tables[5] = KECCAK_TABLES_P;
+    answer = keccak_tables_job(ROUNDS, cores, 2 * CORE, tables, 2 * ROUND, counts, 4, report, 12);
+    REFUSED(answer, 5, 5);
+    answer = keccak_tables_job(ROUNDS, cores, 0, tables, 0, counts, 0, report, 4);
+    DONE(answer);
+    CHECK(report[0] == 0 && report[1] == 0 && report[4] == misfiled[4]);
+}
+
 /* A number of rounds that is none is refused before anything else, and nothing is written. */
 static void no_rounds(void) {
     static const uint64_t numbers[] = {0, KECCAK_TABLES_ROUNDS + 1, UINT64_MAX};
@@ -671,8 +808,12 @@ static void no_rounds(void) {
             keccak_tables_keccak_rnd_rows(nr, &word, 1, &word, 0),
             keccak_tables_keccak_rc_update_multiplicities(nr, &word, 1, UINT64_MAX),
             keccak_tables_keccak_bus_interactions(nr, &word, 1, 0, &word, 0),
-            keccak_tables_charge(nr, FLOOR + 1, true, operation, 51, &word, 1),
-            keccak_tables_look(nr, FLOOR + 1, false, operation, 51, &word, 1, &word, 0, &word, 0),
+            keccak_tables_charge(nr, FLOOR + 1, true, operation, OP - 1, &word, 1),
+            keccak_tables_look(nr, FLOOR + 1, false, operation, OP - 1, &word, 1, &word, 0, &word, 0),
+            keccak_tables_register_charge(nr, FLOOR + 1, true, 1, operation, OP - 1, &word, 0, &word, 1),
+            keccak_tables_register_look(nr, FLOOR + 1, false, 1, operation, OP - 1, &word, 1, &word, 1, &word, 0, &word, 0),
+            keccak_tables_month(nr, FLOOR + 1, &word, 1, &word, 0),
+            keccak_tables_job(nr, &word, 1, &word, 1, &word, 1, &word, 0),
         };
         for (size_t call = 0; call < sizeof answers / sizeof *answers; call++)
             REFUSED(answers[call], KECCAK_TABLES_REFUSAL_ROUNDS, nr);
@@ -714,23 +855,23 @@ static void higher_floor(void) {
     DONE(number);
     CHECK(number.value == 0);
 
-    keccak_tables_answer answer = keccak_tables_generate_keccak_trace(FLOOR, operation, 52, few, CORE);
+    keccak_tables_answer answer = keccak_tables_generate_keccak_trace(FLOOR, operation, OP, few, CORE);
     DONE(answer);
-    answer = keccak_tables_generate_keccak_trace(HIGHER, operation, 52, rows, HIGHER * 486);
+    answer = keccak_tables_generate_keccak_trace(HIGHER, operation, OP, rows, HIGHER * 486);
     DONE(answer);
     CHECK(memcmp(rows, few, sizeof few) == 0 && rows[HIGHER * 486] == GUARD);
     for (size_t row = 4; row < HIGHER; row++)
         CHECK(memcmp(rows + 486 * row, few + 486, 486 * sizeof *rows) == 0);
-    answer = keccak_tables_generate_keccak_trace(HIGHER, operation, 52, rows, HIGHER * 486 - 1);
+    answer = keccak_tables_generate_keccak_trace(HIGHER, operation, OP, rows, HIGHER * 486 - 1);
     REFUSED(answer, 3, HIGHER * 486);
-    answer = keccak_tables_generate_keccak_rnd_trace(ROUNDS, FLOOR, operation, 52, lower, ROUND);
+    answer = keccak_tables_generate_keccak_rnd_trace(ROUNDS, FLOOR, operation, OP, lower, ROUND);
     DONE(answer);
-    answer = keccak_tables_generate_keccak_rnd_trace(ROUNDS, HIGHER, operation, 52, table, HIGHER * 1480);
+    answer = keccak_tables_generate_keccak_rnd_trace(ROUNDS, HIGHER, operation, OP, table, HIGHER * 1480);
     DONE(answer);
     CHECK(memcmp(table, lower, sizeof lower) == 0 && table[HIGHER * 1480] == GUARD);
     for (size_t word = ROUND; word < HIGHER * 1480; word++)
         CHECK(table[word] == 0);
-    answer = keccak_tables_generate_keccak_rnd_trace(ROUNDS, HIGHER, operation, 52, table, HIGHER * 1480 - 1);
+    answer = keccak_tables_generate_keccak_rnd_trace(ROUNDS, HIGHER, operation, OP, table, HIGHER * 1480 - 1);
     REFUSED(answer, 3, HIGHER * 1480);
 }
 
@@ -743,8 +884,11 @@ static void no_floor(void) {
         const keccak_tables_answer answers[] = {
             keccak_tables_generate_keccak_trace(floor, &word, 1, &word, 0),
             keccak_tables_generate_keccak_rnd_trace(ROUNDS, floor, &word, 1, &word, 0),
-            keccak_tables_charge(ROUNDS, floor, true, operation, 51, &word, 1),
-            keccak_tables_look(ROUNDS, floor, false, operation, 51, &word, 1, &word, 0, &word, 0),
+            keccak_tables_charge(ROUNDS, floor, true, operation, OP - 1, &word, 1),
+            keccak_tables_look(ROUNDS, floor, false, operation, OP - 1, &word, 1, &word, 0, &word, 0),
+            keccak_tables_register_charge(ROUNDS, floor, true, 1, operation, OP - 1, &word, 0, &word, 1),
+            keccak_tables_register_look(ROUNDS, floor, false, 1, operation, OP - 1, &word, 1, &word, 1, &word, 0, &word, 0),
+            keccak_tables_month(ROUNDS, floor, &word, 1, &word, 0),
         };
         for (size_t call = 0; call < sizeof answers / sizeof *answers; call++)
             REFUSED(answers[call], KECCAK_TABLES_REFUSAL_FLOOR, floor);
@@ -761,22 +905,57 @@ static void no_floor(void) {
     }
 }
 
+/* Tables of 32, 64 and 128 rows that are equally full, and an empty one; other rounds and a floor; no file; and what is refused. */
+static void months(void) {
+    static const uint64_t counts[] = {0, 1, 2, 4};
+    static uint64_t many[KECCAK_TABLES_MAX_FILES + 1];
+    uint64_t out[KECCAK_TABLES_MONTH_WORDS + 1];
+    out[KECCAK_TABLES_MONTH_WORDS] = GUARD;
+    keccak_tables_answer answer = CALL(keccak_tables_month)(ROUNDS, FLOOR, counts, 4, out, KECCAK_TABLES_MONTH_WORDS);
+    DONE(answer);
+    CHECK(out[KECCAK_TABLES_MONTH_FILES] == 4 && out[KECCAK_TABLES_MONTH_OPERATIONS] == 7);
+    CHECK(out[KECCAK_TABLES_MONTH_USED_ROWS] == 168 && out[KECCAK_TABLES_MONTH_PADDING_ROWS] == 60);
+    CHECK(out[KECCAK_TABLES_MONTH_FULLEST_USED] == 24 && out[KECCAK_TABLES_MONTH_FULLEST_TOTAL] == 32);
+    CHECK(out[KECCAK_TABLES_MONTH_EMPTIEST_USED] == 0 && out[KECCAK_TABLES_MONTH_EMPTIEST_TOTAL] == 4);
+    for (size_t power = 2; power < 32; power++)
+        CHECK(out[KECCAK_TABLES_MONTH_HEIGHTS + power - 2] == (power == 2 || power == 5 || power == 6 || power == 7));
+    CHECK(out[KECCAK_TABLES_MONTH_SHOWN] == 1 && out[KECCAK_TABLES_MONTH_WORDS] == GUARD);
+    answer = keccak_tables_month(FEWER, HIGHER, counts, 4, out, KECCAK_TABLES_MONTH_WORDS);
+    DONE(answer);
+    CHECK(out[KECCAK_TABLES_MONTH_USED_ROWS] == 7 * FEWER && out[KECCAK_TABLES_MONTH_PADDING_ROWS] == 4 * HIGHER - 7 * FEWER);
+    CHECK(out[KECCAK_TABLES_MONTH_FULLEST_USED] == 4 * FEWER && out[KECCAK_TABLES_MONTH_FULLEST_TOTAL] == HIGHER);
+    answer = keccak_tables_month(ROUNDS, FLOOR, counts, 0, out, KECCAK_TABLES_MONTH_WORDS);
+    DONE(answer);
+    for (size_t word = 0; word < KECCAK_TABLES_MONTH_WORDS; word++)
+        CHECK(out[word] == 0);
+    answer = keccak_tables_month(ROUNDS, FLOOR, many, KECCAK_TABLES_MAX_FILES, out, KECCAK_TABLES_MONTH_WORDS);
+    DONE(answer);
+    CHECK(out[KECCAK_TABLES_MONTH_PADDING_ROWS] == 4 * KECCAK_TABLES_MAX_FILES);
+    many[7] = KECCAK_TABLES_MAX_OPS + 1;
+    answer = keccak_tables_month(ROUNDS, FLOOR, many, KECCAK_TABLES_MAX_FILES + 1, out, 0);
+    REFUSED(answer, KECCAK_TABLES_REFUSAL_FILES, KECCAK_TABLES_MAX_FILES + 1);
+    answer = keccak_tables_month(ROUNDS, FLOOR, many, KECCAK_TABLES_MAX_FILES, out, 0);
+    REFUSED(answer, 1, 89478486);
+    answer = keccak_tables_month(ROUNDS, FLOOR, counts, 4, out, KECCAK_TABLES_MONTH_WORDS - 1);
+    REFUSED(answer, 3, 39);
+}
+
 static void file_lists(void) {
-    uint64_t list[53];
+    uint64_t list[OP + 1];
     file[418] = 0xA5;
-    list[52] = GUARD;
-    keccak_tables_answer answer = CALL(keccak_tables_write_operations)(operation, 52, file, 418);
+    list[OP] = GUARD;
+    keccak_tables_answer answer = CALL(keccak_tables_write_operations)(operation, OP, file, 418);
     DONE(answer);
     CHECK(file[0] == 0x4B && file[1] == 0x4F && file[2] == TIMESTAMP && file[10 + 2] == ADDRESS_HALF && file[418] == 0xA5);
-    answer = keccak_tables_write_operations(operation, 52, file, 417);
+    answer = keccak_tables_write_operations(operation, OP, file, 417);
     REFUSED(answer, 3, 418);
-    answer = CALL(keccak_tables_read_operations)(file, 418, list, 52);
+    answer = CALL(keccak_tables_read_operations)(file, 418, list, OP);
     DONE(answer);
-    CHECK(memcmp(list, operation, sizeof operation) == 0 && list[52] == GUARD);
-    answer = keccak_tables_read_operations(file, 417, list, 52);
+    CHECK(memcmp(list, operation, sizeof operation) == 0 && list[OP] == GUARD);
+    answer = keccak_tables_read_operations(file, 417, list, OP);
     REFUSED(answer, 6, 0);
-    answer = keccak_tables_read_operations(file, 418, list, 51);
-    REFUSED(answer, 3, 52);
+    answer = keccak_tables_read_operations(file, 418, list, OP - 1);
+    REFUSED(answer, 3, OP);
 }
 
 /* The sums of the file that file_lists wrote. */
@@ -821,15 +1000,15 @@ static void file_sums(void) {
     CHECK(sums.ops == 1 && sums.core_rows == 4 && sums.round_rows == 32 && sums.byte_alu == 19393 && sums.unaligned == 1);
     marked = keccak_tables_tally_feed(cursor, file + 1, 1);
     REFUSED(marked, 6, 836);
-    uint64_t list[52];
-    keccak_tables_answer answer = keccak_tables_read_operations(file, 418, list, 52);
+    uint64_t list[OP];
+    keccak_tables_answer answer = keccak_tables_read_operations(file, 418, list, OP);
     DONE(answer);
     CHECK(list[1] == operation[1] + 4);
-    answer = keccak_tables_write_operations(list, 52, file, 418);
+    answer = keccak_tables_write_operations(list, OP, file, 418);
     REFUSED(answer, KECCAK_TABLES_REFUSAL_UNALIGNED, list[1]);
 
     /* A reader that has read as many records as a file may have: its end is no fault, a byte more is, whatever is left out. */
-    keccak_tables_cursor full = {0, 0, KECCAK_TABLES_MAX_OPS - 3, 0, 0, 3};
+    keccak_tables_cursor full = {.records = KECCAK_TABLES_MAX_OPS - 3, .unaligned = 3};
     sums = keccak_tables_tally_finish(FLOOR, true, full);
     DONE(sums);
     CHECK(sums.ops == KECCAK_TABLES_MAX_OPS - 3 && sums.unaligned == 3);
@@ -838,9 +1017,15 @@ static void file_sums(void) {
     cursor = keccak_tables_tally_feed(full, file, 1);
     REFUSED(cursor, 1, 89478486);
     /* A fault that no call found is answered as it is named, but one that there is none of. */
-    keccak_tables_cursor made_up = {KECCAK_TABLES_REFUSAL_FLOOR, 5, 0, 0, 0, 0};
+    keccak_tables_cursor made_up = {.refusal = KECCAK_TABLES_REFUSAL_REGISTER, .detail = 5};
     sums = keccak_tables_tally_finish(FLOOR, false, made_up);
-    REFUSED(sums, 9, 5);
+    REFUSED(sums, 10, 5);
+    made_up.refusal = KECCAK_TABLES_REFUSAL_SEGMENT;
+    sums = keccak_tables_tally_finish(FLOOR, false, made_up);
+    REFUSED(sums, 11, 5);
+    made_up.refusal = KECCAK_TABLES_REFUSAL_FILES;
+    sums = keccak_tables_tally_finish(FLOOR, false, made_up);
+    REFUSED(sums, 14, 5);
     made_up.refusal++;
     sums = keccak_tables_tally_finish(FLOOR, false, made_up);
     REFUSED(sums, 6, 5);
@@ -848,6 +1033,51 @@ static void file_sums(void) {
     cursor = keccak_tables_tally_feed(full, file, 418);
     DONE(cursor);
     CHECK(cursor.records == KECCAK_TABLES_MAX_OPS - 4 && cursor.unaligned == 4 && cursor.at == 0);
+}
+
+/* A record under 4B 50 behind one under 4B 4F; then readers that no call made. */
+static void file_segments(void) {
+    uint8_t both[2 * KECCAK_TABLES_SEGMENT_RECORD_BYTES];
+    uint64_t list[2 * OP], read[2 * OP];
+    memcpy(list, operation, sizeof operation);
+    memcpy(list + OP, operation, sizeof operation);
+    list[OP + SEGMENT] = 0x04030201;
+    keccak_tables_answer answer = keccak_tables_write_operations(list, 2 * OP, both, 839);
+    REFUSED(answer, 3, 840);
+    answer = keccak_tables_write_operations(list, 2 * OP, both, 840);
+    DONE(answer);
+    CHECK(both[0] == 0x4B && both[1] == 0x4F && both[418] == 0x4B && both[419] == 0x50 && both[836] == 1 && both[839] == 4);
+    answer = keccak_tables_read_operations(both, 840, read, 2 * OP);
+    DONE(answer);
+    CHECK(memcmp(read, list, sizeof list) == 0);
+    answer = keccak_tables_read_operations(both, 839, read, 2 * OP);
+    REFUSED(answer, 6, 418);
+    keccak_tables_cursor cursor = keccak_tables_tally_feed(keccak_tables_tally_start(), both, 838);
+    DONE(cursor);
+    CHECK(cursor.records == 1 && cursor.at == 420 && cursor.start == 418 && cursor.mark == 0x50 && cursor.segments == 0);
+    cursor = keccak_tables_tally_feed(cursor, both + 838, 2);
+    DONE(cursor);
+    CHECK(cursor.records == 2 && cursor.at == 0 && cursor.start == 840);
+    keccak_tables_sums sums = keccak_tables_tally_finish(FLOOR, false, cursor);
+    DONE(sums);
+    CHECK(sums.ops == 2 && sums.segments == 1 && sums.least_segment == 0 && sums.greatest_segment == 0x04030201);
+    /* Past the most bytes of a file there is no record; up to there every word of a reader is taken as it is. */
+    keccak_tables_cursor far = {.start = (uint64_t)422 * KECCAK_TABLES_MAX_OPS + 1, .least_segment = UINT64_MAX};
+    sums = keccak_tables_tally_finish(FLOOR, false, far);
+    REFUSED(sums, 1, 89478486);
+    cursor = keccak_tables_tally_feed(far, both, 418);
+    REFUSED(cursor, 1, 89478486);
+    far.start--;
+    cursor = keccak_tables_tally_feed(far, both, 417);
+    DONE(cursor);
+    cursor.at = SIZE_MAX;
+    cursor.address = 8;
+    cursor.tail = UINT64_MAX;
+    cursor = keccak_tables_tally_feed(cursor, both, 1);
+    DONE(cursor);
+    CHECK(cursor.records == 1 && cursor.at == 0 && cursor.start == far.start + 418);
+    cursor = keccak_tables_tally_feed(cursor, both, 1);
+    REFUSED(cursor, 1, 89478486);
 }
 
 int main(void) {
@@ -863,6 +1093,8 @@ int main(void) {
     key_calls();
     key_rows();
     segment();
+    registers();
+    messages();
     core_rows();
     core_keys();
     core_evaluations();
@@ -874,10 +1106,13 @@ int main(void) {
     state_orders();
     verdict_calls();
     fewer_rounds();
+    job();
     no_rounds();
     higher_floor();
     no_floor();
+    months();
     file_lists();
     file_sums();
+    file_segments();
     return 0;
 }

@@ -5,12 +5,16 @@ mod interface;
 
 use keccak_tables::bitwise::{BitwiseOperation, BitwiseOperationType};
 use keccak_tables::is_wh::{IsWhKey, IsWhRows};
+use keccak_tables::job::Report;
+use keccak_tables::month::{Fill, Month};
 use keccak_tables::operation_file::Tally;
+use keccak_tables::registers::RegisterLook;
 use keccak_tables::segment::KindLook;
 use keccak_tables::verdict::{Table, Verdict};
 use keccak_tables::{
-    Bus, BusInteraction, FLOOR, Lent, MAX_FLOOR, MAX_OPS, OP_WORDS, Operation, P, Parameters, Refusal, Side, bitwise,
-    is_wh, keccak, keccak_rc, keccak_rnd, operation_file, segment, tuples, verdict,
+    Bus, BusInteraction, FLOOR, Lent, MAX_FLOOR, MAX_OPS, OP_WORDS, Operation, P, Parameters, Refusal, SEGMENT_WORD,
+    Side, bitwise, is_wh, job, keccak, keccak_rc, keccak_rnd, message, month, operation_file, registers, segment,
+    tuples, verdict,
 };
 
 const GUARD: u64 = 0xA5A5_A5A5_A5A5_A5A5;
@@ -43,6 +47,7 @@ fn operation() -> Operation {
         address: 0x0003_0002_0008,
         input: [0; 25],
         output: [0; 25],
+        segment: 0,
     }
 }
 
@@ -338,6 +343,135 @@ fn segment_calls() {
     assert_eq!(refused, Err(too_short("out", 20)));
 }
 
+/// The same charges through two of three registers, whose ledgers stand before a cut one: what one is shown and gets goes by its own calls,
+/// and the ledgers add up to the counters.
+#[test]
+fn register_calls() {
+    let list = operation().words();
+    let sums = [0, 0, 0, 4 + 32 * 220, 25, 0, 0, 1 + 24 * 200, 0, 24 * 608];
+    let mut counters = vec![0; bitwise::NUM_COUNTERS + 1];
+    counters[bitwise::NUM_COUNTERS] = GUARD;
+    let mut ledgers = [0; 35];
+    ledgers[30..].fill(GUARD);
+    for (words, used) in [
+        (0, 0),
+        (9, 0),
+        (10, 1),
+        (35, 3),
+        (159, 15),
+        (160, 16),
+        (161, 16),
+        (170, 16),
+    ] {
+        assert_eq!(registers::in_use(words), used);
+    }
+
+    let mut copy = vec![GUARD; bitwise::NUM_COUNTERS + 1];
+    let mut out = [GUARD; registers::REGISTER_LOOK_WORDS + 1];
+    let seen = registers::look(1, &list, &counters, &ledgers, &mut copy, &mut out);
+    assert_eq!((seen, out[20..30] == sums, out[30]), (Ok(()), true, GUARD));
+    assert_eq!(copy[bitwise::NUM_COUNTERS], GUARD);
+    assert!(ledgers[..30].iter().chain(&counters[..10]).all(|&word| word == 0));
+    assert_eq!(registers::charge(1, &list, &mut counters, &mut ledgers), Ok(()));
+    assert!(counters == copy && ledgers[10..20] == sums);
+
+    // Another register charges, and the first again: its ledger has twice its own sums.
+    let twelve_shipped = twelve().shipped();
+    let (before, nothing) = (ledgers, [0; 10]);
+    let seen = registers::charge_with(twelve_shipped, 2, &[], &mut counters, &mut ledgers);
+    assert_eq!((seen, &ledgers[..20]), (Ok(()), &before[..20]));
+    assert_eq!((ledgers[23], &ledgers[30..]), (880, &[GUARD; 5][..]));
+    let look = RegisterLook::new(1, &list, &counters, &ledgers).expect("a look");
+    assert_eq!(*look.ledger(), sums.map(|sum| 2 * sum));
+    assert_eq!(look.look().kinds().map(|kind| kind.sum), sums);
+    let look = RegisterLook::with(twelve_shipped, 1, &[], &counters, &ledgers).expect("a look");
+    assert_eq!((look.ledger()[3], look.ledger()[9]), (sums[3] + 880, sums[9]));
+    assert_eq!(registers::charge(1, &list, &mut counters, &mut ledgers), Ok(()));
+    assert_eq!(
+        (&ledgers[..10], ledgers[10..20] == sums.map(|sum| 2 * sum)),
+        (&nothing[..], true)
+    );
+    for kind in 0..10 {
+        let of_kind = |words: &[u64]| words.iter().skip(kind).step_by(10).sum::<u64>();
+        assert_eq!(
+            of_kind(&counters[..bitwise::NUM_COUNTERS]),
+            of_kind(&ledgers[..30]),
+            "kind {kind}"
+        );
+    }
+
+    // A sum returns to zero at p; a word that is none is refused in its own ledger alone, by its place among all of them.
+    ledgers[9] = P - 14_592;
+    ledgers[15] = P;
+    assert_eq!(registers::charge(0, &list, &mut counters, &mut ledgers), Ok(()));
+    assert_eq!((ledgers[9], ledgers[15]), (0, P));
+    let refused = registers::charge(1, &list, &mut counters, &mut ledgers);
+    assert_eq!(refused, Err(not_element("ledgers", 15)));
+    let refused = registers::look_with(twelve(), 1, &list, &counters, &ledgers, &mut copy, &mut out);
+    assert_eq!(refused, Err(not_element("ledgers", 15)));
+    let refused = registers::look(3, &list[1..], &[P], &ledgers, &mut copy, &mut out);
+    assert_eq!(refused, Err(Refusal::Register { register: 3 }));
+    let refused = registers::look(0, &list, &counters, &ledgers, &mut copy, &mut out[..29]);
+    assert_eq!(refused, Err(too_short("out", 30)));
+}
+
+/// Tables of 32, 64 and 128 rows that are equally full, and one that is empty.
+#[test]
+fn month_calls() {
+    let counts = [0, 1, 2, 4];
+    let mut out = [GUARD; month::MONTH_WORDS + 1];
+    assert_eq!(month::month(&counts, &mut out), Ok(()));
+    assert_eq!(out[..8], [4, 7, 168, 60, 24, 32, 0, 4]);
+    let at = |power: usize| u64::from([2, 5, 6, 7].contains(&power));
+    assert_eq!(out[8..38], std::array::from_fn::<u64, 30, _>(|place| at(place + 2)));
+    assert_eq!(out[38..], [1, GUARD]);
+    let named = Month {
+        files: 4,
+        operations: 7,
+        used_rows: 168,
+        padding_rows: 60,
+        fullest: Some(Fill { used: 24, total: 32 }),
+        emptiest: Some(Fill { used: 0, total: 4 }),
+        files_at: std::array::from_fn(|place| at(place + 2)),
+    };
+    assert_eq!(Month::new(&counts), Ok(named));
+    let heights: Vec<(u64, u64)> = named.heights().collect();
+    assert_eq!((heights[0], heights[3], heights[29]), ((4, 1), (32, 1), (1 << 31, 0)));
+    // The other way round another of the tied is shown, and nothing else changes.
+    let turned = Month {
+        fullest: Some(Fill { used: 96, total: 128 }),
+        ..named
+    };
+    assert_eq!(Month::new(&[4, 2, 1, 0]), Ok(turned));
+
+    // With a floor of 64 rows only the last fills more than the others, and a number of rounds has its part in it.
+    assert_eq!(month::month_with(twelve().floor(64), &counts, &mut out), Ok(()));
+    assert_eq!(out[..8], [4, 7, 84, 172, 48, 64, 0, 64]);
+    assert_eq!((out[12], out[38]), (4, 1));
+    let most = Month::with(Parameters::default(), &[MAX_OPS as u64]).expect("a month");
+    assert_eq!(most.fullest, most.emptiest);
+    assert_eq!((most.used_rows + most.padding_rows, most.files_at[29]), (1 << 31, 1));
+
+    let none = Month::new(&[]).expect("a month without files");
+    assert_eq!((none.files, none.fullest, none.emptiest), (0, None, None));
+    assert_eq!(month::month(&[], &mut out), Ok(()));
+    assert_eq!(out[..month::MONTH_WORDS], [0; month::MONTH_WORDS]);
+
+    let mut many = vec![0; month::MAX_FILES + 1];
+    assert_eq!(
+        Month::new(&many[1..]).map(|month| month.padding_rows),
+        Ok(4 * month::MAX_FILES as u64)
+    );
+    many[4] = MAX_OPS as u64 + 1;
+    let mut short = [GUARD; month::MONTH_WORDS - 1];
+    assert_eq!(month::month(&many, &mut short), Err(Refusal::Files { files: 4097 }));
+    let past = Err(past_end("counts", 89_478_486));
+    assert_eq!(month::month(&many[1..], &mut short), past);
+    assert_eq!(Month::new(&many[1..]).map(drop), past);
+    assert_eq!(month::month(&counts, &mut short), Err(too_short("out", 39)));
+    assert_eq!(short, [GUARD; month::MONTH_WORDS - 1]);
+}
+
 /// The core row of the operation, and a word past it.
 fn core_row() -> [u64; keccak::NUM_COLUMNS + 1] {
     let mut row = [GUARD; keccak::NUM_COLUMNS + 1];
@@ -358,7 +492,7 @@ fn core_row_and_table_calls() {
     assert_eq!(keccak::generate_keccak_trace(&list, &mut table), Ok(()));
     assert_eq!((&table[..486], table[486 + 413], table[1944]), (&row[..486], 8, GUARD));
     assert_eq!(keccak::keccak_table(&list), Ok(table[..1944].to_vec()));
-    let refused = keccak::generate_keccak_trace(&list[..51], &mut table);
+    let refused = keccak::generate_keccak_trace(&list[..OP_WORDS - 1], &mut table);
     assert_eq!(refused, Err(not_whole("ops")));
     assert_eq!(keccak::keccak_table(&list[1..]), Err(not_whole("ops")));
 }
@@ -501,7 +635,7 @@ fn round_rows_calls() {
         assert_eq!(keccak_rnd::keccak_rnd_rows(ops, part), Ok(()));
     }
     assert_eq!(parts, rows[..2 * part_words]);
-    let refused = keccak_rnd::keccak_rnd_rows(&list[..103], &mut rows);
+    let refused = keccak_rnd::keccak_rnd_rows(&list[..2 * OP_WORDS - 1], &mut rows);
     assert_eq!(refused, Err(not_whole("ops")));
     assert_eq!(parts, rows[..2 * part_words]);
 }
@@ -608,7 +742,10 @@ fn no_floor() {
         |with, _| keccak::keccak_height_with(with, usize::MAX).map(drop),
         |with, _| cut_tally().finish_with(with).map(drop),
     ];
-    let of_rounds: [Call; 7] = [
+    let of_rounds: [Call; 12] = [
+        |with, counters| registers::charge_with(with, 9, &[P], counters, &mut []),
+        |with, copy| registers::look_with(with, 9, &[P], &[P], &[], copy, &mut []),
+        |with, _| RegisterLook::with(with, 9, &[P], &[P], &[]).map(drop),
         |with, table| keccak_rnd::generate_keccak_rnd_trace_with(with, &[P], table),
         |with, _| keccak_rnd::keccak_rnd_table_with(with, &[P]).map(drop),
         |with, _| keccak_rnd::keccak_rnd_height_with(with, usize::MAX).map(drop),
@@ -616,6 +753,8 @@ fn no_floor() {
         |with, counters| segment::charge_with(with, &[P], counters),
         |with, copy| segment::look_with(with, &[P], &[P], copy, &mut []),
         |with, _| segment::Look::with(with, &[P], &[P]).map(drop),
+        |with, out| month::month_with(with, &[P], out),
+        |with, _| Month::with(with, &[P]).map(drop),
     ];
     for floor in [0, 1, 2, 3, 5, 6, 65_535, 65_537, 131_072, 1 << 32, 1 << 63, u64::MAX] {
         for rounds in [24, 0, 25] {
@@ -671,7 +810,10 @@ fn sent_on(row: &[u64]) -> [u64; 25] {
 #[test]
 fn no_number_of_rounds() {
     type Call = fn(Parameters, &mut [u64]) -> Result<(), Refusal>;
-    let calls: [Call; 13] = [
+    let calls: [Call; 18] = [
+        |with, report| job::job_with(with, &[P], &[P], &[P], report),
+        |with, counters| registers::charge_with(with, 9, &[P], counters, &mut []),
+        |with, copy| registers::look_with(with, 9, &[P], &[P], &[], copy, &mut []),
         |with, table| keccak_rnd::generate_keccak_rnd_trace_with(with, &[P], table),
         |with, table| keccak_rnd::keccak_rnd_rows_with(with, &[P], table),
         |with, _| keccak_rnd::keccak_rnd_table_with(with, &[P]).map(drop),
@@ -685,6 +827,8 @@ fn no_number_of_rounds() {
         |with, _| verdict::verdict_text_with(with, &[P], &[P]).map(drop),
         |with, counters| segment::charge_with(with, &[P], counters),
         |with, copy| segment::look_with(with, &[P], &[P], copy, &mut []),
+        |with, out| month::month_with(with, &[P], out),
+        |with, _| Month::with(with, &[P]).map(drop),
     ];
     for rounds in [0, 25, 1 << 32, u64::MAX] {
         for (place, call) in calls.into_iter().enumerate() {
@@ -699,25 +843,94 @@ fn no_number_of_rounds() {
     }
 }
 
-/// Everything that takes operations, on a list of two: the highest accepted address, the next multiple of 8, what is between them; and of
-/// several that are refused, the first that is too high before any that is no multiple of 8.
+/// Two blocks, their digest, and what is judged; lengths about a block's, and every refusal.
+#[test]
+fn message_calls() {
+    let page = [0xA3; 200];
+    let mut ops = [GUARD; 2 * OP_WORDS + 1];
+    let written = message::message_operations(&page, 4096, 5, &mut ops);
+    assert_eq!((written, ops[2 * OP_WORDS]), (Ok(2), GUARD));
+    let list = &ops[..2 * OP_WORDS];
+    let of = [&list[..OP_WORDS], &list[OP_WORDS..]].map(|words| Operation::from_words(words.try_into().expect("one")));
+    let [first, second] = of.map(|operation| operation.expect("an operation"));
+    assert_eq!((first.timestamp, first.address, first.segment), (5, 4096, 0));
+    assert_eq!((second.timestamp, second.address, second.segment), (6, 4096, 0));
+    assert_eq!((first.input[0], first.input[17]), (0xA3A3_A3A3_A3A3_A3A3, 0));
+    assert_eq!(second.input[17..], first.output[17..]);
+
+    let digest = message::Digest::new(&page, 4096, 5).expect("a digest");
+    assert_eq!(digest.list(), list);
+    let published = "79f38adec5c20307a98ef76e8324afbfd46cfd81b22e3973c65fa1bd9de31787";
+    assert_eq!((digest.to_string().as_str(), digest.bytes()[31]), (published, 0x87));
+    let (core, round) = (keccak::keccak_table(list), keccak_rnd::keccak_rnd_table(list));
+    let verdict = verdict::verdict(&core.expect("a table"), &round.expect("a table"));
+    assert_eq!(verdict, Ok(Verdict::Holds { active: 2 }));
+
+    assert_eq!(message::judge_message(&page, list), Ok(true));
+    assert_eq!(message::judge_message(&page[1..], list), Ok(false));
+    assert_eq!(message::judge_message(&page, &[]), Ok(false));
+    for (bytes, operations) in [(0, 1), (135, 1), (136, 2), (137, 2), (271, 2), (272, 3), (65_536, 482)] {
+        assert_eq!(message::operation_count(bytes), operations);
+    }
+    let most = vec![7; message::MAX_MESSAGE + 1];
+    assert_eq!(
+        message::message_operations(&most[1..], 8, 0, &mut vec![0; 482 * OP_WORDS]),
+        Ok(482)
+    );
+
+    let refused =
+        |message: &[u8], address, timestamp| message::message_operations(message, address, timestamp, &mut [0; 105]);
+    let (long, late) = (
+        Refusal::LongMessage { length: 65_537 },
+        Refusal::LateTimestamp { timestamp: u64::MAX },
+    );
+    assert_eq!(refused(&most, 1, u64::MAX), Err(long));
+    assert_eq!(refused(&page, 1, u64::MAX), Err(late));
+    assert_eq!(refused(&page, 1, u64::MAX - 1), Err(too_short("ops", 106)));
+    assert_eq!(refused(b"", 4100, u64::MAX), Err(Refusal::Unaligned { address: 4100 }));
+    assert_eq!(
+        refused(b"", u64::MAX, 0),
+        Err(Refusal::HighAddress { address: u64::MAX })
+    );
+    assert_eq!(message::Digest::new(&most, 1, u64::MAX), Err(long));
+    assert_eq!(message::judge_message(&most, &list[1..]), Err(long));
+    assert_eq!(message::judge_message(&page, &list[1..]), Err(not_whole("ops")));
+    let changed = |place: usize, word| {
+        let mut changed = list.to_vec();
+        changed[place] = word;
+        message::judge_message(&page, &changed)
+    };
+    assert_eq!(changed(0, u64::MAX), Ok(false));
+    assert_eq!(changed(OP_WORDS + 1, 4100), Err(Refusal::Unaligned { address: 4100 }));
+    assert_eq!(changed(SEGMENT_WORD, 1), Ok(false));
+    assert_eq!(changed(SEGMENT_WORD, 1 << 32), Err(Refusal::Segment { word: 1 << 32 }));
+}
+
+type OnOperations = fn(&[u64]) -> Result<(), Refusal>;
+
+/// Everything that takes operations, for a list of two.
+const ON_OPERATIONS: [OnOperations; 15] = [
+    |ops| message::judge_message(b"", ops).map(drop),
+    |ops| registers::charge(0, ops, &mut vec![0; bitwise::NUM_COUNTERS], &mut [0; 10]),
+    |ops| RegisterLook::new(0, ops, &vec![0; bitwise::NUM_COUNTERS], &[0; 10]).map(drop),
+    |ops| segment::charge(ops, &mut vec![0; bitwise::NUM_COUNTERS]),
+    |ops| segment::Look::new(ops, &vec![0; bitwise::NUM_COUNTERS]).map(drop),
+    |ops| keccak::keccak_row(ops, 0, &mut [0; 486]),
+    |ops| keccak::generate_keccak_trace(ops, &mut [0; 4 * 486]),
+    |ops| keccak::keccak_rows(ops, &mut [0; 2 * 486]),
+    |ops| keccak::keccak_table(ops).map(drop),
+    |ops| keccak::is_wh_keys(ops, &mut [0; 100]),
+    |ops| keccak_rnd::generate_keccak_rnd_trace(ops, &mut vec![0; 64 * 1480]),
+    |ops| keccak_rnd::keccak_rnd_rows(ops, &mut vec![0; 48 * 1480]),
+    |ops| keccak_rnd::keccak_rnd_table(ops).map(drop),
+    |ops| IsWhRows::of_operations(ops).map(drop),
+    |ops| operation_file::write_operations(ops, &mut [0; 2 * operation_file::SEGMENT_RECORD_BYTES]),
+];
+
+/// The highest accepted address, the next multiple of 8, what is between them; and of several that are refused, the first that is too high
+/// before any that is no multiple of 8.
 #[test]
 fn addresses_on_and_off_the_eight() {
-    type Call = fn(&[u64]) -> Result<(), Refusal>;
-    let calls: [Call; 12] = [
-        |ops| segment::charge(ops, &mut vec![0; bitwise::NUM_COUNTERS]),
-        |ops| segment::Look::new(ops, &vec![0; bitwise::NUM_COUNTERS]).map(drop),
-        |ops| keccak::keccak_row(ops, 0, &mut [0; 486]),
-        |ops| keccak::generate_keccak_trace(ops, &mut [0; 4 * 486]),
-        |ops| keccak::keccak_rows(ops, &mut [0; 2 * 486]),
-        |ops| keccak::keccak_table(ops).map(drop),
-        |ops| keccak::is_wh_keys(ops, &mut [0; 100]),
-        |ops| keccak_rnd::generate_keccak_rnd_trace(ops, &mut vec![0; 64 * 1480]),
-        |ops| keccak_rnd::keccak_rnd_rows(ops, &mut vec![0; 48 * 1480]),
-        |ops| keccak_rnd::keccak_rnd_table(ops).map(drop),
-        |ops| IsWhRows::of_operations(ops).map(drop),
-        |ops| operation_file::write_operations(ops, &mut [0; 2 * 418]),
-    ];
     let high = |address| Err(Refusal::HighAddress { address });
     let unaligned = |address| Err(Refusal::Unaligned { address });
     for (addresses, answer) in [
@@ -730,13 +943,57 @@ fn addresses_on_and_off_the_eight() {
         ([u64::MAX, 4100], high(u64::MAX)),
     ] {
         let list = Operation::list(&addresses.map(|address| Operation { address, ..operation() }));
-        for (place, call) in calls.into_iter().enumerate() {
+        for (place, call) in ON_OPERATIONS.into_iter().enumerate() {
             assert_eq!(call(&list), answer, "call {place}, {addresses:?}");
         }
         // What is not whole or too short comes first.
-        assert_eq!(keccak::keccak_rows(&list[..103], &mut []), Err(not_whole("ops")));
+        assert_eq!(
+            keccak::keccak_rows(&list[..2 * OP_WORDS - 1], &mut []),
+            Err(not_whole("ops"))
+        );
         assert_eq!(keccak::is_wh_keys(&list, &mut [0; 99]), Err(too_short("out", 100)));
     }
+}
+
+/// Segment numbers of 32 bits, and words of more: the first such word is told, after every address that is refused. No row depends on them.
+#[test]
+fn segment_words_of_32_bits() {
+    let (last, wide) = (u64::from(u32::MAX), |word| Err(Refusal::Segment { word }));
+    let unaligned = Err(Refusal::Unaligned { address: 4100 });
+    let high = Err(Refusal::HighAddress { address: u64::MAX });
+    for (address, segments, answer) in [
+        (8, [last, 7], Ok(())),
+        (8, [last + 1, 0], wide(last + 1)),
+        (8, [0, u64::MAX], wide(u64::MAX)),
+        (8, [1 << 40, last + 1], wide(1 << 40)),
+        (4100, [last + 1, 0], unaligned),
+        (u64::MAX, [last + 1, 0], high),
+    ] {
+        let mut list = Operation::list(&[operation(), Operation { address, ..operation() }]);
+        list[SEGMENT_WORD] = segments[0];
+        list[OP_WORDS + SEGMENT_WORD] = segments[1];
+        for (place, call) in ON_OPERATIONS.into_iter().enumerate() {
+            assert_eq!(call(&list), answer, "call {place}, at {address}, {segments:?}");
+        }
+        // What is not whole or too short comes first.
+        assert_eq!(keccak::keccak_rows(&list[1..], &mut []), Err(not_whole("ops")));
+        assert_eq!(keccak::is_wh_keys(&list, &mut [0; 99]), Err(too_short("out", 100)));
+    }
+    // And 5 later.
+    let mut words = operation().words();
+    words[SEGMENT_WORD] = last + 1;
+    let mut counters = vec![P; bitwise::NUM_COUNTERS];
+    assert_eq!(segment::charge(&words, &mut counters), wide(last + 1));
+    assert_eq!(Operation::from_words(&words), Err(Refusal::Segment { word: last + 1 }));
+    words[SEGMENT_WORD] = last;
+    assert_eq!(segment::charge(&words, &mut counters), Err(not_element("counters", 0)));
+    let of = Operation::from_words(&words).expect("an operation");
+    assert_eq!((of.segment, of.words()), (u32::MAX, words));
+    assert_eq!(keccak::keccak_table(&words), keccak::keccak_table(&operation().words()));
+    assert_eq!(
+        keccak_rnd::keccak_rnd_table(&words),
+        keccak_rnd::keccak_rnd_table(&operation().words())
+    );
 }
 
 /// A table in memory of its own, as the call on the whole list writes it: of lists that are written on all cores and of one
@@ -890,6 +1147,67 @@ fn verdicts_by_rounds() {
     );
 }
 
+/// Two segments of one call each, of twelve rounds: as written, with the second's first round row filed with the first, and refused.
+#[test]
+fn job_calls() {
+    let (mut core, mut round) = (vec![], vec![]);
+    for timestamp in [5, 6] {
+        let list = Operation {
+            timestamp,
+            ..operation()
+        }
+        .words();
+        let mut rows = keccak::keccak_table(&list).expect("a core table");
+        let rounds = keccak_rnd::keccak_rnd_table_with(twelve(), &list).expect("a round table");
+        let last = &rounds[11 * keccak_rnd::NUM_COLUMNS..];
+        rows[210..218].copy_from_slice(&last[1471..1479]);
+        rows[218..410].copy_from_slice(&last[1271..1463]);
+        core.extend(rows);
+        round.extend(rounds);
+    }
+    let mut report = [GUARD; 13];
+    let counts = [4, 16, 4, 16];
+    assert_eq!(job::job_with(twelve(), &core, &round, &counts, &mut report), Ok(()));
+    assert_eq!(report, [0, 1, 0, 0, 0, 1, 0, 0, 0, 2, 0, 0, GUARD]);
+    let own = Report::with(twelve(), &core, &round, &counts).expect("a report");
+    assert_eq!(
+        (own.words(), own.holds(), own.segments().len()),
+        (&report[..12], true, 2)
+    );
+
+    // The row stands in the first segment behind its own 16, and nobody takes INPUT in the second.
+    let own = Report::with(twelve(), &core, &round, &[4, 17, 4, 15]).expect("a report");
+    let unbalanced = |table, row, index| Verdict::Unbalanced { table, row, index };
+    assert!(
+        own.segments()
+            .eq([unbalanced(Table::Round, 16, 0), unbalanced(Table::Core, 0, 2)])
+    );
+    assert_eq!((own.job(), own.holds()), (Verdict::Holds { active: 2 }, false));
+
+    // By 24 rounds nothing takes INPUT anywhere.
+    assert_eq!(job::job(&core, &round, &counts, &mut report), Ok(()));
+    assert_eq!(report[..12], [6, 0, 0, 2].repeat(3));
+    assert_eq!(
+        Report::new(&core, &round, &counts).map(|own| own.job()),
+        Ok(unbalanced(Table::Core, 0, 2))
+    );
+
+    assert_eq!(
+        Report::new(&[], &[], &[]).map(|own| own.words().to_vec()),
+        Ok(vec![0; 4])
+    );
+    report.fill(GUARD);
+    for counts in [&[4, 16, 4][..], &[8, 16], &[8, 32, u64::MAX, 0, 1, 0], &[9, 31]] {
+        let refused = job::job(&core, &round, counts, &mut report);
+        assert_eq!(refused, Err(not_whole("counts")), "{counts:?}");
+    }
+    let refused = job::job(&core, &round, &counts, &mut report[..11]);
+    assert_eq!((refused, report), (Err(too_short("report", 12)), [GUARD; 13]));
+    round[7] = P;
+    let refused = job::job(&core, &round, &counts, &mut report);
+    assert_eq!((refused, report), (Err(not_element("round", 7)), [GUARD; 13]));
+}
+
 #[test]
 fn file_calls() {
     let list = operation().words();
@@ -901,7 +1219,7 @@ fn file_calls() {
 
     let mut read = [GUARD; OP_WORDS + 1];
     assert_eq!(operation_file::read_operations(&file[..418], &mut read), Ok(()));
-    assert_eq!((&read[..52], read[52]), (&list[..], GUARD));
+    assert_eq!((&read[..OP_WORDS], read[OP_WORDS]), (&list[..], GUARD));
     let refused = operation_file::read_operations(&file, &mut read);
     assert_eq!(refused, Err(Refusal::BadRecord { start: 418 }));
 
@@ -944,6 +1262,40 @@ fn file_calls() {
     assert_eq!(empty(Parameters::default().floor(8)), Ok((8, 0)));
 }
 
+/// A record of old, and one under 4B 50: where the next one starts, what is told, and both ways.
+#[test]
+fn numbered_records() {
+    let numbered = Operation {
+        segment: 0x0403_0201,
+        ..operation()
+    };
+    let list = Operation::list(&[operation(), numbered]);
+    assert_eq!(operation_file::file_bytes(&list), 418 + 422);
+    let mut file = vec![0xA5; 418 + 422 + 1];
+    let refused = operation_file::write_operations(&list, &mut file[..839]);
+    assert_eq!(refused, Err(too_short("file", 840)));
+    assert_eq!(operation_file::write_operations(&list, &mut file), Ok(()));
+    assert_eq!(
+        (&file[418..421], &file[836..]),
+        (&[0x4B, 0x50, 5][..], &[1, 2, 3, 4, 0xA5][..])
+    );
+    let mut read = [0; 2 * OP_WORDS];
+    assert_eq!(operation_file::read_operations(&file[..840], &mut read), Ok(()));
+    assert_eq!(read[..], list[..]);
+    let refused = operation_file::read_operations(&file, &mut read);
+    assert_eq!(refused, Err(Refusal::BadRecord { start: 840 }));
+
+    let mut tally = Tally::new();
+    tally.feed(&file[..418]);
+    assert_eq!(tally.clone().finish().expect("sums").segments(), None);
+    tally.feed(&file[418..838]);
+    assert_eq!(tally.clone().finish(), Err(Refusal::BadRecord { start: 418 }));
+    tally.feed(&file[838..840]);
+    let sums = tally.finish().expect("sums");
+    assert_eq!(sums.segments(), Some((0, 0x0403_0201)));
+    assert!(sums.to_string().ends_with("\nEcall 2\nsegments 0 67305985\n"), "{sums}");
+}
+
 /// Each public function of the modules on tables stands in this file by its module's name, each method by its own.
 #[test]
 fn none_is_left_out() {
@@ -952,10 +1304,14 @@ fn none_is_left_out() {
     for module in [
         "bitwise",
         "is_wh",
+        "job",
         "keccak",
         "keccak_rc",
         "keccak_rnd",
+        "message",
+        "month",
         "operation_file",
+        "registers",
         "segment",
         "verdict",
     ] {
@@ -978,6 +1334,8 @@ fn none_is_left_out() {
     // Those of the archive; two more that allocate a table, a verdict's `holds` and its text, a reader's fault, its sums by parameters and their
     // lines, a counter by its kind, once or n times, a kind's number and name, a lookup's words and a list of them, the five of rows of keys,
     // a charge and a look by parameters, and the four of a look of its own; and by parameters again a core row's tuple and its tuples, three of
-    // the core table, five of the round table, the constants' multiplicities, a verdict, its line and its text.
-    assert_eq!(functions, interface::exports().len() + 38);
+    // the core table, five of the round table, the constants' multiplicities, a verdict, its line and its text; of registers, how many are in
+    // use, both calls by parameters, and the four of a look of its own; a job by parameters and the six of a report of its own; the operations of so many
+    // bytes, and the three of a digest; and a month by parameters and the three of a month by its names.
+    assert_eq!(functions, interface::exports().len() + 60);
 }

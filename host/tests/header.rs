@@ -8,8 +8,8 @@ use std::path::Path;
 use std::process::Command;
 
 use keccak_tables::{
-    Bus, FLOOR, Lent, MAX_FLOOR, MAX_OPS, OP_WORDS, P, Refusal, Side, bitwise, is_wh, keccak, keccak_rc, keccak_rnd,
-    operation_file, segment, verdict,
+    Bus, FLOOR, Lent, MAX_FLOOR, MAX_OPS, OP_WORDS, P, Refusal, SEGMENT_WORD, Side, bitwise, is_wh, job, keccak,
+    keccak_rc, keccak_rnd, message, month, operation_file, registers, segment, verdict,
 };
 
 #[test]
@@ -42,9 +42,14 @@ fn sizes() -> BTreeMap<String, u64> {
     let sizes = [
         ("P", P),
         ("OP_WORDS", OP_WORDS as u64),
+        ("SEGMENT_WORD", SEGMENT_WORD as u64),
         ("MAX_OPS", MAX_OPS as u64),
         ("LAST_ADDRESS", keccak::LAST_ADDRESS),
         ("RECORD_BYTES", operation_file::RECORD_BYTES as u64),
+        ("SEGMENT_RECORD_BYTES", operation_file::SEGMENT_RECORD_BYTES as u64),
+        ("FIRST_MARK", operation_file::FIRST_MARK.into()),
+        ("PLAIN_MARK", operation_file::PLAIN_MARK.into()),
+        ("SEGMENT_MARK", operation_file::SEGMENT_MARK.into()),
         ("BITWISE_ROWS", bitwise::NUM_ROWS as u64),
         ("BITWISE_FIXED_COLUMNS", bitwise::NUM_PRECOMPUTED_COLS as u64),
         ("BITWISE_COLUMNS", bitwise::NUM_COLUMNS as u64),
@@ -53,6 +58,12 @@ fn sizes() -> BTreeMap<String, u64> {
         ("BITWISE_COUNTERS", bitwise::NUM_COUNTERS as u64),
         ("LOOKUP_WORDS", bitwise::LOOKUP_WORDS as u64),
         ("LOOK_WORDS", segment::LOOK_WORDS as u64),
+        ("MAX_REGISTERS", registers::MAX_REGISTERS as u64),
+        ("LEDGER_WORDS", registers::LEDGER_WORDS as u64),
+        ("REGISTER_LOOK_WORDS", registers::REGISTER_LOOK_WORDS as u64),
+        ("RATE", message::RATE as u64),
+        ("MAX_MESSAGE", message::MAX_MESSAGE as u64),
+        ("DIGEST_BYTES", message::DIGEST_BYTES as u64),
         ("RC_ROWS", keccak_rc::NUM_ROWS as u64),
         ("RC_FIXED_COLUMNS", keccak_rc::NUM_PRECOMPUTED_COLS as u64),
         ("RC_COLUMNS", keccak_rc::NUM_COLUMNS as u64),
@@ -70,12 +81,16 @@ fn sizes() -> BTreeMap<String, u64> {
         ("ROUNDS", keccak_rnd::ROUNDS as u64),
         ("FLOOR", FLOOR),
         ("MAX_FLOOR", MAX_FLOOR),
+        ("MAX_FILES", month::MAX_FILES as u64),
+        ("MONTH_WORDS", month::MONTH_WORDS as u64),
         ("ROUND_COLUMNS", keccak_rnd::NUM_COLUMNS as u64),
         ("ROUND_VALUES", keccak_rnd::NUM_VALUES as u64),
         ("ROUND_TUPLES", keccak_rnd::NUM_TUPLES as u64),
         ("ROUND_TUPLE_WORDS", keccak_rnd::TUPLE_WORDS as u64),
         ("MAX_TUPLE_LENGTH", keccak_rnd::MAX_TUPLE_LENGTH as u64),
         ("LINE_MOST", verdict::LINE_MOST as u64),
+        ("COUNT_WORDS", job::COUNT_WORDS as u64),
+        ("VERDICT_WORDS", job::VERDICT_WORDS as u64),
     ];
     sizes.map(|(name, number)| (name.to_string(), number)).into()
 }
@@ -109,6 +124,7 @@ fn the_header_and_the_bindings_have_the_same_numbers() {
         ("TABLE_", numbered(&["CORE", "ROUND"])),
         ("CORE_", core_columns()),
         ("ROUND_", round_columns()),
+        ("MONTH_", month_words()),
     ] {
         all.extend(
             names
@@ -166,6 +182,11 @@ fn refusals() -> Vec<(String, u64)> {
         ("UNALIGNED", Refusal::Unaligned { address: 0 }),
         ("ROUNDS", Refusal::Rounds { rounds: 0 }),
         ("FLOOR", Refusal::Floor { floor: 0 }),
+        ("REGISTER", Refusal::Register { register: 0 }),
+        ("SEGMENT", Refusal::Segment { word: 0 }),
+        ("LONG_MESSAGE", Refusal::LongMessage { length: 0 }),
+        ("LATE_TIMESTAMP", Refusal::LateTimestamp { timestamp: 0 }),
+        ("FILES", Refusal::Files { files: 0 }),
     ];
     let none = [("NONE".to_string(), 0)];
     none.into_iter()
@@ -193,6 +214,10 @@ macro_rules! columns {
         use $cols as cols;
         vec![$((stringify!($name).to_string(), cols::$name as u64)),*]
     }};
+}
+
+fn month_words() -> Vec<(String, u64)> {
+    columns!(month::words, FILES OPERATIONS USED_ROWS PADDING_ROWS FULLEST_USED FULLEST_TOTAL EMPTIEST_USED EMPTIEST_TOTAL HEIGHTS SHOWN)
 }
 
 fn core_columns() -> Vec<(String, u64)> {

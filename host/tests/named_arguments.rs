@@ -2,9 +2,10 @@
 //! is wrong.
 
 use keccak_tables::bitwise::{self, NUM_COUNTERS, TABLE_WORDS};
+use keccak_tables::job::job;
 use keccak_tables::operation_file::{read_operations, write_operations};
 use keccak_tables::verdict::{verdict, verdict_line_with, verdict_with};
-use keccak_tables::{Lent, OP_WORDS, P, Parameters, Refusal, is_wh, keccak, keccak_rc, keccak_rnd, segment};
+use keccak_tables::{Lent, OP_WORDS, P, Parameters, Refusal, is_wh, keccak, keccak_rc, keccak_rnd, registers, segment};
 
 fn past_end<T>(argument: &'static str, limit: u64) -> Result<T, Refusal> {
     Err(Refusal::PastEnd { argument, limit })
@@ -261,6 +262,49 @@ fn counters_before_their_copy_before_what_a_look_says() {
     assert_eq!(charge(&[], NUM_COUNTERS), not_element("counters", 7));
 }
 
+/// The register, then as without one, and the register's ledger after the counters.
+#[test]
+fn a_register_before_its_list_and_its_ledger_after_the_counters() {
+    let mut ops = [0; 2 * OP_WORDS];
+    ops[OP_WORDS + 1] = u64::MAX;
+    let mut counters = vec![0; NUM_COUNTERS + 1];
+    counters[12] = P;
+    let (end, short) = (NUM_COUNTERS as u64, NUM_COUNTERS - 1);
+    let mut copy = counters.clone();
+    let mut ledgers = [P; 20];
+    ledgers[..12].fill(0);
+    let unused = Err(Refusal::Register { register: 2 });
+    let cut = Err(Refusal::NotWhole {
+        argument: "ops",
+        which: Lent::List,
+    });
+    let high = Err(Refusal::HighAddress { address: u64::MAX });
+    let mut look = |register: u64, ops: &[u64], [counted, copied, words]: [usize; 3]| {
+        let (counters, out) = (&counters[..counted], &mut [0; 31][..words]);
+        registers::look(register, ops, counters, &ledgers, &mut copy[..copied], out)
+    };
+    assert_eq!(look(2, &ops[1..], [short, short, 29]), unused);
+    assert_eq!(look(1, &ops[1..], [short, short, 29]), cut);
+    assert_eq!(look(1, &ops, [short, short, 29]), too_short("counters", end));
+    assert_eq!(look(1, &ops, [NUM_COUNTERS, short, 29]), too_short("copy", end));
+    assert_eq!(look(1, &ops, [NUM_COUNTERS, NUM_COUNTERS, 29]), too_short("out", 30));
+    assert_eq!(look(1, &ops, [NUM_COUNTERS, NUM_COUNTERS, 30]), high);
+    // The counter and the word of the ledger have one place; a counter past the last is none.
+    let whole = [NUM_COUNTERS, NUM_COUNTERS, 31];
+    assert_eq!(look(1, &[], whole), not_element("counters", 12));
+    counters[12] = 0;
+    counters[NUM_COUNTERS] = P;
+    let mut charge = |register: u64, ops: &[u64], counted: usize| {
+        registers::charge(register, ops, &mut counters[..counted], &mut ledgers)
+    };
+    assert_eq!(charge(2, &ops[1..], short), unused);
+    assert_eq!(charge(1, &ops[1..], short), cut);
+    assert_eq!(charge(1, &ops, short), too_short("counters", end));
+    assert_eq!(charge(1, &ops, NUM_COUNTERS), high);
+    assert_eq!(charge(1, &[], NUM_COUNTERS + 1), not_element("ledgers", 12));
+    assert_eq!(charge(0, &[], NUM_COUNTERS + 1), Ok(()));
+}
+
 #[test]
 fn a_core_table_before_a_round_table() {
     let (mut core, mut round) = (vec![0; 486], vec![0; 1480]);
@@ -284,6 +328,33 @@ fn a_core_table_before_a_round_table() {
     );
 }
 
+/// The tables' rows, then the counts, then the report, then the tables' words.
+#[test]
+fn a_job_s_tables_before_its_counts_before_its_report() {
+    let (mut core, mut round) = (vec![0; 2 * 486], vec![0; 1480]);
+    core[9] = P;
+    round[7] = P;
+    let mut report = [0; 12];
+    let not_whole = |argument, which| Err(Refusal::NotWhole { argument, which });
+    let mut call =
+        |core: &[u64], round: &[u64], counts: &[u64], words: usize| job(core, round, counts, &mut report[..words]);
+    assert_eq!(call(&core[1..], &round[1..], &[1], 0), not_whole("core", Lent::Core));
+    assert_eq!(call(&core, &round[1..], &[1], 0), not_whole("round", Lent::Round));
+    for counts in [&[1][..], &[1, 1], &[2, 0], &[2, 1, 0], &[u64::MAX, 1, 3, 0]] {
+        assert_eq!(
+            call(&core, &round, counts, 0),
+            not_whole("counts", Lent::List),
+            "{counts:?}"
+        );
+    }
+    assert_eq!(call(&core, &round, &[1, 0, 1, 1], 11), too_short("report", 12));
+    assert_eq!(call(&core, &round, &[1, 0, 1, 1], 12), not_element("core", 9));
+    core[9] = 0;
+    assert_eq!(call(&core, &round, &[2, 1], 8), not_element("round", 7));
+    round[7] = 0;
+    assert_eq!(call(&core, &round, &[2, 1], 8), Ok(()));
+}
+
 #[test]
 fn a_list_before_what_is_written_and_a_list_that_is_written() {
     let ops = [0; 2 * OP_WORDS];
@@ -301,5 +372,5 @@ fn a_list_before_what_is_written_and_a_list_that_is_written() {
     assert_eq!(write_operations(&ops, &mut file[1..]), too_short("file", 836));
     assert_eq!(write_operations(&ops[1..], &mut file), Err(cut));
     assert_eq!(write_operations(&ops, &mut file), Ok(()));
-    assert_eq!(read_operations(&file, &mut []), too_short("ops", 104));
+    assert_eq!(read_operations(&file, &mut []), too_short("ops", 106));
 }

@@ -51,6 +51,7 @@ fn record_bytes(count: u64) -> Vec<u8> {
         address: 4096,
         input: [at; 25],
         output: [0; 25],
+        segment: 0,
     };
     let ops: Vec<u64> = (0..count).flat_map(|at| operation(at).words()).collect();
     let mut bytes = vec![0; ops.len() / OP_WORDS * RECORD_BYTES];
@@ -108,6 +109,28 @@ fn a_file_of_several_reads_is_read_whole() {
         (String::from_utf8(stdout).expect("text").as_str(), stderr.len()),
         (lines, 0)
     );
+}
+
+/// Records under both marks, the bytes of a segment number split by a read of 64 KiB: the least and the greatest are told.
+#[test]
+fn segment_numbers_have_a_line() {
+    let plain = record_bytes(200);
+    let mut bytes = plain.clone();
+    for segment in [9u32, 7, u32::MAX] {
+        bytes.extend([0x4B, 0x50]);
+        bytes.extend(&plain[2..RECORD_BYTES]);
+        bytes.extend(segment.to_le_bytes());
+    }
+    let lines = "ops 203\ncore-rows 256\nround-rows 8192\nByteAlu 3936779\nAreBytes 1803052\nKeccakRc 4872\nIsHalfword 5075\nIsWh 5075\n\
+                 Memw 5278\nEcall 203\n";
+    for (from, segments) in [(0, "segments 0 4294967295\n"), (plain.len(), "segments 7 4294967295\n")] {
+        let Output { stdout, stderr, .. } = ran(file("numbered", &bytes[from..]), Stdio::piped());
+        let said = String::from_utf8(stdout).expect("text");
+        assert!(said.ends_with(segments) && stderr.is_empty(), "{said}");
+        if from == 0 {
+            assert_eq!(said, lines.to_string() + segments);
+        }
+    }
 }
 
 /// Records off the eight are left out and counted in a last line; a high one is refused all the same.

@@ -27,6 +27,7 @@ fn honest() -> (Vec<u64>, Vec<u64>) {
         address: 4096,
         input: [0; 25],
         output: [0; 25],
+        segment: 0,
     };
     let round = keccak_rnd::keccak_rnd_table(&operation.words()).unwrap();
     let last = &round[23 * keccak_rnd::NUM_COLUMNS..24 * keccak_rnd::NUM_COLUMNS];

@@ -7,7 +7,7 @@ use oracle::{Lookup, OPERATION_WORDS, Tuple, sample};
 
 const USAGE: &str = "\
 usage: oracle row bitwise INDEX | row keccak_rc ROUND | table keccak_rc N | padding_are_bytes N
-       oracle table core | table round | keys | tally            (operations of 52 words on standard input)
+       oracle table core | table round | keys | tally            (operations of 53 words on standard input)
        oracle counts                                             (lookups on standard input: kind, x, y, z)
        oracle values core | values round                         (rows on standard input)
        oracle tuples bitwise | tuples keccak_rc | tuples is_wh | tuples core SYSCALL | tuples round

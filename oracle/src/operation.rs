@@ -1,10 +1,10 @@
-//! Operations as flat words: timestamp, address, 25 input lanes, 25 output lanes.
+//! Operations as flat words: timestamp, address, 25 input lanes, 25 output lanes, and a segment number, which the published Rust has not.
 
 use crate::tables::keccak::KeccakOperation;
 use crate::tables::keccak_rnd::KeccakRoundOperation;
 
 /// The words of one operation.
-pub const OPERATION_WORDS: usize = 52;
+pub const OPERATION_WORDS: usize = 53;
 
 /// The operations of a flat list, as the core table takes them.
 pub(crate) fn core_operations(operations: &[u64]) -> Vec<KeccakOperation> {

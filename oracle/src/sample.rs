@@ -43,7 +43,7 @@ impl Generator {
 
 /// `n` operations with seed `seed`. Operation i takes 27 words: the timestamp is the first, the address is the second
 /// without its upper 16 and lower 3 bits, the others are the input. The output is what the published round table makes
-/// of the input.
+/// of the input; the segment number is the lower half of the timestamp.
 pub fn operations(seed: u64, n: usize) -> Vec<u64> {
     let mut generator = Generator::new(seed);
     let mut list = Vec::with_capacity(n * OPERATION_WORDS);
@@ -52,7 +52,8 @@ pub fn operations(seed: u64, n: usize) -> Vec<u64> {
         operation[1] &= 0x0000_FFFF_FFFF_FFF8;
         operation.resize(OPERATION_WORDS, 0);
         let output = permuted(&operation);
-        operation[27..].copy_from_slice(&output);
+        operation[27..52].copy_from_slice(&output);
+        operation[52] = operation[0] & 0xFFFF_FFFF;
         list.extend(operation);
     }
     list

@@ -4,7 +4,7 @@ mod common;
 
 use common::{lanes_of, operation, state_after};
 use oracle::lanes::{State, input_of, keccak_f};
-use oracle::{Bus, CORE_COLUMNS, P, ROUND_COLUMNS, Side, Tuple};
+use oracle::{Bus, CORE_COLUMNS, OPERATION_WORDS, P, ROUND_COLUMNS, Side, Tuple};
 
 /// Row `round` of the round table of one operation whose state at that round is `start`.
 fn row_from(start: &State, round: usize) -> Vec<u64> {
@@ -60,7 +60,7 @@ fn bitwise_rows() {
 
 #[test]
 fn round_heights() {
-    let height = |n: usize| oracle::round_table(&vec![0; 52 * n]).len() / ROUND_COLUMNS;
+    let height = |n: usize| oracle::round_table(&vec![0; OPERATION_WORDS * n]).len() / ROUND_COLUMNS;
     assert_eq!([height(0), height(1), height(2)], [4, 32, 64]);
     // Of large tables only the padding is counted: each padding row sends 220 AreBytes tuples.
     let height = |n: usize| 24 * n as u64 + oracle::padding_are_bytes(n) / 220;
@@ -69,7 +69,7 @@ fn round_heights() {
 
 #[test]
 fn core_heights() {
-    let height = |n: usize| oracle::core_table(&vec![0; 52 * n]).len() / CORE_COLUMNS;
+    let height = |n: usize| oracle::core_table(&vec![0; OPERATION_WORDS * n]).len() / CORE_COLUMNS;
     assert_eq!([0, 1, 3, 4, 5, 8, 9].map(height), [4, 4, 4, 4, 8, 8, 16]);
 }
 
@@ -134,7 +134,7 @@ fn exchanged_outputs_under_one_timestamp_balance() {
     let honest: Vec<u64> = inputs.iter().flat_map(|input| operation(7, 4096, input)).collect();
     let mut exchanged = honest.clone();
     exchanged[27..52].copy_from_slice(&keccak_f(&inputs[1]));
-    exchanged[79..104].copy_from_slice(&keccak_f(&inputs[0]));
+    exchanged[OPERATION_WORDS + 27..][..25].copy_from_slice(&keccak_f(&inputs[0]));
     let core = oracle::core_table(&exchanged);
     let round = oracle::round_table(&exchanged);
     assert_eq!(
@@ -153,13 +153,13 @@ fn exchanged_outputs_under_one_timestamp_balance() {
 
     // With two timestamps the exchange unbalances the bus.
     let mut apart = exchanged.clone();
-    apart[52] = 8;
+    apart[OPERATION_WORDS] = 8;
     assert!(!keccak_bus_balances(
         &oracle::core_table(&apart),
         &oracle::round_table(&apart)
     ));
     let mut apart = honest;
-    apart[52] = 8;
+    apart[OPERATION_WORDS] = 8;
     assert!(keccak_bus_balances(
         &oracle::core_table(&apart),
         &oracle::round_table(&apart)

@@ -10,7 +10,8 @@ use oracle::Side::{Receiver, Sender};
 use oracle::lanes::{CONSTANTS, State, keccak_f, next, offset};
 use oracle::sample::{self, Generator};
 use oracle::{
-    BITWISE_COLUMNS, BitwiseTable, Bus, CORE_COLUMNS, COUNTERS, Counters, Lookup, P, ROUND_COLUMNS, Side, Tuple,
+    BITWISE_COLUMNS, BitwiseTable, Bus, CORE_COLUMNS, COUNTERS, Counters, Lookup, OPERATION_WORDS, P, ROUND_COLUMNS,
+    Side, Tuple,
 };
 
 /// `n` operations with addresses that are multiples of 8, their inputs drawn, outputs by the lanes of FIPS 202.
@@ -63,7 +64,7 @@ fn the_permutation_of_zero() {
         0x8B284E056253D057,
     ];
     assert_eq!(keccak_f(&[0; 25])[..5], first_lanes);
-    let table = oracle::round_table(&[0; 52]);
+    let table = oracle::round_table(&[0; OPERATION_WORDS]);
     assert_eq!(
         state_after(&table[23 * ROUND_COLUMNS..][..ROUND_COLUMNS]),
         keccak_f(&[0; 25])
@@ -76,7 +77,7 @@ fn every_round_row_is_a_round() {
     let table = oracle::round_table(&operations);
     let rows: Vec<&[u64]> = table.chunks_exact(ROUND_COLUMNS).collect();
     assert_eq!(rows.len(), 128);
-    for (operation, rows) in operations.chunks_exact(52).zip(rows.chunks_exact(24)) {
+    for (operation, rows) in operations.chunks_exact(OPERATION_WORDS).zip(rows.chunks_exact(24)) {
         let mut state: State = operation[2..27].try_into().unwrap();
         for (round, row) in rows.iter().enumerate() {
             assert_eq!(row[..3], [operation[0] & 0xFFFF_FFFF, operation[0] >> 32, round as u64]);
@@ -85,7 +86,7 @@ fn every_round_row_is_a_round() {
             assert_eq!(state_after(row), state);
             assert_eq!(row[1479], 1);
         }
-        assert_eq!(state, operation[27..]);
+        assert_eq!(state, operation[27..52]);
     }
     assert!(rows[72..].iter().all(|row| row.iter().all(|&word| word == 0)));
 }
@@ -101,7 +102,7 @@ fn core_rows_hold_the_operation() {
         assert!(limbs[0] < 1 << 16 && limbs[1] < 1 << 16 && limbs[2] < 1 << 32);
         limbs[0] + (limbs[1] << 16) + (limbs[2] << 32)
     };
-    for (operation, row) in operations.chunks_exact(52).zip(&rows) {
+    for (operation, row) in operations.chunks_exact(OPERATION_WORDS).zip(&rows) {
         assert_eq!(row[..2], [operation[0] & 0xFFFF_FFFF, operation[0] >> 32]);
         assert_eq!(common::lane_of(&row[2..10]), operation[1]);
         assert_eq!(lanes_of(&row[10..210]), operation[2..27]);
@@ -365,7 +366,7 @@ fn keys_and_their_tuples() {
     for (i, key) in keys.chunks_exact(2).enumerate() {
         assert_eq!(
             key,
-            oracle::is_wh_key(operations[i / 25 * 52 + 1] + 8 * (i % 25) as u64)
+            oracle::is_wh_key(operations[i / 25 * OPERATION_WORDS + 1] + 8 * (i % 25) as u64)
         );
     }
 }
@@ -459,9 +460,10 @@ fn the_bitwise_table_has_the_rows_of_the_row_function() {
 
 #[test]
 fn sampled_operations_are_honest() {
-    for operation in sample::operations(18, 3).chunks_exact(52) {
+    for operation in sample::operations(18, 3).chunks_exact(OPERATION_WORDS) {
         let input: State = operation[2..27].try_into().unwrap();
-        assert_eq!(operation[27..], keccak_f(&input));
+        assert_eq!(operation[27..52], keccak_f(&input));
+        assert!(operation[52] < 1 << 32);
         assert!(operation[1] < 1 << 48 && operation[1].is_multiple_of(8));
     }
 }

@@ -126,10 +126,11 @@ later-at (some k) {f = f} {x = x} later ne e = let q : f k ≡ x = cc in absurd 
 pub none-told : {x : Refusal} → none ≡ some x → ⊥
 none-told e = let z : _≡_ {A = ℕ} 0 1 = cc in absurd (omega arith)
 
-pub told-at : (found : Option ℕ) {f : ℕ → Refusal} {x : Refusal} → refuseAt found f none ≡ some x → (k : ℕ) × (found ≡ some k) × (f k ≡ x)
+pub told-at : (found : Option ℕ) {f : ℕ → Refusal} {x : Refusal} {later : Option Refusal} → (later ≡ some x → ⊥) → refuseAt found f later ≡ some x
+    → (k : ℕ) × (found ≡ some k) × (f k ≡ x)
 unfolding refuseAt
-told-at none e = absurd (none-told e)
-told-at (some k) e = (k, refl, cc)
+told-at none ne e = absurd (ne e)
+told-at (some k) ne e = (k, refl, cc)
 
 -- ---- the first checks of a call, made by another function
 

@@ -22,7 +22,7 @@ use Rattle.lists.specs.First.{anyBelow}
 use Rattle.answer.specs.Limits.{MAX-OPS, MAX-ROUNDS}
 use Rattle.answer.specs.declared.Refusal.{Refusal}
 use Rattle.answer.specs.declared.Refusal.the-variants.{PastEnd, NotWhole, TooShort, HighAddress}
-use Rattle.answer.specs.declared.Refusal.the-variants.{NotElement, BadRecord, Unaligned, Rounds, Floor}
+use Rattle.answer.specs.declared.Refusal.the-variants.{NotElement, BadRecord, Unaligned, Rounds, Floor, Register, Segment, LongMessage, LateTimestamp, Files}
 use Rattle.answer.specs.declared.Answer.{Answer}
 use Rattle.answer.specs.declared.Answer.the-variants.{Done, Refused}
 use Rattle.answer.specs.declared.Number.{Number}
@@ -38,6 +38,11 @@ refusalNumber (BadRecord start) = 6
 refusalNumber (Unaligned address) = 7
 refusalNumber (Rounds nr) = 8
 refusalNumber (Floor floor) = 9
+refusalNumber (Register register) = 10
+refusalNumber (Segment word) = 11
+refusalNumber (LongMessage n) = 12
+refusalNumber (LateTimestamp timestamp) = 13
+refusalNumber (Files files) = 14
 
 abbrev pub refusalDetail : Refusal → ℕ
 refusalDetail (PastEnd limit) = limit
@@ -49,6 +54,11 @@ refusalDetail (BadRecord start) = start
 refusalDetail (Unaligned address) = address
 refusalDetail (Rounds nr) = nr
 refusalDetail (Floor floor) = floor
+refusalDetail (Register register) = register
+refusalDetail (Segment word) = word
+refusalDetail (LongMessage n) = n
+refusalDetail (LateTimestamp timestamp) = timestamp
+refusalDetail (Files files) = files
 
 -- refuse with r where the test passes, else what the later checks say
 unfoldable pub refuseIf : Bool → Refusal → Option Refusal → Option Refusal

@@ -1,5 +1,6 @@
 // What a call answers where it refuses: the refusals of the interface by their numbers. They are checked in the order of
-// these, but for 7, which comes after 4 and before 5, and 8 and 9, which come before all others.
+// these, but for 7 and 11, which come after 4 and before 5, 8, 9, 10 and 14, which come before all others, and 12 and 13,
+// which come after 1 and before 2.
 ghost use mathlib.Core.Path.{_≡_};
 ghost use Rattle.answer.specs.Refusal.{refusalNumber, refusalDetail, accepted, answerOf, notRounds, notFloor};
 
@@ -8,7 +9,9 @@ ghost use Rattle.answer.specs.Refusal.{refusalNumber, refusalDetail, acc
 // whose last lane would start past 2^64 - 1: the address. 5: a word that is no field element: its place in the slice.
 // 6: a wrong mark or a cut record: the byte where that record starts. 7: an address that is no multiple of 8: the address.
 // 8: a number of rounds that is 0 or above 24: that number. 9: a floor of table heights that is no power of two from 4 to
-// 65,536: the floor.
+// 65,536: the floor. 10: a register that is not in use: its number. 11: a segment word of 2^32 or more: the word.
+// 12: a message of more than 65,536 bytes: its length. 13: timestamps that pass 2^64 - 1: the first of them.
+// 14: more than 4,096 files: their number.
 pub enum Refusal {
     PastEnd(u64),
     NotWhole(u64),
@@ -19,6 +22,11 @@ pub enum Refusal {
     Unaligned(u64),
     Rounds(u64),
     Floor(u64),
+    Register(u64),
+    Segment(u64),
+    LongMessage(u64),
+    LateTimestamp(u64),
+    Files(u64),
 }
 
 impl Refusal {
@@ -36,6 +44,11 @@ impl Refusal {
             Refusal::Unaligned(_) => 7,
             Refusal::Rounds(_) => 8,
             Refusal::Floor(_) => 9,
+            Refusal::Register(_) => 10,
+            Refusal::Segment(_) => 11,
+            Refusal::LongMessage(_) => 12,
+            Refusal::LateTimestamp(_) => 13,
+            Refusal::Files(_) => 14,
         }
     }
 
@@ -52,6 +65,11 @@ impl Refusal {
             Refusal::Unaligned(address) => address,
             Refusal::Rounds(nr) => nr,
             Refusal::Floor(floor) => floor,
+            Refusal::Register(register) => register,
+            Refusal::Segment(word) => word,
+            Refusal::LongMessage(length) => length,
+            Refusal::LateTimestamp(timestamp) => timestamp,
+            Refusal::Files(files) => files,
         }
     }
 }

@@ -16,7 +16,6 @@ use Rattle.lists.specs.Tab.{tab, tabFrom, pick}
 use Rattle.lists.specs.First.{countBelow}
 use Rattle.lists.specs.Select.{consIf, selected}
 use Rattle.lists.proofs.Laws.{length-tab, getD-tab, tab-add}
-use Rattle.lists.proofs.Count.{count-add, count-hit}
 use Rattle.lists.proofs.Select.{selected-append, selected-mem}
 use Rattle.bus.specs.Count.{indicator, countBy}
 use Rattle.bus.specs.Bus.{Core, DistinctStamps}
@@ -76,14 +75,6 @@ by-tab p zero f = refl
 by-tab p (suc n) f =
     ap (countBy p) (tab-last n f) ∙ by-append p (tab n f) (f n ∷ [])
     ∙ ap (λ (k : ℕ). k + (indicator (p (f n)) + 0)) (by-tab p n f) ∙ pick-bit (p (f n)) (countBelow (λ r. p (f r)) n)
-
--- where a test passes at r, below n, fewer passed before r than do below n
-pub count-before : (t : ℕ → Bool) (n r : ℕ) → r < n → t r ≡ true → countBelow t r < countBelow t n
-count-before t n r l e =
-    let m : ℕ = n - r in
-    let here : r + 0 ≡ r = omega arith in
-    let size : r + m ≡ n = omega arith in
-    subst (λ (k : ℕ). countBelow t r < countBelow t k) size (omega (arith, count-add t r m, count-hit (λ k. t (r + k)) m 0 (omega arith) (ap t here ∙ e)))
 
 -- ---- the elements that pass a test
 pub selected-length : {A : Type 0} (act : A → Bool) (xs : List A) → length (selected act xs) ≡ countBy act xs

@@ -1,37 +1,28 @@
 -- What the constraints alone say of a core table and a round table: MU is 0 or 1, so each tuple adds 0 or 1 to a sum,
 -- and on the Keccak bus the sums are what the verdict counts.
 use mathlib.Core.List.{List}
-use mathlib.Core.Path.{_≡_, sym, subst, _∙_}
-use Prim.Native.Nat.{ℕ, _+_, _*_, _^_, _≤_, _<_}
-use native.Mathlib.Nat.{div-mul-le-self, le-trans}
+use mathlib.Core.Path.{_≡_, sym, _∙_}
+use Prim.Native.Nat.{ℕ, _*_, _^_, _≤_, _<_}
 use native.Mathlib.Omega.{arith}
-use lib.Arith.{digits-lt}
-use lib.ListN.{length}
 use Rattle.lists.specs.Tab.{word}
-use Rattle.lists.proofs.Laws.{word-rowAt}
 use Rattle.lists.proofs.Then.{then-past}
-use Rattle.field.specs.Field.{p}
 use Rattle.tuple.specs.declared.Bus.{Bus}
 use Rattle.tuple.specs.declared.Bus.the-variants.{Keccak}
 use Rattle.tuple.specs.declared.Side.{Side}
 use Rattle.templates.specs.Templates.{isBit}
+use Rattle.templates.proofs.Bit.{bit-is}
 use Rattle.keccak.specs.Values.{coreValue}
-use Rattle.keccak_rnd.specs.Values.{roundValue}
-use Rattle.verdict.specs.Kind.{Kind, rows, row, activeTuples, Elements}
+use Rattle.keccak_rnd.proofs.Passing.{round-bit}
+use Rattle.verdict.specs.Kind.{Kind, rows, row, activeTuples}
 use Rattle.verdict.specs.CoreAndRound.{coreLayout, roundLayout, coreKind, roundKind}
+use Rattle.verdict.proofs.Tables.{row-below}
 use Rattle.verdict.proofs.Tuples.{core-bus, round-bus}
 use Rattle.bus_sums.specs.Sums.{tupleAt, tableShare, Constrained}
-use Rattle.bus_sums.proofs.Bit.{bit-is}
 use Rattle.bus_sums.proofs.Shares.{shares-line}
 use Rattle.bus_sums.proofs.Buses.{core-line, round-line, core-most, round-most}
 use Rattle.bus_sums.proofs.Carried.{active-tuples-share}
 
 -- ---- MU is a bit, by the constraints
-pub row-below : (K : Kind) (ws : List ℕ) → Elements ws → (r k : ℕ) → r < rows (K .layout) ws → k < K .layout .width → word (row (K .layout) ws r) k < p
-row-below K ws below r k l g =
-    subst (λ (m : ℕ). m < p) (sym (word-rowAt (K .layout .width) ws r k g))
-    (below (r * K .layout .width + k) (le-trans (digits-lt l g) (div-mul-le-self (length ws) (K .layout .width))))
-
 mu-bit : (K : Kind) (ws : List ℕ) → Constrained K ws → (i : ℕ) → i < K .values → K .layout .mu < K .layout .width →
     ((x : List ℕ) → K .value x i ≡ isBit (word x (K .layout .mu))) →
     (r : ℕ) → r < rows (K .layout) ws → word (row (K .layout) ws r) (K .layout .mu) < 2
@@ -41,10 +32,6 @@ mu-bit K ws c i li lm e r l =
 core-bit : (x : List ℕ) → coreValue x 51 ≡ isBit (word x 485)
 unfolding coreValue
 core-bit x = then-past 50 51 _ _ (omega arith) ∙ then-past 1 1 _ _ (omega arith)
-
-round-bit : (x : List ℕ) → roundValue x 140 ≡ isBit (word x 1479)
-unfolding roundValue
-round-bit x = then-past 20 140 _ _ (omega arith) ∙ then-past 20 120 _ _ (omega arith) ∙ then-past 100 100 _ _ (omega arith)
 
 module _ (nr : ℕ) (core : List ℕ) (c : Constrained (coreKind nr) core) where
   pub core-mu : (r : ℕ) → r < rows coreLayout core → word (row coreLayout core r) 485 < 2

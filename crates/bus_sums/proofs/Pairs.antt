@@ -29,10 +29,9 @@ use Rattle.keccak.specs.Tuples.{coreTuple, ecallTuple, addrMemw, laneMemw, poin
 use Rattle.keccak.proofs.Places.{tuple-at}
 use Rattle.verdict.specs.Kind.{rows, row, Lookups, Whole, Elements}
 use Rattle.verdict.specs.CoreAndRound.{coreLayout, coreKind}
-use Rattle.verdict.proofs.Tables.{table-rows, table-whole}
+use Rattle.verdict.proofs.Tables.{row-below, table-rows, table-whole}
 use Rattle.bus_sums.specs.Sums.{share, shares, isWhLayout, isWhKind, tupleAt, tableShare}
 use Rattle.bus_sums.proofs.Shares.{On, share-none, shares-find}
-use Rattle.bus_sums.proofs.Constrained.{row-below}
 use Rattle.bus_sums.proofs.Rows.{sides-differ, pair-early}
 
 -- the row of pointer i of a core row x

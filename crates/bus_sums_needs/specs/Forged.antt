@@ -40,6 +40,7 @@ operation =
       «state_addr» = (2 ^ 32 - 5) * 2 ^ 32;
       input = flatState 0;
       output = keccakPL 24 (flatState 0);
+      segment = 0;
     }
 
 -- its row, but for the high limb of pointer 0: p - 5 is 2^32 - 5 less 2^32 mod p, so that the high carry is 1

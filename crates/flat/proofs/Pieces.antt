@@ -5,14 +5,15 @@ use mathlib.Core.Bool.{Bool}
 use mathlib.Core.List.{List, [], _∷_, _++_}
 use Rattle.answer.specs.Refusal.{refusalNumber, refusalDetail}
 use Rattle.answer.specs.declared.Refusal.{Refusal}
-use Rattle.answer.specs.declared.Refusal.the-variants.{PastEnd, NotWhole, TooShort, HighAddress, NotElement, BadRecord, Unaligned, Rounds, Floor}
+use Rattle.answer.specs.declared.Refusal.the-variants.{PastEnd, NotWhole, TooShort, HighAddress, NotElement, BadRecord, Unaligned, Rounds, Floor, Register, Segment, LongMessage, LateTimestamp, Files}
 use Rattle.op_file.specs.File.{tallyOf}
 use Rattle.op_file.specs.Reader.{feedOf, finishOf, fileStart}
 use Rattle.op_file.specs.declared.Cursor.{Cursor}
 use Rattle.op_file.specs.declared.Cursor.the-variants as cursor
-use Rattle.op_file.proofs.Laws.{feed-append, reads-file}
+use Rattle.op_file.proofs.Laws.{reads-file}
+use Rattle.op_file.proofs.Steps.{feed-append}
 use Rattle.flat.specs.declared.FlatCursor.{FlatCursor}
-use Rattle.flat.specs.FlatReader.{refusalOf, cursorOf, flatCursor, flatTally}
+use Rattle.flat.specs.FlatReader.{refusalOf, readingOf, cursorOf, flatCursor, flatTally}
 
 pub refusal-again : (r : Refusal) → refusalOf (refusalNumber r) (refusalDetail r) ≡ r
 unfolding refusalOf
@@ -25,11 +26,16 @@ refusal-again (BadRecord d) = refl
 refusal-again (Unaligned d) = refl
 refusal-again (Rounds d) = refl
 refusal-again (Floor d) = refl
+refusal-again (Register d) = refl
+refusal-again (Segment d) = refl
+refusal-again (LongMessage d) = refl
+refusal-again (LateTimestamp d) = refl
+refusal-again (Files d) = refl
 
 -- no reader is lost or changed between two calls
 pub cursor-again : (c : Cursor) → cursorOf (flatCursor c) ≡ c
-unfolding cursorOf flatCursor refusalOf
-cursor-again (cursor.Reading n k at addr) = refl
+unfolding cursorOf readingOf flatCursor refusalOf
+cursor-again (cursor.Reading w p) = refl
 cursor-again (cursor.Refused (PastEnd d)) = refl
 cursor-again (cursor.Refused (NotWhole d)) = refl
 cursor-again (cursor.Refused (TooShort d)) = refl
@@ -39,6 +45,11 @@ cursor-again (cursor.Refused (BadRecord d)) = refl
 cursor-again (cursor.Refused (Unaligned d)) = refl
 cursor-again (cursor.Refused (Rounds d)) = refl
 cursor-again (cursor.Refused (Floor d)) = refl
+cursor-again (cursor.Refused (Register d)) = refl
+cursor-again (cursor.Refused (Segment d)) = refl
+cursor-again (cursor.Refused (LongMessage d)) = refl
+cursor-again (cursor.Refused (LateTimestamp d)) = refl
+cursor-again (cursor.Refused (Files d)) = refl
 
 -- one call after the other, on the pieces in turn
 unfoldable pub fed : FlatCursor → List (List ℕ) → FlatCursor

@@ -5,7 +5,7 @@ use lib.Dec.{eqb}
 use Rattle.lists.specs.Tab.{pick}
 use Rattle.answer.specs.Refusal.{refusalNumber, refusalDetail}
 use Rattle.answer.specs.declared.Refusal.{Refusal}
-use Rattle.answer.specs.declared.Refusal.the-variants.{PastEnd, NotWhole, TooShort, HighAddress, NotElement, BadRecord, Unaligned, Rounds, Floor}
+use Rattle.answer.specs.declared.Refusal.the-variants.{PastEnd, NotWhole, TooShort, HighAddress, NotElement, BadRecord, Unaligned, Rounds, Floor, Register, Segment, LongMessage, LateTimestamp, Files}
 use Rattle.op_file.specs.declared.Cursor.{Cursor}
 use Rattle.op_file.specs.declared.Cursor.the-variants as cursor
 use Rattle.op_file.specs.declared.Tally.{Tally}
@@ -24,15 +24,39 @@ refusalOf number detail =
     (pick (eqb number 7) (Unaligned detail)
     (pick (eqb number 8) (Rounds detail)
     (pick (eqb number 9) (Floor detail)
-    (BadRecord detail))))))))
+    (pick (eqb number 10) (Register detail)
+    (pick (eqb number 11) (Segment detail)
+    (pick (eqb number 12) (LongMessage detail)
+    (pick (eqb number 13) (LateTimestamp detail)
+    (pick (eqb number 14) (Files detail)
+    (BadRecord detail)))))))))))))
+
+-- a reader that has met no fault: each of its words is one of the struct's
+unfoldable pub readingOf : FlatCursor → Cursor
+readingOf c =
+    cursor.Reading
+    (record { n = c .records; unaligned = c .unaligned; start = c .start; segments = record { shown = c .segments; least = c .«least_segment»; greatest = c .«greatest_segment» } })
+    (record { at = c .at; mark = c .mark; addr = c .address; tail = c .tail })
 
 unfoldable pub cursorOf : FlatCursor → Cursor
-cursorOf c =
-    pick (eqb (c .number) 0) (cursor.Reading (c .records) (c .unaligned) (c .at) (c .address))
-    (cursor.Refused (refusalOf (c .number) (c .detail)))
+cursorOf c = pick (eqb (c .number) 0) (readingOf c) (cursor.Refused (refusalOf (c .number) (c .detail)))
 
 unfoldable pub flatCursor : Cursor → FlatCursor
-flatCursor (cursor.Reading n k at addr) = record { number = 0; detail = 0; records = n; at = at; address = addr; unaligned = k }
+flatCursor (cursor.Reading w p) =
+    record {
+      number = 0;
+      detail = 0;
+      records = w .n;
+      at = p .at;
+      address = p .addr;
+      unaligned = w .unaligned;
+      start = w .start;
+      mark = p .mark;
+      tail = p .tail;
+      segments = w .segments .shown;
+      «least_segment» = w .segments .least;
+      «greatest_segment» = w .segments .greatest;
+    }
 flatCursor (cursor.Refused r) =
     record {
       number = refusalNumber r;
@@ -41,6 +65,12 @@ flatCursor (cursor.Refused r) =
       at = 0;
       address = 0;
       unaligned = 0;
+      start = 0;
+      mark = 0;
+      tail = 0;
+      segments = 0;
+      «least_segment» = 0;
+      «greatest_segment» = 0;
     }
 
 unfoldable pub flatTally : Tally → FlatTally
@@ -59,6 +89,9 @@ flatTally (tally.Counted s) =
       memw = s .memw;
       ecall = s .ecall;
       unaligned = s .unaligned;
+      segments = s .segments .shown;
+      «least_segment» = s .segments .least;
+      «greatest_segment» = s .segments .greatest;
     }
 flatTally (tally.Refused r) =
     record {
@@ -75,4 +108,7 @@ flatTally (tally.Refused r) =
       memw = 0;
       ecall = 0;
       unaligned = 0;
+      segments = 0;
+      «least_segment» = 0;
+      «greatest_segment» = 0;
     }

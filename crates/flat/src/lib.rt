@@ -55,8 +55,9 @@ pub struct FlatLookup {
 }
 
 // Where a reader stands: number and detail of the first fault, or 0 and 0 while there is none, and then the whole
-// records at multiples of 8, the bytes of the next, what its address bytes so far make, and the whole records at other
-// addresses.
+// records at multiples of 8, the bytes of the next, what its address bytes so far make, the whole records at other
+// addresses, where the next one starts, the second byte of its mark, what the bytes of its segment number so far make, and
+// of the records at multiples of 8 whether one has a segment number, the least and the greatest.
 #[repr(C)]
 pub struct FlatCursor {
     pub number: u64,
@@ -65,10 +66,16 @@ pub struct FlatCursor {
     pub at: usize,
     pub address: u64,
     pub unaligned: u64,
+    pub start: u64,
+    pub mark: u64,
+    pub tail: u64,
+    pub segments: u64,
+    pub least_segment: u64,
+    pub greatest_segment: u64,
 }
 
-// Number and detail of the first fault, or 0 and 0 and then the ten numbers, and the number of records that they leave
-// out.
+// Number and detail of the first fault, or 0 and 0 and then the ten numbers, the number of records that they leave out, and
+// 1 and the least and the greatest segment number, or three zeros where no counted record is marked 4B 50.
 #[repr(C)]
 pub struct FlatTally {
     pub number: u64,
@@ -84,6 +91,9 @@ pub struct FlatTally {
     pub memw: u64,
     pub ecall: u64,
     pub unaligned: u64,
+    pub segments: u64,
+    pub least_segment: u64,
+    pub greatest_segment: u64,
 }
 
 pub fn flat_answer(answer: Answer) -> FlatAnswer

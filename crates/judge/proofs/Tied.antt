@@ -23,13 +23,15 @@ use Rattle.keccak_rnd.specs.Refusals.{roundTraceRefusal}
 use Rattle.keccak_rnd.specs.Calls.{roundTraceAfter}
 use Rattle.keccak_rnd.proofs.Refusals.{trace-later}
 use Rattle.verdict.specs.Kind.{actives}
-use Rattle.verdict.specs.CoreAndRound.{coreLayout, verdictAt, verdictFor}
+use Rattle.verdict.specs.CoreAndRound.{coreLayout, roundLayout, verdictAt, verdictFor}
 use Rattle.verdict.specs.Failures.{NoRounds}
 use Rattle.verdict.specs.Claims.{SupposedAt, ClaimsAt, Answers, EachActive, Computed, Addressed, operations, ourRounds}
+use Rattle.verdict.specs.Unique.{EquallyOften, Refilled}
 use Rattle.verdict.specs.declared.Verdict.{Verdict}
 use Rattle.verdict.specs.declared.Verdict.the-variants.{Refused, Holds}
 use Rattle.verdict.proofs.AnyRounds.{verdict-in-range, verdict-no-rounds, holds-in-range}
 use Rattle.verdict.proofs.Demand3.{demand3-at, holds-computed}
+use Rattle.verdict.proofs.Unique.{refilled-exactly, ours-equally, ours-exactly}
 use Rattle.keccak_rnd_trace.proofs.generate_keccak_rnd_trace.Kinds as trace-kinds
 use Rattle.keccak_rnd_trace.proofs.generate_keccak_rnd_trace.Reads as trace
 use Rattle.judge.proofs.verdict.Kinds as verdict-kinds
@@ -61,6 +63,15 @@ module _ {nr : ℕ} {core round : List ℕ} {v : Verdict} (a : Answered nr core 
   answered-computed n e =
       let h = holds-in-range nr core round n (sym (answered a) ∙ e) in
       (h .0, h .1, holds-computed nr (h .0) (h .1) core round n (sym (answered-at (h .0) (h .1)) ∙ e))
+
+-- and of two calls with one core table, where the first answers 'holds' the second does so exactly where its round table is the
+-- first one's refilled
+pub answered-refilled : {nr : ℕ} {core round other : List ℕ} {v w : Verdict} → Answered nr core round v → Answered nr core other w →
+    (n : ℕ) → v ≡ Holds n → (w ≡ Holds n) ↔ Refilled round other
+answered-refilled {nr} {core} {round} {other} a b n e =
+    let h = holds-in-range nr core round n (sym (answered a) ∙ e) in
+    let i = refilled-exactly nr core round other (h .0) (h .1) n (sym (answered-at a (h .0) (h .1)) ∙ e) in
+    ((λ c. i .0 (sym (answered-at b (h .0) (h .1)) ∙ c)), λ f. answered-at b (h .0) (h .1) ∙ i .1 f)
 
 pub record Wrote (nr floor : ℕ) (ops before after : List ℕ) : Type 0 where
   pub lifetimes : Lfts 2
@@ -145,3 +156,22 @@ module _ (nr : ℕ) (some : 1 ≤ nr) (most : nr ≤ 24) (core : List ℕ) (supp
         let t : List ℕ = take (length ours) after in
         let h : Answers nr core t = subst (Answers nr core) (sym (ours-written before after e w .0)) (claims floor .ours each) in
         (h, holds-answered t v a .1 h)
+
+    -- only one way to fill it: where `verdict` answers 'holds', the active rows of the round table that it was lent are those that the
+    -- writer writes, in some order
+    pub answered-equally : (round : List ℕ) (v : Verdict) (n : ℕ) → Answered nr core round v → v ≡ Holds n →
+        (before after : List ℕ) → length ours ≤ length before → Wrote nr floor (operations core) before after →
+        EquallyOften roundLayout round (take (length ours) after)
+    answered-equally round v n a e before after l w =
+        let h : Answers nr core round = holds-answered round v a .0 (e ∙ ap Holds (number-answered round v n a e)) in
+        subst (EquallyOften roundLayout round) (sym (ours-written before after l w .0)) (ours-equally nr some most floor core supposed round h)
+
+    -- and where every active core row is computed, it answers 'holds' exactly for what the writer writes, refilled
+    pub answered-exactly : EachActive (Computed nr) core → (round : List ℕ) (v : Verdict) → Answered nr core round v →
+        (before after : List ℕ) → length ours ≤ length before → Wrote nr floor (operations core) before after →
+        (v ≡ Holds (actives coreLayout core)) ↔ Refilled (take (length ours) after) round
+    answered-exactly each round v a before after l w =
+        let i = holds-answered round v a in
+        let j = ours-exactly nr some most floor core supposed each round in
+        let q = ours-written before after l w .0 in
+        ((λ e. subst (λ (t : List ℕ). Refilled t round) (sym q) (j .0 (i .0 e))), λ f. i .1 (j .1 (subst (λ (t : List ℕ). Refilled t round) q f)))

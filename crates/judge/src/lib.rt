@@ -1,9 +1,9 @@
 // The verdict on a core table and a round table for nr rounds: refusal 8, then the stages of `verdictAt`, one after the
 // other.
 use answer::Answer;
-use answer::Refusal;
 use answer::check_rounds;
-use field::elements::first_not_element;
+use checks::check_rows;
+use checks::check_words;
 use judge_bus::first_unbalanced;
 use judge_chains::every_chain;
 use judge_rows::Check;
@@ -13,8 +13,6 @@ use judge_scan::active_rows;
 use judge_scan::first_repeat;
 use judge_walk::Walked;
 use judge_walk::walk;
-use keccak;
-use keccak_rnd;
 use lists::Place;
 use verdict::Table;
 use verdict::Verdict;
@@ -25,6 +23,8 @@ ghost use Rattle.verdict.specs.CoreAndRound.{coreKind, roundKind, coreLayout, r
 ghost use Rattle.verdict.specs.Kind.{Elements};
 ghost use Rattle.verdict.specs.Verdict.{fromCoreValue, fromRoundValue, fromCoreBalance, fromRoundBalance};
 ghost use Rattle.judge_links.specs.Even.{Even};
+
+pub mod checks;
 
 // From the unbalanced tuples of round rows on: a tuple of one, or the tables hold.
 fn from_round_balance(nr: usize, core: &[u64], round: &[u64], walked: Walked) -> Verdict
@@ -101,8 +101,8 @@ fn from_round_value(nr: usize, core: &[u64], round: &[u64]) -> Verdict
     from_core_balance(nr, core, round)
 }
 
-// From the values of core rows on.
-fn from_core_value(nr: usize, core: &[u64], round: &[u64]) -> Verdict
+// From the values of core rows on: the verdict on tables that pass the checks.
+pub fn from_core_value(nr: usize, core: &[u64], round: &[u64]) -> Verdict
     requires { ⌜ (nr ≤ 24) × Elements (now core) × Elements (now round) ⌝ }
     ensures { λ v. ⌜ v ≡ fromCoreValue (coreKind nr) roundKind (now (core .entry)) (now (round .entry)) ⌝ }
 {
@@ -131,17 +131,11 @@ fn judged(nr: usize, core: &[u64], round: &[u64]) -> Verdict
     requires { ⌜ nr ≤ 24 ⌝ }
     ensures { λ v. ⌜ v ≡ verdictAt nr (now (core .entry)) (now (round .entry)) ⌝ }
 {
-    if core.len() % keccak::NUM_COLUMNS != 0 {
-        return Verdict::Refused(Refusal::NotWhole(0));
+    if let Answer::Refused(refusal) = check_rows(core, round) {
+        return Verdict::Refused(refusal);
     }
-    if round.len() % keccak_rnd::NUM_COLUMNS != 0 {
-        return Verdict::Refused(Refusal::NotWhole(1));
-    }
-    if let Place::At(k) = first_not_element(core, core.len()) {
-        return Verdict::Refused(Refusal::NotElement(k as u64));
-    }
-    if let Place::At(k) = first_not_element(round, round.len()) {
-        return Verdict::Refused(Refusal::NotElement(k as u64));
+    if let Answer::Refused(refusal) = check_words(core, round) {
+        return Verdict::Refused(refusal);
     }
     from_core_value(nr, core, round)
 }

@@ -11,10 +11,10 @@ use Prim.Native.Nat.{ℕ, _+_, _-_, _*_, _/_, _≤_, _<_}
 use native.Mathlib.Nat.{div-le-self, div-mul-le-self, le-trans, mul-le-mul-right, suc-mul}
 use native.Mathlib.Omega.{arith}
 use lib.Dec.{eqb}
-use lib.ListN.{length, take, drop, length-drop}
-use lib.Seq.{ext-getD, getD-take, getD-drop, length-take-le}
+use lib.ListN.{length, take, drop}
 use Rattle.lists.specs.Tab.{word, rowAt}
 use Rattle.lists.proofs.Laws.{length-rowAt, word-rowAt}
+use Rattle.lists.proofs.Kept.{part-tab}
 use Rattle.field.specs.Field.{p}
 use Rattle.field.specs.Elements.{ElementRow}
 use Rattle.verdict.specs.Kind.{Layout, rows, isActive, active, Elements}
@@ -64,20 +64,12 @@ unfolding isActive
 active-word A ws l r = ap (λ (n : ℕ). eqb n 1) (sym (word-rowAt (A .width) ws r (A .mu) l))
 
 module _ (w : ℕ) (ws : List ℕ) (r : ℕ) (l : r < length ws / w) where
-  part-size : length (take (r * w + w - r * w) (drop (r * w) ws)) ≡ w
-  part-size =
-      let g = row-ends w ws r l in
-      let e : r * w + w - r * w ≡ w = omega arith in
-      ap (λ (k : ℕ). length (take k (drop (r * w) ws))) e ∙ length-take-le w (drop (r * w) ws) (omega (arith, length-drop (r * w) ws))
-
   pub part-is : take (r * w + w - r * w) (drop (r * w) ws) ≡ rowAt w ws r
-  part-is =
-      ext-getD 0 (take (r * w + w - r * w) (drop (r * w) ws)) (rowAt w ws r) (part-size ∙ sym (length-rowAt w ws r)) (λ k g.
-      let b : k < w = omega (arith, part-size) in
-      getD-take (r * w + w - r * w) (drop (r * w) ws) k 0 (omega arith) ∙ getD-drop (r * w) ws k 0 ∙ sym (word-rowAt w ws r k b))
+  unfolding rowAt
+  part-is = part-tab ws (r * w) w (row-ends w ws r l)
 
   pub part-long : w ≤ length (take (r * w + w - r * w) (drop (r * w) ws))
-  part-long = omega (arith, part-size)
+  part-long = omega (arith, ap length part-is, length-rowAt w ws r)
 
   pub part-row : Elements ws → ElementRow w (take (r * w + w - r * w) (drop (r * w) ws))
   part-row h =

@@ -10,7 +10,7 @@ use lib.Dec.{T, eqb, ltb}
 use lib.ListN.{getD}
 use Rattle.lists.specs.Tab.{word, pick, tab}
 use Rattle.lists.specs.First.{anyBelow}
-use Rattle.lists.specs.Select.{wordsTest}
+use Rattle.lists.specs.Select.{wordsTest, wordsDiffer}
 use Rattle.lists.proofs.First.{any-clear, any-nothing}
 use Rattle.lists.proofs.Tests.{T-of, and-true, true-and}
 use Rattle.lists.proofs.Then.{by-le, T-true}
@@ -23,7 +23,7 @@ use Rattle.keccak_rnd.proofs.Active.{of-200}
 use Rattle.keccak_rnd.proofs.Step.{keccak-same}
 use Rattle.verdict.specs.Kind.{sameStamp}
 use Rattle.judge_scan.specs.Tables.{layoutOf}
-use Rattle.judge_tuples.specs.Port.{tupleOf, tableOf, widthOf, roundOf, laneAt, restAt, wordsDiffer, sameState}
+use Rattle.judge_tuples.specs.Port.{tupleOf, tableOf, widthOf, roundOf, laneAt, restAt, sameState}
 use Rattle.judge_tuples.specs.declared.Port.{Port}
 use Rattle.judge_tuples.specs.declared.Port.the-variants.{CoreSend, CoreReceive, RoundReceive, RoundSend}
 

@@ -3,9 +3,9 @@
 use mathlib.Core.Bool.{Bool, not, _&&_}
 use mathlib.Core.List.{List}
 use Prim.Native.Nat.{ℕ, _+_, _-_}
-use lib.Dec.{eqb}
 use Rattle.lists.specs.Tab.{word}
 use Rattle.lists.specs.First.{anyBelow}
+use Rattle.lists.specs.Select.{wordsDiffer}
 use Rattle.field.specs.Field.{fadd}
 use Rattle.keccak.specs.Columns as core
 use Rattle.keccak.specs.Tuples.{coreSent, coreReceived}
@@ -53,10 +53,6 @@ restAt (CoreSend nr) = core.INPUT-STATE
 restAt CoreReceive = core.OUTPUT-STATE
 restAt RoundReceive = round.START
 restAt RoundSend = round.CHI
-
--- word k of a from i on is not word k of b from j on
-unfoldable pub wordsDiffer : List ℕ → ℕ → List ℕ → ℕ → ℕ → Bool
-wordsDiffer a i b j k = not (eqb (word a (i + k)) (word b (j + k)))
 
 -- whether the states of two tuples have the same words, by their columns
 unfoldable pub sameState : Port → List ℕ → Port → List ℕ → Bool

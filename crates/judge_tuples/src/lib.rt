@@ -4,14 +4,13 @@ use fips202::first_round;
 use judge_scan::same_stamp;
 use keccak;
 use keccak_rnd;
+use lists::same_words;
 ghost use mathlib.Core.Path.{_≡_};
-ghost use mathlib.Core.Bool.{not};
 ghost use Prim.Native.Nat.{_+_, _≤_};
 ghost use lib.ListN.{length};
-ghost use Rattle.lists.specs.First.{anyBelow};
 ghost use Rattle.lists.specs.Select.{wordsTest};
 ghost use Rattle.field.specs.Field.{fadd};
-ghost use Rattle.judge_tuples.specs.Port.{widthOf, laneAt, restAt, roundOf, tupleOf, wordsDiffer, sameState};
+ghost use Rattle.judge_tuples.specs.Port.{widthOf, laneAt, restAt, roundOf, tupleOf, sameState};
 
 // The four Keccak tuples: a core row sends INPUT, with so many rounds to come, and receives OUTPUT; a round row receives
 // START and sends the state after its round.
@@ -68,21 +67,6 @@ fn round_of(row: &[u64], port: Port) -> u64
         Port::RoundReceive => row[keccak_rnd::ROUND],
         Port::RoundSend => next(row[keccak_rnd::ROUND]),
     }
-}
-
-// Whether the n words of a from i on are those of b from j on.
-fn same_words(a: &[u64], i: usize, b: &[u64], j: usize, n: usize) -> bool
-    requires { ⌜ (i + n ≤ length (now a)) × (j + n ≤ length (now b)) ⌝ }
-    ensures { λ r. ⌜ r ≡ not (anyBelow (wordsDiffer (now (a .entry)) i (now (b .entry)) j) n) ⌝ }
-{
-    let mut k = 0;
-    while k < n {
-        if a[i + k] != b[j + k] {
-            return false;
-        }
-        k += 1;
-    }
-    true
 }
 
 // Whether two tuples have one state.

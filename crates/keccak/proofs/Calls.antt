@@ -1,4 +1,4 @@
--- What the calls of the core table leave, by words of the list and of the slice: operation i begins at word 52 i of the
+-- What the calls of the core table leave, by words of the list and of the slice: operation i begins at word OP-WORDS * i of the
 -- list, its row at word 486 i of the table, its keys at word 50 i.
 use mathlib.Core.Path.{_≡_, sym, ap, subst, _∙_}
 use mathlib.Core.List.{List}
@@ -11,7 +11,7 @@ use Rattle.bits.specs.Bits.{wordAt}
 use Rattle.answer.specs.Refusal.{accepted}
 use Rattle.answer.proofs.Laws.{new-word, new-words, old-words}
 use Rattle.keccak.specs.Height.{height}
-use Rattle.keccak.specs.Row.{opAt, coreRow, coreTable, keyWord, is-wh-keys, keyWords, pointerKey}
+use Rattle.keccak.specs.Row.{OP-WORDS, opAt, coreRow, coreTable, keyWord, is-wh-keys, keyWords, pointerKey}
 use Rattle.keccak.specs.Refusals.{opCount, coreRowRefusal, coreTraceRefusal, keysRefusal}
 use Rattle.keccak.specs.Calls.{coreRowAfter, coreTraceAfter, keysAfter}
 use Rattle.keccak.proofs.Cells.{length-core, read-t0, read-mu}
@@ -20,7 +20,7 @@ use Rattle.keccak.proofs.Keys.{operation-key, length-keys}
 use Rattle.keccak.proofs.Table.{core-row-op, length-core-table, core-table-row}
 
 -- the first word of a row: the low half of its operation's timestamp
-row-stamp : (ops : List ℕ) (i : ℕ) → word (coreRow (opAt ops i)) 0 ≡ word ops (52 * i) % 2 ^ 32
+row-stamp : (ops : List ℕ) (i : ℕ) → word (coreRow (opAt ops i)) 0 ≡ word ops (OP-WORDS * i) % 2 ^ 32
 unfolding opAt wordAt
 row-stamp ops i = read-t0 (opAt ops i) ∙ omega arith
 
@@ -29,7 +29,7 @@ module _ (ops : List ℕ) (index : ℕ) (row : List ℕ) (passed : coreRowRefusa
   abbrev new : List ℕ
   new = coreRow (opAt ops index)
 
-  pub row-starts : word (coreRowAfter ops index row) 0 ≡ word ops (52 * index) % 2 ^ 32
+  pub row-starts : word (coreRowAfter ops index row) 0 ≡ word ops (OP-WORDS * index) % 2 ^ 32
   row-starts = new-word new row passed 0 (omega (arith, length-core (opAt ops index))) ∙ row-stamp ops index
 
   pub row-active : word (coreRowAfter ops index row) 485 ≡ 1
@@ -43,7 +43,7 @@ module _ (floor : ℕ) (ops table : List ℕ) (passed : coreTraceRefusal floor (
   abbrev made : List ℕ
   made = coreTable floor (opCount ops) (opAt ops)
 
-  pub table-starts : (i : ℕ) → i < opCount ops → word (coreTraceAfter floor ops table) (486 * i) ≡ word ops (52 * i) % 2 ^ 32
+  pub table-starts : (i : ℕ) → i < opCount ops → word (coreTraceAfter floor ops table) (486 * i) ≡ word ops (OP-WORDS * i) % 2 ^ 32
   table-starts i l =
       let n = opCount ops in
       let h = height-ge floor n in
@@ -59,12 +59,12 @@ module _ (floor : ℕ) (ops table : List ℕ) (passed : coreTraceRefusal floor (
 
 -- `is_wh_keys`: the key of the first lane, whose pointer is the address
 module _ (ops out : List ℕ) (passed : keysRefusal (length out) ops ≡ accepted) where
-  pub keys-start : (i : ℕ) → i < opCount ops → word (keysAfter ops out) (50 * i) ≡ word ops (52 * i + 1) / 2 ^ 32
+  pub keys-start : (i : ℕ) → i < opCount ops → word (keysAfter ops out) (50 * i) ≡ word ops (OP-WORDS * i + 1) / 2 ^ 32
   unfolding keyWords pointerKey opAt
   keys-start i l =
       let n = opCount ops in
       let e : i * 50 + 0 ≡ 50 * i = omega arith in
-      let z : word ops (52 * i + 1) + 0 ≡ word ops (52 * i + 1) = omega arith in
+      let z : word ops (OP-WORDS * i + 1) + 0 ≡ word ops (OP-WORDS * i + 1) = omega arith in
       new-word (keyWords n (opAt ops)) out passed (50 * i) (omega (arith, length-keys n (opAt ops)))
       ∙ getD-tab (n * 50) (λ k. keyWord (is-wh-keys (opAt ops) (k / 2)) (k % 2)) (50 * i) 0 (omega arith)
       ∙ ap (λ (k : ℕ). keyWord (is-wh-keys (opAt ops) (k / 2)) (k % 2)) (sym e) ∙ operation-key (opAt ops) i 0 (omega arith)

@@ -1,6 +1,7 @@
 -- The refusals of a call that takes a list of operations: one definition for every such call.
---     tooMany, notWhole, tooHigh, unaligned  one check each, followed by the checks after it
---     badAddress                             the two of the addresses, as every such call makes them
+--     tooMany, notWhole, tooHigh, unaligned, badSegment   one check each, followed by the checks after it
+--     badAddress                             the two of the addresses
+--     badOperation                           these and that of the segment numbers, as every such call makes them
 --     operationsRefusal                      the checks of a call that takes a list and a slice to write to
 --     coreTraceRefusal, coreRowsRefusal, coreCountRefusal, keysRefusal, coreRowRefusal   the checks of each call of the core
 --                                            table
@@ -17,12 +18,12 @@ use Rattle.lists.specs.First.{firstAt}
 use Rattle.answer.specs.Limits.{MAX-OPS}
 use Rattle.answer.specs.Refusal.{refuseIf, refuseAt, accepted, pastEnd, overLimit, tooShort, notFloor, countRefusal}
 use Rattle.answer.specs.declared.Refusal.{Refusal}
-use Rattle.answer.specs.declared.Refusal.the-variants.{NotWhole, HighAddress, Unaligned}
+use Rattle.answer.specs.declared.Refusal.the-variants.{NotWhole, HighAddress, Unaligned, Segment}
 use Rattle.keccak.specs.Columns.{NUM-COLUMNS}
 use Rattle.keccak.specs.Height.{height}
-use Rattle.keccak.specs.Row.{OP-WORDS, opAt, LAST-ADDRESS, KEY-WORDS}
+use Rattle.keccak.specs.Row.{OP-WORDS, opAt, LAST-ADDRESS, LAST-SEGMENT, KEY-WORDS}
 
--- "a list's n is its length div 52"
+-- "a list's n is its length div" the words of an operation: "n is then the length div 53"
 abbrev pub opCount : List ℕ → ℕ
 opCount ops = length ops / OP-WORDS
 
@@ -36,6 +37,13 @@ highAt ops i = ltb LAST-ADDRESS (addressAt ops i)
 
 unfoldable pub unalignedAt : List ℕ → ℕ → Bool
 unalignedAt ops i = not (eqb (addressAt ops i % 8) 0)
+
+-- the segment number of operation i, and whether its word's upper half is not zero
+abbrev pub segmentAt : List ℕ → ℕ → ℕ
+segmentAt ops i = opAt ops i .segment
+
+unfoldable pub wideAt : List ℕ → ℕ → Bool
+wideAt ops i = ltb LAST-SEGMENT (segmentAt ops i)
 
 -- 1 on the number of operations
 abbrev pub tooMany : List ℕ → Option Refusal → Option Refusal
@@ -57,16 +65,24 @@ unaligned ops later = refuseAt (firstAt (unalignedAt ops) (opCount ops)) (λ i. 
 abbrev pub badAddress : List ℕ → Option Refusal → Option Refusal
 badAddress ops later = tooHigh ops (unaligned ops later)
 
+-- 11: "a segment word of 2^32 or more in a list, detail the first such word"
+abbrev pub badSegment : List ℕ → Option Refusal → Option Refusal
+badSegment ops later = refuseAt (firstAt (wideAt ops) (opCount ops)) (λ i. Segment (segmentAt ops i)) later
+
+-- "after 7 and before 5": 7 is checked of the whole list before 11 is
+abbrev pub badOperation : List ℕ → Option Refusal → Option Refusal
+badOperation ops later = badAddress ops (badSegment ops later)
+
 -- the refusal of a call that takes a list of operations and a slice of `room` words, of which it needs `needed`
 unfoldable pub operationsRefusal : ℕ → ℕ → List ℕ → Option Refusal
 operationsRefusal room needed ops =
     tooMany ops
     (notWhole ops
     (tooShort room needed
-    (badAddress ops
+    (badOperation ops
     accepted)))
 
--- None of the five conditions holds. proofs/Refusals.antt: `accepted-is`, the checks pass exactly then; and each
+-- None of the six conditions holds. proofs/Refusals.antt: `accepted-is`, the checks pass exactly then; and each
 -- refusal with its detail.
 pub record Acceptable (room needed : ℕ) (ops : List ℕ) : Type 0 where
   pub few : opCount ops ≤ MAX-OPS
@@ -74,6 +90,7 @@ pub record Acceptable (room needed : ℕ) (ops : List ℕ) : Type 0 where
   pub long : needed ≤ room
   pub low : (i : ℕ) → i < opCount ops → addressAt ops i ≤ LAST-ADDRESS
   pub aligned : (i : ℕ) → i < opCount ops → addressAt ops i % 8 ≡ 0
+  pub segments : (i : ℕ) → i < opCount ops → segmentAt ops i ≤ LAST-SEGMENT
 
 -- The calls that take a floor refuse it first: "Refused: 9, any other floor, detail the floor, after 8 and before 1."
 -- `generate_keccak_trace`: a table of `room` words is to hold the rows up to the height
@@ -101,5 +118,5 @@ coreRowRefusal room ops index =
     (pastEnd (opCount ops) index
     (notWhole ops
     (tooShort room NUM-COLUMNS
-    (badAddress ops
+    (badOperation ops
     accepted))))

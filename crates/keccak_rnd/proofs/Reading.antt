@@ -15,7 +15,7 @@ use Rattle.lists.proofs.Reading.{Alike, ReadsFirst, front-same, then-same, pick
 use Rattle.field.specs.Field.{fadd, fsub, fmul}
 use Rattle.bits.specs.Bits.{wordAt}
 use Rattle.answer.specs.Refusal.{refuseIf, refuseAt, accepted, overwrite, afterwards, tooShort, notRounds, notFloor}
-use Rattle.answer.specs.declared.Refusal.the-variants.{PastEnd, NotWhole, TooShort, HighAddress, Unaligned}
+use Rattle.answer.specs.declared.Refusal.the-variants.{PastEnd, NotWhole, TooShort, HighAddress, Unaligned, Segment}
 use Rattle.answer.specs.Limits.{MAX-OPS}
 use Rattle.fips202.specs.Lanes.{roundsL}
 use Rattle.templates.specs.Templates.{isBit}
@@ -24,8 +24,8 @@ use Rattle.tuple.specs.declared.Bus.the-variants.{ByteAlu, KeccakRc, Keccak}
 use Rattle.tuple.specs.Call.{RestNotRead}
 use Rattle.tuple.proofs.Values.{long-enough}
 use Rattle.tuple.proofs.Reading.{tuple-rest}
-use Rattle.keccak.specs.Row.{OP-WORDS, LAST-ADDRESS, opAt}
-use Rattle.keccak.specs.Refusals.{opCount, addressAt, highAt, unalignedAt, operationsRefusal}
+use Rattle.keccak.specs.Row.{OP-WORDS, SEGMENT-WORD, LAST-ADDRESS, LAST-SEGMENT, opAt}
+use Rattle.keccak.specs.Refusals.{opCount, addressAt, segmentAt, highAt, unalignedAt, wideAt, operationsRefusal}
 use Rattle.keccak.proofs.Reading.{by-xyb-same, keccak-same}
 use Rattle.keccak_rnd.specs.Columns.{NUM-COLUMNS, TIMESTAMP-0, TIMESTAMP-1, ROUND, MU, start, cxz, cxz-left, cxz-right-bit, cxz-right-bit-for-byte, dxz, theta, rot-left, rot-right, chi-ands, chi, rc, iota, pi-left, pi-right}
 use Rattle.keccak_rnd.specs.Row.{rnc, roundRow, roundPad, opRow, roundRowAt, roundHeight, roundTable}
@@ -186,9 +186,10 @@ module _ (timestamp round : ℕ) (row : List ℕ) where
   )
 
 -- ---- '`generate_keccak_rnd_trace` never reads the operation's output': it is the same for two lists that are as long as
--- each other and whose operations have the same first 27 words: timestamp, address and input
+-- each other and whose operations have the same first 27 words, timestamp, address and input, and the same segment number
 module _ (nr floor : ℕ) (ops other : List ℕ) (long : length ops ≡ length other)
-    (same : (i k : ℕ) → k < 27 → word ops (OP-WORDS * i + k) ≡ word other (OP-WORDS * i + k)) where
+    (same : (i k : ℕ) → k < 27 → word ops (OP-WORDS * i + k) ≡ word other (OP-WORDS * i + k))
+    (segments : (i : ℕ) → word ops (OP-WORDS * i + SEGMENT-WORD) ≡ word other (OP-WORDS * i + SEGMENT-WORD)) where
   timestamp-same : (i : ℕ) → opAt ops i .timestamp ≡ opAt other i .timestamp
   unfolding opAt
   timestamp-same i = rw add-zero at (same i 0 (omega arith))
@@ -201,14 +202,19 @@ module _ (nr floor : ℕ) (ops other : List ℕ) (long : length ops ≡ length o
   unfolding opAt
   input-same i = tab-same 25 _ _ (λ k h. let e : OP-WORDS * i + 2 + k ≡ OP-WORDS * i + (2 + k) = omega arith in rw e (same i (2 + k) (omega arith)))
 
+  segment-same : (i : ℕ) → segmentAt ops i ≡ segmentAt other i
+  unfolding opAt
+  segment-same = segments
+
   refusal-output : (room : ℕ) → roundTraceRefusal nr floor room ops ≡ roundTraceRefusal nr floor room other
-  unfolding roundTraceRefusal operationsRefusal highAt unalignedAt
+  unfolding roundTraceRefusal operationsRefusal highAt unalignedAt wideAt
   refusal-output room =
       λ t. notRounds nr (notFloor floor (refuseIf (ltb MAX-OPS (long t / OP-WORDS)) (PastEnd (MAX-OPS + 1))
       (refuseIf (not (eqb (long t % OP-WORDS) 0)) (NotWhole 2)
       (tooShort room (roundHeight nr floor (long t / OP-WORDS) * NUM-COLUMNS)
       (refuseAt (firstAt (λ i. ltb LAST-ADDRESS (address-same i t)) (long t / OP-WORDS)) (λ i. HighAddress (address-same i t))
-      (refuseAt (firstAt (λ i. not (eqb (address-same i t % 8) 0)) (long t / OP-WORDS)) (λ i. Unaligned (address-same i t)) accepted))))))
+      (refuseAt (firstAt (λ i. not (eqb (address-same i t % 8) 0)) (long t / OP-WORDS)) (λ i. Unaligned (address-same i t))
+      (refuseAt (firstAt (λ i. ltb LAST-SEGMENT (segment-same i t)) (long t / OP-WORDS)) (λ i. Segment (segment-same i t)) accepted)))))))
 
   table-output : roundTable nr floor (opCount ops) (opAt ops) ≡ roundTable nr floor (opCount other) (opAt other)
   unfolding roundTable roundRowAt opRow

@@ -1,12 +1,10 @@
 -- An operand by its kind: where it may stand, a byte of it and its eight bytes.
 use mathlib.Core.Path.{_≡_, refl, sym, ap, subst, _∙_}
 use mathlib.Core.List.{List}
-use Prim.Native.Nat.{ℕ, _+_, _-_, _≤_, _<_}
+use Prim.Native.Nat.{ℕ, _+_, _≤_, _<_}
 use native.Mathlib.Omega.{arith}
-use lib.ListN.{length, take, drop, length-drop}
-use lib.Seq.{getD-take, getD-drop, length-take-le}
 use Rattle.lists.specs.Tab.{tab, word}
-use Rattle.lists.proofs.Laws.{tab-same, list-tab}
+use Rattle.lists.proofs.Laws.{tab-same}
 use Rattle.keccak_rnd.specs.Columns.{NUM-COLUMNS}
 use Rattle.keccak_rnd_terms.specs.Terms.{NUM-TERMS, TermsOf}
 use Rattle.keccak_rnd_operands.specs.declared.Operand.{Operand}
@@ -38,11 +36,3 @@ module _ {o : Operand} where
         → vs ≡ tab 8 (operandByte row o)
     unfolding operandByte
     term-lane {k} terms t e b h = lane-of e (h ∙ tab-same 8 (λ z. word terms (k + z)) (operandByte row (Term k)) (λ z l. t .is (k + z) (omega arith)))
-
--- eight words of a list
-pub part-is : (ws : List ℕ) (s : ℕ) → s + 8 ≤ length ws → take (s + 8 - s) (drop s ws) ≡ tab 8 (λ z. word ws (s + z))
-part-is ws s h =
-    let e : s + 8 - s ≡ 8 = omega arith in
-    ap (λ (k : ℕ). take k (drop s ws)) e
-    ∙ list-tab (take 8 (drop s ws)) 8 (length-take-le 8 (drop s ws) (omega (arith, length-drop s ws)))
-    ∙ tab-same 8 (λ k. word (take 8 (drop s ws)) k) (λ z. word ws (s + z)) (λ k b. getD-take 8 (drop s ws) k 0 b ∙ getD-drop s ws k 0)

@@ -5,10 +5,14 @@
 pub mod core_calls;
 pub mod counters;
 pub mod evaluators;
+pub mod job_calls;
 pub mod judge_calls;
 pub mod key_rows;
 pub mod lookup_calls;
 pub mod lookups;
+pub mod message_calls;
+pub mod month_calls;
+pub mod register_calls;
 pub mod round_calls;
 pub mod segment_calls;
 pub mod tally_calls;

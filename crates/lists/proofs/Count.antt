@@ -2,12 +2,13 @@
 --     count-same, count-add   tests that agree below n; a count over m + n indices
 --     count-find, sum-find    where a count or a sum is not 0, something was counted
 --     count-hit               and the other way, for a count
+--     count-before            fewer pass before one that passes
 --     count-one               a test that can pass at one index only
 --     sum-tests               a sum of ones for passed tests is a count
-use mathlib.Core.Path.{_≡_, refl, sym, ap, ap₂, _∙_}
+use mathlib.Core.Path.{_≡_, refl, sym, ap, ap₂, subst, _∙_}
 use mathlib.Core.Bool.{Bool, true, false}
 use mathlib.Core.Logic.{_⊎_, inl, inr}
-use Prim.Native.Nat.{ℕ, zero, suc, _+_, _≤_, _<_}
+use Prim.Native.Nat.{ℕ, zero, suc, _+_, _-_, _≤_, _<_}
 use native.Mathlib.Nat.{eq-or-lt-of-le, le-of-suc-le-suc}
 use native.Mathlib.Omega.{arith}
 use Rattle.lists.specs.Tab.{pick}
@@ -54,6 +55,14 @@ count-hit t (suc n) k l e = go (t n) refl (eq-or-lt-of-le (le-of-suc-le-suc l)) 
     go true f c back = omega arith
     go false f (inl q) back = absurd (true-not-false (sym e ∙ ap t q ∙ f))
     go false f (inr g) back = back g
+
+-- where a test passes at r, below n, fewer passed before r than do below n
+pub count-before : (t : ℕ → Bool) (n r : ℕ) → r < n → t r ≡ true → countBelow t r < countBelow t n
+count-before t n r l e =
+    let m : ℕ = n - r in
+    let here : r + 0 ≡ r = omega arith in
+    let size : r + m ≡ n = omega arith in
+    subst (λ (k : ℕ). countBelow t r < countBelow t k) size (omega (arith, count-add t r m, count-hit (λ k. t (r + k)) m 0 (omega arith) (ap t here ∙ e)))
 
 pub sum-find : (f : ℕ → ℕ) (n : ℕ) → 1 ≤ sumBelow n f → (r : ℕ) × (r < n) × (1 ≤ f r)
 unfolding sumBelow

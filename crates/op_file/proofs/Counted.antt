@@ -9,16 +9,16 @@ use native.Mathlib.Omega.{arith}
 use borrow.Author.Tests.{leb-false, ltb-false, eqb-true}
 use lib.ListN.{length, getD}
 use Rattle.lists.specs.Tab.{tab, word}
-use Rattle.lists.specs.Select.{consIf, selected}
 use Rattle.lists.proofs.Laws.{getD-tab, length-table, table-at}
 use Rattle.answer.specs.Limits.{MAX-OPS}
 use Rattle.answer.specs.Refusal.{accepted}
 use Rattle.answer.proofs.Laws.{passed-if}
-use Rattle.keccak.specs.Row.{LAST-ADDRESS, opAt}
-use Rattle.keccak.specs.Refusals.{opCount, addressAt, operationsRefusal}
+use Rattle.keccak.specs.Row.{OP-WORDS, SEGMENT-WORD, LAST-ADDRESS, LAST-SEGMENT, opAt}
+use Rattle.keccak.specs.Refusals.{opCount, addressAt, segmentAt, operationsRefusal}
 use Rattle.keccak.proofs.Refusals.{accepted-is}
-use Rattle.op_file.specs.File.{recordWord, addressOf, operationWords, faultOf, firstFault, recordsOf, isAligned, alignedOf, recordsWords}
+use Rattle.op_file.specs.File.{segmentOf, recordWord, addressOf, operationWords, faultOf, firstFault, recordsOf, isAligned, alignedOf, recordsWords, fileWords}
 use Rattle.op_file.proofs.Cases.{each-counted}
+use Rattle.op_file.proofs.SegmentNumbers.{of-selected, narrow-counted}
 
 -- ---- a list of records without a fault
 -- there is room for it, and each address is accepted by 4
@@ -39,37 +39,39 @@ low-all i at (r ∷ rs) e zero l =
 low-all i at (r ∷ rs) e (suc m) l =
     low-all (i + 1) (at + length r) rs (orElse-eq-none (faultOf i at r) (firstFault (i + 1) (at + length r) rs) .0 e .1) m (omega arith)
 
--- what is so of each record that passes a test is so of each that is selected
-of-selected : (P : List ℕ → Type 0) (act : List ℕ → Bool) (rs : List (List ℕ)) → ((i : ℕ) → i < length rs → act (getD rs i []) ≡ true → P (getD rs i [])) →
-    (j : ℕ) → j < length (selected act rs) → P (getD (selected act rs) j [])
-unfolding selected
-of-selected P act [] h j l = absurd (omega arith)
-of-selected P act (r ∷ rs) h j l = by (act r) refl j l (of-selected P act rs (λ i m t. h (suc i) (omega arith) t))
-  where
-    by : (b : Bool) → act r ≡ b → (j : ℕ) → j < length (consIf b r (selected act rs)) →
-        ((k : ℕ) → k < length (selected act rs) → P (getD (selected act rs) k [])) → P (getD (consIf b r (selected act rs)) j [])
-    by true e zero l rest = h 0 (omega arith) e
-    by true e (suc k) l rest = rest k (omega arith)
-    by false e j l rest = rest j l
-
 -- ---- the flat list of some records
 module _ (rs : List (List ℕ)) where
-  words-length : length (recordsWords rs) ≡ length rs * 52
+  pub words-length : length (recordsWords rs) ≡ length rs * OP-WORDS
   unfolding recordsWords
-  words-length = length-table (length rs) 52 (λ i. operationWords (getD rs i []))
+  words-length = length-table (length rs) OP-WORDS (λ i. operationWords (getD rs i []))
+
+  -- word j of record i
+  pub word-is : (i j : ℕ) → i < length rs → j < OP-WORDS → word (recordsWords rs) (i * OP-WORDS + j) ≡ recordWord (getD rs i []) j
+  unfolding recordsWords operationWords
+  word-is i j l h =
+      table-at (length rs) OP-WORDS (λ i. tab OP-WORDS (recordWord (getD rs i []))) i j l h ∙ getD-tab OP-WORDS (recordWord (getD rs i [])) j 0 h
 
   address-is : (i : ℕ) → i < length rs → addressAt (recordsWords rs) i ≡ addressOf (getD rs i [])
-  unfolding opAt recordsWords operationWords
+  unfolding opAt
   address-is i l =
-      let e : 52 * i + 1 ≡ i * 52 + 1 = omega arith in
-      ap (word (recordsWords rs)) e
-      ∙ table-at (length rs) 52 (λ i. tab 52 (recordWord (getD rs i []))) i 1 l (omega arith)
-      ∙ getD-tab 52 (recordWord (getD rs i [])) 1 0 (omega arith)
+      let e : OP-WORDS * i + 1 ≡ i * OP-WORDS + 1 = omega arith in
+      ap (word (recordsWords rs)) e ∙ word-is i 1 l (omega arith)
 
-pub counted-accepted : (file : List ℕ) → firstFault 0 0 (recordsOf file) ≡ none → (room needed : ℕ) → needed ≤ room →
+  segment-is : (i : ℕ) → i < length rs → segmentAt (recordsWords rs) i ≡ segmentOf (getD rs i [])
+  unfolding opAt recordWord
+  segment-is i l =
+      let e : OP-WORDS * i + SEGMENT-WORD ≡ i * OP-WORDS + SEGMENT-WORD = omega arith in
+      ap (word (recordsWords rs)) e ∙ word-is i SEGMENT-WORD l (omega arith)
+
+-- the same of a file: word j of its record i
+pub file-word : (file : List ℕ) (i j : ℕ) → i < length (recordsOf file) → j < OP-WORDS → word (fileWords file) (i * OP-WORDS + j) ≡ recordWord (getD (recordsOf file) i []) j
+unfolding fileWords
+file-word file = word-is (recordsOf file)
+
+pub counted-accepted : (file : List ℕ) → ((k : ℕ) → word file k < 256) → firstFault 0 0 (recordsOf file) ≡ none → (room needed : ℕ) → needed ≤ room →
     operationsRefusal room needed (recordsWords (alignedOf file)) ≡ accepted
 unfolding isAligned
-counted-accepted file right room needed fits =
+counted-accepted file small right room needed fits =
     accepted-is room needed (recordsWords (alignedOf file)) .1
     (record {
       few = omega (arith, count, each-counted file, room-all 0 0 (recordsOf file) (omega arith) right);
@@ -77,6 +79,7 @@ counted-accepted file right room needed fits =
       long = fits;
       low = λ i l. subst (λ (a : ℕ). a ≤ LAST-ADDRESS) (sym (address-is (alignedOf file) i (below i l))) (each i (below i l) .0);
       aligned = λ i l. ap (λ (a : ℕ). a % 8) (address-is (alignedOf file) i (below i l)) ∙ eqb-true _ _ (each i (below i l) .1);
+      segments = λ i l. subst (λ (s : ℕ). s ≤ LAST-SEGMENT) (sym (segment-is (alignedOf file) i (below i l))) (narrow-counted file small i (below i l));
     })
   where
     count : opCount (recordsWords (alignedOf file)) ≡ length (alignedOf file)

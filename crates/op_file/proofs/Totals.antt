@@ -15,6 +15,7 @@ use Rattle.keccak_rnd.specs.Row.{roundHeight, padding-are-bytes}
 use Rattle.keccak_rnd.proofs.Tally.{byte-alu, are-bytes, keccak-rc, is-halfword, is-wh, memw, ecall}
 use Rattle.op_file.specs.File.{writtenSum, busTotal, sumsOf}
 use Rattle.op_file.specs.Reader.{paddingSum, countsOf}
+use Rattle.op_file.specs.declared.Segments.{Segments}
 
 -- none of no operation, else what the rows send
 none-or : (n w c : ℕ) → (n ≡ 0 → c ≡ 0) → (0 < n → w ≡ c) → pick (eqb n 0) 0 w ≡ c
@@ -56,10 +57,10 @@ module _ (floor syscall n : ℕ) (op : ℕ → KeccakOperation) where
   padded false = none-or n (writtenSum floor syscall Sender AreBytes n op) (5284 * n + paddingSum floor false n) none-padded some-padded
 
 -- what is computed is the sums
-pub counts-are-sums : (floor : ℕ) (shipped : Bool) (syscall n : ℕ) (op : ℕ → KeccakOperation) (left : ℕ) →
-    countsOf floor shipped n left ≡ sumsOf floor shipped syscall n op left
+pub counts-are-sums : (floor : ℕ) (shipped : Bool) (syscall n : ℕ) (op : ℕ → KeccakOperation) (segments : Segments) (left : ℕ) →
+    countsOf floor shipped n segments left ≡ sumsOf floor shipped syscall n op segments left
 unfolding countsOf sumsOf writtenSum
-counts-are-sums floor shipped syscall n op left =
+counts-are-sums floor shipped syscall n op segments left =
     let is = counted floor syscall n op shipped in
     rw (
       is Sender ByteAlu (19393 * n) (λ e. omega arith) (byte-alu syscall floor n op),

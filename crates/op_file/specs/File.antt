@@ -1,7 +1,7 @@
--- The operation file: records of 418 bytes, the first faulty one, the operations, and what `tally` says of a file.
-use Prim.Native.Nat.{ℕ, zero, suc, _+_, _*_, _%_}
+-- The operation file: its records under either mark, the first faulty one, the operations, and what `tally` says of a file.
+use Prim.Native.Nat.{ℕ, zero, suc, _+_, _*_, _%_, min, max}
 use mathlib.Core.Bool.{Bool, true, false, not}
-use mathlib.Core.List.{List, [], _∷_}
+use mathlib.Core.List.{List, [], _∷_, _++_}
 use mathlib.Core.Option.{Option, none, some, orElse}
 use lib.ListN.{length, take, drop, getD}
 use lib.Dec.{ltb, leb, eqb}
@@ -17,37 +17,79 @@ use Rattle.tuple.specs.declared.Bus.the-variants.{ByteAlu, AreBytes, IsHalfword
 use Rattle.tuple.specs.declared.Side.{Side}
 use Rattle.tuple.specs.declared.Side.the-variants.{Sender, Receiver}
 use Rattle.keccak.specs.Height.{height}
-use Rattle.keccak.specs.Row.{OP-WORDS, LAST-ADDRESS, opAt}
+use Rattle.keccak.specs.Row.{OP-WORDS, SEGMENT-WORD, LAST-ADDRESS, LAST-SEGMENT, opAt}
 use Rattle.keccak.specs.Tuples.{coreTableSum}
 use Rattle.keccak.specs.declared.KeccakOperation.{KeccakOperation}
 use Rattle.keccak_rnd.specs.Row.{roundHeight}
 use Rattle.keccak_rnd.specs.Tuples.{roundTableSum}
+use Rattle.op_file.specs.declared.Segments.{Segments}
 use Rattle.op_file.specs.declared.Sums.{Sums}
 use Rattle.op_file.specs.declared.Tally.{Tally}
 use Rattle.op_file.specs.declared.Tally.the-variants.{Counted, Refused}
 
 -- "Record: bytes 4B 4F (hexadecimal), then timestamp, address, 25 input and 25 output lanes, each 8 bytes, lowest
--- first: 418 bytes."
+-- first: 418 bytes."; "An operation gains a 32-bit segment number, .. in the file under mark 4B 50 with 4 more bytes at the
+-- end, lowest first."
 abbrev pub RECORD-BYTES : ℕ
 RECORD-BYTES = 418
 
--- ---- the records of a file, the last possibly cut, at most k of them. Each has at least a byte, so as many as the
--- file has bytes are enough
+abbrev pub SEGMENT-RECORD-BYTES : ℕ
+SEGMENT-RECORD-BYTES = 422
+
+-- the most bytes of a file
+abbrev pub MAX-FILE-BYTES : ℕ
+MAX-FILE-BYTES = MAX-OPS * SEGMENT-RECORD-BYTES
+
+-- the byte that both marks begin with, and the second one of each
+abbrev pub FIRST-MARK : ℕ
+FIRST-MARK = 0x4B
+
+abbrev pub PLAIN-MARK : ℕ
+PLAIN-MARK = 0x4F
+
+abbrev pub SEGMENT-MARK : ℕ
+SEGMENT-MARK = 0x50
+
+unfoldable pub isMark : ℕ → Bool
+isMark b = pick (eqb b PLAIN-MARK) true (eqb b SEGMENT-MARK)
+
+-- ---- a record
+-- bytes that begin as a record with a segment number does, and how long the record is that they begin
+unfoldable pub isMarked : List ℕ → Bool
+isMarked r = eqb (getD r 1 0) SEGMENT-MARK
+
+unfoldable pub recordSize : Bool → ℕ
+recordSize marked = pick marked SEGMENT-RECORD-BYTES RECORD-BYTES
+
+abbrev pub sizeOf : List ℕ → ℕ
+sizeOf r = recordSize (isMarked r)
+
+-- the records of a file, the last possibly cut, at most k of them. Each has at least a byte, so as many as the file has
+-- bytes are enough
 unfoldable pub split : ℕ → List ℕ → List (List ℕ)
 split zero s = []
 split (suc k) [] = []
-split (suc k) (b ∷ s) = take RECORD-BYTES (b ∷ s) ∷ split k (drop RECORD-BYTES (b ∷ s))
+split (suc k) (b ∷ s) = take (sizeOf (b ∷ s)) (b ∷ s) ∷ split k (drop (sizeOf (b ∷ s)) (b ∷ s))
 
 unfoldable pub recordsOf : List ℕ → List (List ℕ)
 recordsOf file = split (length file) file
 
--- all its bytes are there, and the first two are 4B 4F
-unfoldable pub isWhole : List ℕ → Bool
-isWhole r = pick (eqb (length r) RECORD-BYTES) (pick (eqb (getD r 0 0) 0x4B) (eqb (getD r 1 0) 0x4F) false) false
+-- the bytes of some records, one after the other
+unfoldable pub bytesOf : List (List ℕ) → List ℕ
+bytesOf [] = []
+bytesOf (r ∷ rs) = r ++ bytesOf rs
 
--- word j of a record, j below 52: eight bytes, lowest first. The address is word 1
+-- all its bytes are there, and the first two are a mark
+unfoldable pub isWhole : List ℕ → Bool
+isWhole r = pick (eqb (length r) (sizeOf r)) (pick (eqb (getD r 0 0) FIRST-MARK) (isMark (getD r 1 0)) false) false
+
+-- "Records marked 4B 4F still read, as segment 0."
+unfoldable pub segmentOf : List ℕ → ℕ
+segmentOf r = pick (isMarked r) (pack 4 RECORD-BYTES (word r)) 0
+
+-- word j of a record: eight bytes, lowest first, of which the address is word 1; and behind these 52 the segment number
 unfoldable pub recordWord : List ℕ → ℕ → ℕ
-recordWord r j = pack 8 (2 + 8 * j) (word r)
+recordWord r j = pick (ltb j SEGMENT-WORD) (pack 8 (2 + 8 * j) (word r)) (segmentOf r)
 
 abbrev pub addressOf : List ℕ → ℕ
 addressOf r = recordWord r 1
@@ -62,19 +104,28 @@ faultOf i at r =
     (refuseIf (ltb LAST-ADDRESS (addressOf r)) (HighAddress (addressOf r))
     accepted))
 
--- what is wrong with the first faulty record of those from the i-th on
+-- where record i of some starts, from the start of the first on: behind the bytes of those before it
+unfoldable pub startAt : List (List ℕ) → ℕ → ℕ
+startAt rs zero = 0
+startAt [] (suc i) = 0
+startAt (r ∷ rs) (suc i) = length r + startAt rs i
+
+-- what is wrong with the first faulty record of those from the i-th on, which starts at byte `at` of the file
 unfoldable pub firstFault : ℕ → ℕ → List (List ℕ) → Option Refusal
 firstFault i at [] = none
 firstFault i at (r ∷ rs) = orElse (faultOf i at r) (firstFault (i + 1) (at + length r) rs)
 
 -- ---- the operations
--- the 52 words of the record that begins a list of bytes
+-- the words of a record
 unfoldable pub operationWords : List ℕ → List ℕ
 operationWords r = tab OP-WORDS (recordWord r)
 
--- the flat list of a file's records
+-- the flat list of some records, and of all records of a file
+unfoldable pub recordsWords : List (List ℕ) → List ℕ
+recordsWords rs = tableOf (length rs) OP-WORDS (λ i. operationWords (getD rs i []))
+
 unfoldable pub fileWords : List ℕ → List ℕ
-fileWords file = tableOf (length (recordsOf file)) OP-WORDS (λ i. operationWords (drop (i * RECORD-BYTES) file))
+fileWords file = recordsWords (recordsOf file)
 
 -- ---- the records that are counted
 -- "`tally` counts such records in a last line `unaligned N`, .. and leaves them out of the record count, both heights and
@@ -91,9 +142,30 @@ alignedOf file = selected isAligned (recordsOf file)
 abbrev pub unalignedOf : List ℕ → List (List ℕ)
 unalignedOf file = selected isUnaligned (recordsOf file)
 
--- the flat list of some records
-unfoldable pub recordsWords : List (List ℕ) → List ℕ
-recordsWords rs = tableOf (length rs) OP-WORDS (λ i. operationWords (getD rs i []))
+-- ---- their segment numbers
+-- "Where a counted record is marked 4B 50"
+unfoldable pub anyMarked : List (List ℕ) → Bool
+anyMarked [] = false
+anyMarked (r ∷ rs) = pick (isMarked r) true (anyMarked rs)
+
+-- "least and greatest of all counted records"; of none, which no line tells, the last and the first number of 32 bits
+unfoldable pub leastOf : List (List ℕ) → ℕ
+leastOf [] = LAST-SEGMENT
+leastOf (r ∷ rs) = min (segmentOf r) (leastOf rs)
+
+unfoldable pub greatestOf : List (List ℕ) → ℕ
+greatestOf [] = 0
+greatestOf (r ∷ rs) = max (segmentOf r) (greatestOf rs)
+
+-- what is told of them: both, or nothing
+abbrev pub noneTold : Segments
+noneTold = record { shown = 0; least = 0; greatest = 0 }
+
+unfoldable pub told : Segments → Segments
+told s = pick (eqb (s .shown) 0) noneTold s
+
+unfoldable pub segmentsOf : List (List ℕ) → Segments
+segmentsOf rs = told (record { shown = pick (anyMarked rs) 1 0; least = leastOf rs; greatest = greatestOf rs })
 
 -- ---- the sums
 -- "the sum of multiplicities that both tables send (Ecall: receive)" on a bus, over the rows of the tables of n
@@ -108,9 +180,9 @@ unfoldable pub busTotal : ℕ → Bool → ℕ → Side → Bus → ℕ → (ℕ
 busTotal floor true syscall s b n op = writtenSum floor syscall s b n op
 busTotal floor false syscall s b n op = pick (eqb n 0) 0 (writtenSum floor syscall s b n op)
 
--- the sums of n operations, where `left` records are left out
-unfoldable pub sumsOf : ℕ → Bool → ℕ → ℕ → (ℕ → KeccakOperation) → ℕ → Sums
-sumsOf floor shipped syscall n op left =
+-- the sums of n operations with these segment numbers, where `left` records are left out
+unfoldable pub sumsOf : ℕ → Bool → ℕ → ℕ → (ℕ → KeccakOperation) → Segments → ℕ → Sums
+sumsOf floor shipped syscall n op segments left =
     record {
       ops = n;
       «core_rows» = height floor n;
@@ -122,8 +194,14 @@ sumsOf floor shipped syscall n op left =
       «is_wh» = busTotal floor shipped syscall Sender IsWh n op;
       memw = busTotal floor shipped syscall Sender Memw n op;
       ecall = busTotal floor shipped syscall Receiver Ecall n op;
+      segments = segments;
       unaligned = left;
     }
+
+-- those of a file's counted records
+abbrev pub fileSums : ℕ → Bool → ℕ → List ℕ → Sums
+fileSums floor shipped syscall file =
+    sumsOf floor shipped syscall (length (alignedOf file)) (opAt (recordsWords (alignedOf file))) (segmentsOf (alignedOf file)) (length (unalignedOf file))
 
 -- the first fault, or the sums
 abbrev pub unless : Option Refusal → Sums → Tally
@@ -132,6 +210,4 @@ unless (some r) s = Refused r
 
 -- "Refused: 9, any other floor, detail the floor, after 8 and before 1.": before anything that is wrong with the file
 unfoldable pub tallyOf : ℕ → Bool → ℕ → List ℕ → Tally
-tallyOf floor shipped syscall file =
-    unless (notFloor floor (firstFault 0 0 (recordsOf file)))
-    (sumsOf floor shipped syscall (length (alignedOf file)) (opAt (recordsWords (alignedOf file))) (length (unalignedOf file)))
+tallyOf floor shipped syscall file = unless (notFloor floor (firstFault 0 0 (recordsOf file))) (fileSums floor shipped syscall file)

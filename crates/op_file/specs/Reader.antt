@@ -1,5 +1,5 @@
 -- Reading a file in pieces: where a reader stands after each byte, and what the end of the file makes of it.
-use Prim.Native.Nat.{ℕ, _+_, _-_, _*_, _/_, _%_, _<_, _≤_}
+use Prim.Native.Nat.{ℕ, _+_, _-_, _*_, _/_, _%_, _^_, _<_, _≤_, min, max}
 use mathlib.Core.Path.{_≡_}
 use mathlib.Core.Bool.{Bool, true, false, not}
 use mathlib.Core.List.{List, [], _∷_}
@@ -12,58 +12,110 @@ use Rattle.answer.specs.Refusal.{accepted, notFloor}
 use Rattle.answer.specs.declared.Refusal.{Refusal}
 use Rattle.answer.specs.declared.Refusal.the-variants.{PastEnd, HighAddress, BadRecord}
 use Rattle.keccak.specs.Height.{height}
-use Rattle.keccak.specs.Row.{LAST-ADDRESS}
+use Rattle.keccak.specs.Row.{LAST-ADDRESS, LAST-SEGMENT}
 use Rattle.keccak_rnd.specs.Row.{ARE-BYTES-PER-ROW, roundHeight, padding-are-bytes}
-use Rattle.op_file.specs.File.{RECORD-BYTES}
+use Rattle.op_file.specs.File.{RECORD-BYTES, MAX-FILE-BYTES, FIRST-MARK, SEGMENT-MARK, isMark, recordSize, told}
+use Rattle.op_file.specs.declared.Segments.{Segments}
+use Rattle.op_file.specs.declared.Whole.{Whole}
+use Rattle.op_file.specs.declared.Begun.{Begun}
 use Rattle.op_file.specs.declared.Cursor.{Cursor}
 use Rattle.op_file.specs.declared.Cursor.the-variants as cursor
 use Rattle.op_file.specs.declared.Sums.{Sums}
 use Rattle.op_file.specs.declared.Tally.{Tally}
 use Rattle.op_file.specs.declared.Tally.the-variants as tally
 
--- byte `at` of a record contradicts its mark
+-- ---- the record that is being read
+-- byte `at` of a record contradicts both marks
 unfoldable pub wrong : ℕ → ℕ → Bool
-wrong at b = pick (eqb at 0) (not (eqb b 0x4B)) (pick (eqb at 1) (not (eqb b 0x4F)) false)
+wrong at b = pick (eqb at 0) (not (eqb b FIRST-MARK)) (pick (eqb at 1) (not (isMark b)) false)
 
 -- byte `at` of a record is one of its address
 unfoldable pub inAddress : ℕ → Bool
 inAddress at = pick (leb 10 at) (ltb at 18) false
 
--- the address bytes come in from the top, so that after eight of them the first is the lowest
+-- the bytes of a number come in from the top, so that after eight of them the first is the lowest
 unfoldable pub shifted : ℕ → ℕ → ℕ
 shifted a b = a / 256 + b * 72057594037927936
 
--- a reader after a whole record at this address, behind n at multiples of 8 and k at other addresses
-unfoldable pub recordRead : ℕ → ℕ → ℕ → Cursor
-recordRead n k addr = pick (eqb (addr % 8) 0) (cursor.Reading (n + 1) k 0 0) (cursor.Reading n (k + 1) 0 0)
+-- the segment number of a record, by its mark and by what its bytes from the 418th on make: four of them are the upper half
+unfoldable pub segmentBy : Bool → ℕ → ℕ
+segmentBy marked tail = pick marked (tail / 2 ^ 32) 0
 
--- a reader after one more byte. `Reading n k at addr`: n whole records at multiples of 8 and k at other addresses are
--- read, and `at` bytes of the next, whose address bytes so far make addr
+-- whether it has one
+abbrev pub hasSegment : Begun → Bool
+hasSegment p = eqb (p .mark) SEGMENT-MARK
+
+-- a record after one more byte
+unfoldable pub taken : Begun → ℕ → Begun
+taken p b =
+    record {
+      at = p .at + 1;
+      mark = pick (eqb (p .at) 1) b (p .mark);
+      addr = pick (inAddress (p .at)) (shifted (p .addr) b) (p .addr);
+      tail = pick (leb RECORD-BYTES (p .at)) (shifted (p .tail) b) (p .tail);
+    }
+
+abbrev pub noneBegun : Begun
+noneBegun = record { at = 0; mark = 0; addr = 0; tail = 0 }
+
+-- ---- the whole records that are read
+-- the segment numbers of counted records with one more of them
+unfoldable pub counted : Segments → Bool → ℕ → Segments
+counted s marked segment =
+    record {
+      shown = pick marked 1 (s .shown);
+      least = min (s .least) segment;
+      greatest = max (s .greatest) segment;
+    }
+
+abbrev pub noSegments : Segments
+noSegments = record { shown = 0; least = LAST-SEGMENT; greatest = 0 }
+
+abbrev pub noRecords : Whole
+noRecords = record { n = 0; unaligned = 0; start = 0; segments = noSegments }
+
+-- the records that are read, with one more at this address
+unfoldable pub recordRead : Whole → ℕ → Bool → ℕ → Whole
+recordRead w addr marked segment =
+    pick (eqb (addr % 8) 0)
+    (record { n = w .n + 1; unaligned = w .unaligned; start = w .start + recordSize marked; segments = counted (w .segments) marked segment })
+    (record { n = w .n; unaligned = w .unaligned + 1; start = w .start + recordSize marked; segments = w .segments })
+
+-- how many they are. Where the next would start past the most bytes of a file, as a caller may have made up, they count as
+-- one more than a file may have
+unfoldable pub recordCount : Whole → ℕ
+recordCount w = pick (ltb MAX-FILE-BYTES (w .start)) (MAX-OPS + 1) (w .n + w .unaligned)
+
+-- ---- a reader
+-- after one more byte
 unfoldable pub stepOf : Cursor → ℕ → Cursor
 stepOf (cursor.Refused r) b = cursor.Refused r
-stepOf (cursor.Reading n k at addr) b =
-    pick (leb MAX-OPS (n + k))
+stepOf (cursor.Reading w p) b =
+    pick (leb MAX-OPS (recordCount w))
     (cursor.Refused (PastEnd (MAX-OPS + 1)))
-    (pick (wrong at b)
-    (cursor.Refused (BadRecord (RECORD-BYTES * (n + k))))
-    (pick (leb 417 at)
-    (pick (ltb LAST-ADDRESS addr) (cursor.Refused (HighAddress addr)) (recordRead n k addr))
-    (cursor.Reading n k (at + 1) (pick (inAddress at) (shifted addr b) addr))))
+    (pick (wrong (p .at) b)
+    (cursor.Refused (BadRecord (w .start)))
+    (pick (leb (recordSize (hasSegment p)) (p .at + 1))
+    (pick (ltb LAST-ADDRESS (p .addr))
+    (cursor.Refused (HighAddress (p .addr)))
+    (cursor.Reading (recordRead w (p .addr) (hasSegment p) (segmentBy (hasSegment p) (shifted (p .tail) b))) noneBegun))
+    (cursor.Reading w (taken p b))))
 
--- a reader after a piece of the file
+-- after a piece of the file
 unfoldable pub feedOf : Cursor → List ℕ → Cursor
 feedOf c [] = c
 feedOf c (b ∷ bs) = feedOf (stepOf c b) bs
 
--- the reader at the start of a file
+-- at the start of a file
 abbrev pub fileStart : Cursor
-fileStart = cursor.Reading 0 0 0 0
+fileStart = cursor.Reading noRecords noneBegun
 
--- whether a reader has met a fault
+-- whether it has met a fault
 abbrev pub isRefused : Cursor → Bool
 isRefused (cursor.Refused r) = true
-isRefused (cursor.Reading n k at addr) = false
+isRefused (cursor.Reading w p) = false
 
+-- ---- the end of the file
 -- what the padding rows of the round table of n operations send on AreBytes: in shipped mode those of an empty table
 -- too, "The four zero round rows then each send 220 AreBytes tuples.", and "The 880 of shipped mode becomes 220 times the
 -- floor."
@@ -72,8 +124,8 @@ paddingSum floor true n = (roundHeight 24 floor n - n * 24) * ARE-BYTES-PER-ROW
 paddingSum floor false n = padding-are-bytes 24 floor n
 
 -- the sums as they are computed (proofs/Totals.antt: `counts-are-sums`), of n operations, where `left` records are left out
-unfoldable pub countsOf : ℕ → Bool → ℕ → ℕ → Sums
-countsOf floor shipped n left =
+unfoldable pub countsOf : ℕ → Bool → ℕ → Segments → ℕ → Sums
+countsOf floor shipped n segments left =
     record {
       ops = n;
       «core_rows» = height floor n;
@@ -85,6 +137,7 @@ countsOf floor shipped n left =
       «is_wh» = 25 * n;
       memw = 26 * n;
       ecall = n;
+      segments = segments;
       unaligned = left;
     }
 
@@ -92,14 +145,14 @@ countsOf floor shipped n left =
 -- all the records that it may have
 unfoldable pub endOf : ℕ → Bool → Cursor → Tally
 endOf floor shipped (cursor.Refused r) = tally.Refused r
-endOf floor shipped (cursor.Reading n k at addr) =
-    pick (ltb MAX-OPS (n + k))
+endOf floor shipped (cursor.Reading w p) =
+    pick (ltb MAX-OPS (recordCount w))
     (tally.Refused (PastEnd (MAX-OPS + 1)))
-    (pick (eqb at 0)
-    (tally.Counted (countsOf floor shipped n k))
-    (pick (leb MAX-OPS (n + k))
+    (pick (eqb (p .at) 0)
+    (tally.Counted (countsOf floor shipped (w .n) (told (w .segments)) (w .unaligned)))
+    (pick (leb MAX-OPS (recordCount w))
     (tally.Refused (PastEnd (MAX-OPS + 1)))
-    (tally.Refused (BadRecord (RECORD-BYTES * (n + k))))))
+    (tally.Refused (BadRecord (w .start)))))
 
 -- the refusal of a check that comes first, or what is said where it passes
 abbrev pub checked : Option Refusal → Tally → Tally

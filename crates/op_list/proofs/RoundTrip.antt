@@ -1,140 +1,137 @@
 -- A list of operations that is written to a file and read back is the same list; a file without a fault that is read and
--- written again is the same file.
-use mathlib.Core.Bool.{true}
-use mathlib.Core.Option.{none}
-use mathlib.Mathlib.Data.Option.Basic.{orElse-eq-none}
-use Rattle.keccak.specs.Refusals.{opCount}
-use Prim.Native.Nat.{ℕ, zero, suc, _+_, _*_, _/_, _%_, _^_, _≤_, _<_}
+-- written again is the same file, where no record is marked 4B 50 for segment 0.
+use Prim.Native.Nat.{ℕ, _+_, _*_, _/_, _%_, _^_, _≤_, _<_}
 use mathlib.Core.Path.{_≡_, refl, sym, ap, _∙_, subst}
-use mathlib.Core.List.{List, [], _∷_}
+use mathlib.Core.Bool.{true}
+use mathlib.Core.List.{List, []}
+use mathlib.Core.Option.{none}
 use native.Mathlib.Omega.{arith}
-use lib.ListN.{length, drop, length-drop, take}
-use lib.Seq.{getD-drop, getD-take, drop-drop}
-use Rattle.lists.specs.Tab.{cellsOf, tab, tableOf, word}
-use Rattle.lists.proofs.Laws.{getD-tab, tab-same, list-tab, table-at}
-use Rattle.bits.proofs.Bytes.{lane-of-bytes}
+use lib.ListN.{length, drop, getD, take}
+use lib.Seq.{getD-drop, ext-getD}
+use Rattle.lists.specs.Tab.{tab, word}
+use Rattle.lists.proofs.Laws.{length-tab, getD-tab, tab-same, list-tab}
+use Rattle.lists.proofs.Then.{by-le}
 use Rattle.answer.specs.Refusal.{accepted}
 use Rattle.answer.proofs.Laws.{new-words}
-use Rattle.op_file.specs.File.{split, recordsOf, recordWord, operationWords, fileWords, isWhole, faultOf, firstFault}
+use Rattle.keccak.specs.Row.{OP-WORDS, SEGMENT-WORD, LAST-SEGMENT, opAt}
+use Rattle.keccak.specs.Refusals.{opCount, segmentAt}
+use Rattle.keccak.proofs.Refusals.{accepted-is}
+use Rattle.op_file.specs.File.{isMarked, sizeOf, recordsOf, bytesOf, segmentOf, recordWord, operationWords, recordsWords, fileWords, firstFault, startAt}
+use Rattle.op_file.proofs.Counted.{words-length, word-is}
+use Rattle.op_file.proofs.SegmentNumbers.{part-small}
+use Rattle.op_file.proofs.Starts.{Sized, each-whole, record-there, bytes-again, records-again}
 use Rattle.op_list.specs.Record.{recordBytes, wordsFrom, Record}
-use Rattle.op_list.proofs.RecordAgain.{word-of, written-byte, record-same, word-first, bytes-again}
-use Rattle.op_list.specs.Files.{readRefusal, readAfter, fileBytes, writeRefusal, writeAfter}
-use Rattle.op_list.proofs.Files.{file-length, words-length, file-whole, fault-whole}
+use Rattle.op_list.specs.Files.{readRefusal, readAfter, recordsFor, fileBytes, bytesFor, writeRefusal, writeAfter}
+use Rattle.op_list.proofs.RecordAgain.{record-sized, record-word, record-number, record-same, bytes-back}
+use Rattle.op_list.proofs.Files.{recordFor, file-length, list-length}
 
--- a list of n times 418 bytes has n records
-split-count : (k n : ℕ) (s : List ℕ) → length s ≡ n * 418 → length s ≤ k → length (split k s) ≡ n
-unfolding split
-split-count zero zero s e l = refl
-split-count zero (suc n) s e l = absurd (omega arith)
-split-count (suc k) zero [] e l = refl
-split-count (suc k) (suc n) [] e l = absurd (omega arith)
-split-count (suc k) zero (b ∷ s) e l = absurd (omega arith)
-split-count (suc k) (suc n) (b ∷ s) e l =
-    let d = length-drop 418 (b ∷ s) in
-    ap suc (split-count k n (drop 418 (b ∷ s)) (omega (arith, d, e)) (omega (arith, d, l)))
+-- ---- a list, written and read
+module _ (ops : List ℕ) (whole : length ops % OP-WORDS ≡ 0) (small : (k : ℕ) → word ops k < 2 ^ 64) (narrow : (i : ℕ) → i < opCount ops → segmentAt ops i ≤ LAST-SEGMENT) where
+  abbrev n : ℕ
+  n = opCount ops
 
-module _ (ops : List ℕ) (whole : length ops % 52 ≡ 0) (small : (k : ℕ) → word ops k < 2 ^ 64) where
-  records : length (recordsOf (fileBytes ops)) ≡ length ops / 52
-  unfolding recordsOf
-  records = split-count (length (fileBytes ops)) (length ops / 52) (fileBytes ops) (file-length ops) (omega arith)
+  written : (i : ℕ) → i < n → getD (recordsFor ops n) i [] ≡ recordFor ops i
+  written i l = getD-tab n (recordFor ops) i [] l
 
-  -- byte k of record i
-  byte-at : (i k : ℕ) → i < length ops / 52 → k < 418 → word (fileBytes ops) (i * 418 + k) ≡ word (recordBytes (wordsFrom ops (i * 52))) k
+  sized : Sized (recordsFor ops n)
+  sized i l =
+      let e = written i (omega (arith, length-tab n (recordFor ops))) in
+      ap length e ∙ record-sized (wordsFrom ops (i * OP-WORDS)) ∙ ap sizeOf (sym e)
+
+  records : recordsOf (fileBytes ops) ≡ recordsFor ops n
   unfolding fileBytes
-  byte-at i k hi hk = table-at (length ops / 52) 418 (λ i. recordBytes (wordsFrom ops (i * 52))) i k hi hk
+  records = records-again (recordsFor ops n) sized
 
-  -- word j of record i
-  word-at : (i j : ℕ) → i < length ops / 52 → j < 52 → recordWord (drop (i * 418) (fileBytes ops)) j ≡ word ops (i * 52 + j)
-  word-at i j hi hj =
-      let r : List ℕ = drop (i * 418) (fileBytes ops) in
-      word-of r j
-      ∙ lane-of-bytes (word ops (i * 52 + j)) (λ b. word r (2 + 8 * j + b)) (small (i * 52 + j))
-      (λ b hb.
-      getD-drop (i * 418) (fileBytes ops) (2 + 8 * j + b) 0
-      ∙ byte-at i (2 + 8 * j + b) hi (omega arith)
-      ∙ written-byte (wordsFrom ops (i * 52)) j b hj hb)
+  -- word j of operation i
+  number-low : (i : ℕ) → i < n → word ops (i * OP-WORDS + SEGMENT-WORD) ≤ LAST-SEGMENT
+  unfolding opAt
+  number-low i l =
+      let e : OP-WORDS * i + SEGMENT-WORD ≡ i * OP-WORDS + SEGMENT-WORD = omega arith in
+      subst (λ (k : ℕ). word ops k ≤ LAST-SEGMENT) e (narrow i l)
+
+  word-back : (i j : ℕ) → i < n → j < OP-WORDS → recordWord (recordFor ops i) j ≡ word ops (i * OP-WORDS + j)
+  word-back i j l h =
+      by-le SEGMENT-WORD j
+      (λ (m : SEGMENT-WORD ≤ j).
+      let e : SEGMENT-WORD ≡ j = omega arith in
+      subst (λ (k : ℕ). recordWord (recordFor ops i) k ≡ word ops (i * OP-WORDS + k)) e (record-number (wordsFrom ops (i * OP-WORDS)) (number-low i l)))
+      (λ (m : j < SEGMENT-WORD). record-word (wordsFrom ops (i * OP-WORDS)) j m (small (i * OP-WORDS + j)))
 
   pub list-again : fileWords (fileBytes ops) ≡ ops
-  unfolding fileWords tableOf operationWords
+  unfolding fileWords
   list-again =
-      ap (λ (m : ℕ). tab (m * 52) (cellsOf 52 (λ i. operationWords (drop (i * 418) (fileBytes ops))))) records
-      ∙ tab-same (length ops / 52 * 52) (cellsOf 52 (λ i. operationWords (drop (i * 418) (fileBytes ops)))) (word ops) each
-      ∙ sym (list-tab ops (length ops / 52 * 52) (omega (arith, whole)))
+      ap recordsWords records
+      ∙ list-tab (recordsWords (recordsFor ops n)) (length ops) long
+      ∙ tab-same (length ops) (word (recordsWords (recordsFor ops n))) (word ops) each
+      ∙ sym (list-tab ops (length ops) refl)
     where
-      each : (k : ℕ) → k < length ops / 52 * 52 → word (operationWords (drop (k / 52 * 418) (fileBytes ops))) (k % 52) ≡ word ops k
+      count : length (recordsFor ops n) ≡ n
+      count = length-tab n (recordFor ops)
+
+      long : length (recordsWords (recordsFor ops n)) ≡ length ops
+      long = words-length (recordsFor ops n) ∙ omega (arith, count, whole)
+
+      each : (k : ℕ) → k < length ops → word (recordsWords (recordsFor ops n)) k ≡ word ops k
       each k h =
-          let e : k / 52 * 52 + k % 52 ≡ k = omega arith in
-          getD-tab 52 (recordWord (drop (k / 52 * 418) (fileBytes ops))) (k % 52) 0 (omega arith)
-          ∙ word-at (k / 52) (k % 52) (omega arith) (omega arith)
+          let e : k / OP-WORDS * OP-WORDS + k % OP-WORDS ≡ k = omega arith in
+          let i : k / OP-WORDS < n = omega (arith, whole) in
+          ap (word (recordsWords (recordsFor ops n))) (sym e)
+          ∙ word-is (recordsFor ops n) (k / OP-WORDS) (k % OP-WORDS) (omega (arith, count)) (omega arith)
+          ∙ ap (λ (r : List ℕ). recordWord r (k % OP-WORDS)) (written (k / OP-WORDS) i)
+          ∙ word-back (k / OP-WORDS) (k % OP-WORDS) i (omega arith)
           ∙ ap (word ops) e
 
-  -- of what `write_operations` leaves, where it is accepted
-  pub list-left : (file : List ℕ) → writeRefusal (length file) ops ≡ accepted → fileWords (take (opCount ops * 418) (writeAfter ops file)) ≡ ops
-  list-left file passed =
-      ap fileWords (subst (λ (n : ℕ). take n (writeAfter ops file) ≡ fileBytes ops) (file-length ops) (new-words (fileBytes ops) file passed)) ∙ list-again
+-- of what `write_operations` leaves, where it is accepted
+pub list-left : (ops file : List ℕ) → ((k : ℕ) → word ops k < 2 ^ 64) → writeRefusal (length file) ops ≡ accepted →
+    fileWords (take (bytesFor ops (opCount ops)) (writeAfter ops file)) ≡ ops
+unfolding writeRefusal
+list-left ops file small passed =
+    let ok = accepted-is (length file) (bytesFor ops (opCount ops)) ops .0 passed in
+    ap fileWords (subst (λ (n : ℕ). take n (writeAfter ops file) ≡ fileBytes ops) (file-length ops) (new-words (fileBytes ops) file passed))
+    ∙ list-again ops (ok .whole) small (ok .segments)
 
--- each record of a file without a fault is whole
-split-at : (k i at m : ℕ) (s : List ℕ) → length s ≤ k → firstFault i at (split k s) ≡ none → m < length (split k s)
-    → isWhole (take 418 (drop (m * 418) s)) ≡ true
-unfolding split firstFault
-split-at zero i at m s l e h = absurd (omega arith)
-split-at (suc k) i at m [] l e h = absurd (omega arith)
-split-at (suc k) i at zero (b ∷ s) l e h = fault-whole i at (take 418 (b ∷ s)) (orElse-eq-none (faultOf i at (take 418 (b ∷ s))) _ .0 e .0)
-split-at (suc k) i at (suc m) (b ∷ s) l e h =
-    let r : List ℕ = take 418 (b ∷ s) in
-    let q : 418 + m * 418 ≡ suc m * 418 = omega arith in
-    let d = length-drop 418 (b ∷ s) in
-    ap (λ (t : List ℕ). isWhole (take 418 t)) (ap (λ (x : ℕ). drop x (b ∷ s)) (sym q) ∙ sym (drop-drop (m * 418) 418 (b ∷ s)))
-    ∙ split-at k (i + 1) (at + length r) m (drop 418 (b ∷ s)) (omega (arith, d)) (orElse-eq-none (faultOf i at r) _ .0 e .1) (omega arith)
+-- a list of records is the table of its elements
+records-tab : (rs : List (List ℕ)) → rs ≡ tab (length rs) (λ i. getD rs i [])
+records-tab rs = ext-getD [] rs (tab (length rs) (λ i. getD rs i [])) (sym (length-tab (length rs) (λ i. getD rs i []))) (λ i h. sym (getD-tab (length rs) (λ i. getD rs i []) i [] h))
 
-module _ (file : List ℕ) (right : firstFault 0 0 (recordsOf file) ≡ none) (small : (k : ℕ) → word file k < 256) where
-  abbrev count : ℕ
-  count = length (recordsOf file)
+-- ---- a file, read and written
+module _ (file : List ℕ) (right : firstFault 0 0 (recordsOf file) ≡ none) (small : (k : ℕ) → word file k < 256)
+    (above : (i : ℕ) → i < length (recordsOf file) → isMarked (getD (recordsOf file) i []) ≡ true → 0 < segmentOf (getD (recordsOf file) i [])) where
+  abbrev recordOf : ℕ → List ℕ
+  recordOf i = getD (recordsOf file) i []
 
-  record-at : (i : ℕ) → i < count → Record (take 418 (drop (i * 418) file))
-  unfolding recordsOf
-  record-at i h =
+  record-at : (i : ℕ) → i < length (recordsOf file) → Record (recordOf i)
+  record-at i l =
       record {
-        whole = split-at (length file) 0 0 i file (omega arith) right h;
-        bytes = λ k l. subst (λ (v : ℕ). v < 256) (sym (getD-take 418 (drop (i * 418) file) k 0 l ∙ getD-drop (i * 418) file k 0)) (small (i * 418 + k));
+        whole = each-whole 0 0 (recordsOf file) right i l;
+        bytes = λ k. subst (λ (r : List ℕ). word r k < 256) (sym (record-there file i l))
+            (part-small (sizeOf (drop (startAt (recordsOf file) i) file)) (drop (startAt (recordsOf file) i) file) later k);
       }
-
-  -- word j of record i in the list
-  list-word : (i j : ℕ) → i < count → j < 52 → word (fileWords file) (i * 52 + j) ≡ recordWord (take 418 (drop (i * 418) file)) j
-  unfolding fileWords operationWords
-  list-word i j hi hj =
-      table-at count 52 (λ i. tab 52 (recordWord (drop (i * 418) file))) i j hi hj
-      ∙ getD-tab 52 (recordWord (drop (i * 418) file)) j 0 hj
-      ∙ word-first (drop (i * 418) file) j hj
+    where
+      later : (k : ℕ) → word (drop (startAt (recordsOf file) i) file) k < 256
+      later k = subst (λ (v : ℕ). v < 256) (sym (getD-drop (startAt (recordsOf file) i) file k 0)) (small (startAt (recordsOf file) i + k))
 
   -- record i of what is written for the list
-  file-record : (i : ℕ) → i < count → recordBytes (wordsFrom (fileWords file) (i * 52)) ≡ take 418 (drop (i * 418) file)
-  file-record i h =
-      record-same (wordsFrom (fileWords file) (i * 52)) (recordWord (take 418 (drop (i * 418) file))) (λ j hj. list-word i j h hj)
-      ∙ bytes-again (take 418 (drop (i * 418) file)) (record-at i h)
+  file-record : (i : ℕ) → i < length (recordsOf file) → recordFor (fileWords file) i ≡ recordOf i
+  unfolding fileWords
+  file-record i l =
+      record-same (wordsFrom (fileWords file) (i * OP-WORDS)) (recordWord (recordOf i)) (λ j h. word-is (recordsOf file) i j l h)
+      ∙ bytes-back (recordOf i) (record-at i l) (above i l)
 
-  operations : opCount (fileWords file) ≡ count
-  operations = ap (λ (m : ℕ). m / 52) (words-length file) ∙ quotient count
+  operations : opCount (fileWords file) ≡ length (recordsOf file)
+  operations = ap (λ (m : ℕ). m / OP-WORDS) (list-length file) ∙ quotient (length (recordsOf file))
     where
-      quotient : (m : ℕ) → m * 52 / 52 ≡ m
+      quotient : (m : ℕ) → m * OP-WORDS / OP-WORDS ≡ m
       quotient m = omega arith
 
   pub file-again : fileBytes (fileWords file) ≡ file
-  unfolding fileBytes tableOf
+  unfolding fileBytes
   file-again =
-      ap (λ (m : ℕ). tab (m * 418) (cellsOf 418 (λ i. recordBytes (wordsFrom (fileWords file) (i * 52))))) operations
-      ∙ tab-same (count * 418) (cellsOf 418 (λ i. recordBytes (wordsFrom (fileWords file) (i * 52)))) (word file) each
-      ∙ sym (list-tab file (count * 418) (file-whole file right))
-    where
-      each : (k : ℕ) → k < count * 418 → word (recordBytes (wordsFrom (fileWords file) (k / 418 * 52))) (k % 418) ≡ word file k
-      each k h =
-          let e : k / 418 * 418 + k % 418 ≡ k = omega arith in
-          ap (λ (r : List ℕ). word r (k % 418)) (file-record (k / 418) (omega arith))
-          ∙ getD-take 418 (drop (k / 418 * 418) file) (k % 418) 0 (omega arith)
-          ∙ getD-drop (k / 418 * 418) file (k % 418) 0
-          ∙ ap (word file) e
+      ap (λ (m : ℕ). bytesOf (recordsFor (fileWords file) m)) operations
+      ∙ ap bytesOf (tab-same (length (recordsOf file)) (recordFor (fileWords file)) recordOf file-record ∙ sym (records-tab (recordsOf file)))
+      ∙ bytes-again file
 
   -- of what `read_operations` leaves, where it is accepted
-  pub file-left : (ops : List ℕ) → readRefusal file (length ops) ≡ accepted → fileBytes (take (length (recordsOf file) * 52) (readAfter file ops)) ≡ file
+  pub file-left : (ops : List ℕ) → readRefusal file (length ops) ≡ accepted → fileBytes (take (length (recordsOf file) * OP-WORDS) (readAfter file ops)) ≡ file
   file-left ops passed =
-      ap fileBytes (subst (λ (n : ℕ). take n (readAfter file ops) ≡ fileWords file) (words-length file) (new-words (fileWords file) ops passed)) ∙ file-again
+      ap fileBytes (subst (λ (n : ℕ). take n (readAfter file ops) ≡ fileWords file) (list-length file) (new-words (fileWords file) ops passed)) ∙ file-again

@@ -1,9 +1,16 @@
 // The operation file read in pieces: where a reader stands after each.
 use answer::MAX_OPS;
+use keccak::LAST_SEGMENT;
+use op_file::Begun;
 use op_file::Cursor;
 use op_file::RECORD_BYTES;
+use op_file::SEGMENT_MARK;
+use op_file::Segments;
+use op_file::Whole;
 use step::byte;
+use step::none_begun;
 use step::read_record;
+use step::record_size;
 pub use step::records_read;
 ghost use mathlib.Core.Path.{_≡_};
 ghost use Prim.Native.Nat.{_<_, _≤_};
@@ -15,12 +22,18 @@ pub mod step;
 pub fn start() -> Cursor
     ensures { λ r. ⌜ r ≡ fileStart ⌝ }
 {
-    Cursor::Reading {
+    let segments = Segments {
+        shown: 0,
+        least: LAST_SEGMENT,
+        greatest: 0,
+    };
+    let w = Whole {
         n: 0,
         unaligned: 0,
-        at: 0,
-        addr: 0,
-    }
+        start: 0,
+        segments,
+    };
+    Cursor::Reading(w, none_begun())
 }
 
 fn least(a: usize, b: usize) -> usize
@@ -37,35 +50,41 @@ struct Part {
 
 // Reads on in a piece that is not empty: a whole record at once, or what follows the address of a record that the
 // piece's end splits, or else one byte.
-fn advance(n: u64, unaligned: u64, at: usize, addr: u64, s: &[u8]) -> Part
+fn advance(w: Whole, p: Begun, s: &[u8]) -> Part
     requires { ⌜ 0 < length (now s) ⌝ }
-    ensures { λ r. ⌜ Advanced (Cursor.Reading n unaligned at addr) (now (s .entry)) (r .cursor) (r .used) ⌝ }
+    ensures { λ r. ⌜ Advanced (Cursor.Reading w p) (now (s .entry)) (r .cursor) (r .used) ⌝ }
 {
-    if records_read(n, unaligned) < MAX_OPS {
+    if records_read(w) < MAX_OPS {
+        let at = p.at;
         if at == 0 {
             if s.len() >= RECORD_BYTES {
-                return Part {
-                    cursor: read_record(n, unaligned, &s[..RECORD_BYTES]),
-                    used: RECORD_BYTES,
-                };
+                let marked = s[1] == SEGMENT_MARK;
+                let size = record_size(marked);
+                if s.len() >= size {
+                    return Part {
+                        cursor: read_record(w, marked, &s[..size]),
+                        used: size,
+                    };
+                }
             }
         } else if at >= 18 {
-            if at < 417 {
-                let k = least(417 - at, s.len());
+            if at < RECORD_BYTES - 1 {
+                let k = least(RECORD_BYTES - 1 - at, s.len());
+                let q = Begun {
+                    at: at + k,
+                    mark: p.mark,
+                    addr: p.addr,
+                    tail: p.tail,
+                };
                 return Part {
-                    cursor: Cursor::Reading {
-                        n,
-                        unaligned,
-                        at: at + k,
-                        addr,
-                    },
+                    cursor: Cursor::Reading(w, q),
                     used: k,
                 };
             }
         }
     }
     Part {
-        cursor: byte(n, unaligned, at, addr, s[0]),
+        cursor: byte(w, p, s[0]),
         used: 1,
     }
 }
@@ -81,13 +100,8 @@ pub fn feed(c: Cursor, chunk: &[u8]) -> Cursor
             Cursor::Refused(refusal) => {
                 return Cursor::Refused(refusal);
             }
-            Cursor::Reading {
-                n,
-                unaligned,
-                at,
-                addr,
-            } => {
-                let a = advance(n, unaligned, at, addr, &chunk[i..]);
+            Cursor::Reading(w, p) => {
+                let a = advance(w, p, &chunk[i..]);
                 now = a.cursor;
                 i += a.used;
             }
@@ -101,12 +115,7 @@ pub fn is_refused(c: Cursor) -> bool
     ensures { λ r. ⌜ r ≡ isRefused c ⌝ }
 {
     match c {
-        Cursor::Refused(refusal) => true,
-        Cursor::Reading {
-            n,
-            unaligned,
-            at,
-            addr,
-        } => false,
+        Cursor::Refused(_) => true,
+        Cursor::Reading(_, _) => false,
     }
 }

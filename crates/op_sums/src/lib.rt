@@ -6,7 +6,7 @@ use answer::check_floor;
 use keccak_rnd::ARE_BYTES_PER_ROW;
 use keccak_rnd::ROUNDS;
 use op_file::Cursor;
-use op_file::RECORD_BYTES;
+use op_file::Segments;
 use op_file::Sums;
 use op_file::Tally;
 use op_reader::records_read;
@@ -14,6 +14,7 @@ use operations::table_height;
 ghost use mathlib.Core.Path.{_≡_};
 ghost use Prim.Native.Nat.{ℕ, _*_, _^_, _<_, _≤_};
 ghost use Rattle.keccak_rnd.specs.Row.{roundHeight};
+ghost use Rattle.op_file.specs.File.{told};
 ghost use Rattle.op_file.specs.Reader.{paddingSum, countsOf, endOf, finishOf};
 
 // What the padding rows of a round table of `rows` rows send; those of an empty one only where it is shipped.
@@ -31,10 +32,24 @@ fn padding(shipped: bool, n: u64, rows: u64) -> u64
     sent
 }
 
-// The sums of n operations, where `left` records are left out.
-fn sum_up(floor: usize, shipped: bool, n: u64, left: u64) -> Sums
+// What is told of the segment numbers: both, or nothing.
+fn tell(s: Segments) -> Segments
+    ensures { λ r. ⌜ r ≡ told s ⌝ }
+{
+    if s.shown == 0 {
+        return Segments {
+            shown: 0,
+            least: 0,
+            greatest: 0,
+        };
+    }
+    s
+}
+
+// The sums of n operations with these segment numbers, where `left` records are left out.
+fn sum_up(floor: usize, shipped: bool, n: u64, segments: Segments, left: u64) -> Sums
     requires { ⌜ (floor ≤ 65536) × (n ≤ 89478485) ⌝ }
-    ensures { λ r. ⌜ r ≡ countsOf floor shipped n left ⌝ }
+    ensures { λ r. ⌜ r ≡ countsOf floor shipped n segments left ⌝ }
 {
     let core_rows = table_height(floor, n as usize);
     let round_rows = table_height(floor, n as usize * ROUNDS) as u64;
@@ -49,6 +64,7 @@ fn sum_up(floor: usize, shipped: bool, n: u64, left: u64) -> Sums
         is_wh: 25 * n,
         memw: 26 * n,
         ecall: n,
+        segments,
         unaligned: left,
     }
 }
@@ -60,23 +76,19 @@ fn ended(floor: usize, shipped: bool, c: Cursor) -> Tally
 {
     match c {
         Cursor::Refused(refusal) => Tally::Refused(refusal),
-        Cursor::Reading {
-            n,
-            unaligned,
-            at,
-            addr,
-        } => {
-            let records = records_read(n, unaligned);
+        Cursor::Reading(w, p) => {
+            let records = records_read(w);
             if records > MAX_OPS {
                 return Tally::Refused(Refusal::PastEnd(MAX_OPS + 1));
             }
-            if at == 0 {
-                return Tally::Counted(sum_up(floor, shipped, n, unaligned));
+            if p.at == 0 {
+                let segments = w.segments;
+                return Tally::Counted(sum_up(floor, shipped, w.n, tell(segments), w.unaligned));
             }
             if records >= MAX_OPS {
                 return Tally::Refused(Refusal::PastEnd(MAX_OPS + 1));
             }
-            Tally::Refused(Refusal::BadRecord((RECORD_BYTES as u64) * records))
+            Tally::Refused(Refusal::BadRecord(w.start))
         }
     }
 }

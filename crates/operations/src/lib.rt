@@ -4,14 +4,17 @@ pub use checks::check_operations;
 pub use heights::table_height;
 use keccak::KeccakOperation;
 use keccak::OP_WORDS;
+use keccak::SEGMENT_WORD;
 ghost use mathlib.Core.Path.{_≡_};
 ghost use Prim.Native.Nat.{_+_, _*_, _≤_};
 ghost use lib.ListN.{length, getD};
 ghost use Rattle.lists.specs.Tab.{tab};
-ghost use Rattle.keccak.specs.Row.{OP-WORDS, opAt};
+ghost use Rattle.keccak.specs.Row.{OP-WORDS, LAST-SEGMENT, opAt};
+ghost use Rattle.keccak.specs.Refusals.{segmentAt};
 
 pub mod checks;
 pub mod heights;
+pub mod words;
 
 // 25 words of a list, from `at`.
 pub fn lanes_at(ops: &[u64], at: usize) -> [u64; 25]
@@ -29,7 +32,7 @@ pub fn lanes_at(ops: &[u64], at: usize) -> [u64; 25]
 
 // Operation i of a flat list.
 pub fn operation_at(ops: &[u64], i: usize) -> KeccakOperation
-    requires { ⌜ OP-WORDS * i + OP-WORDS ≤ length (now ops) ⌝ }
+    requires { ⌜ (OP-WORDS * i + OP-WORDS ≤ length (now ops)) × (segmentAt (now ops) i ≤ LAST-SEGMENT) ⌝ }
     ensures { λ r. ⌜ r ≡ opAt (now (ops .entry)) i ⌝ }
 {
     let at = OP_WORDS * i;
@@ -40,5 +43,6 @@ pub fn operation_at(ops: &[u64], i: usize) -> KeccakOperation
         state_addr: ops[at + 1],
         input,
         output,
+        segment: ops[at + SEGMENT_WORD] as u32,
     }
 }

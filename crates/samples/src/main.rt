@@ -4,6 +4,8 @@
 use field::Fe;
 use flat::FlatTuple;
 use is_wh::IsWhKey;
+use keccak::OP_WORDS;
+use keccak::SEGMENT_WORD;
 use keccak_tables::evaluators::keccak_tables_keccak_bus_interaction;
 use keccak_tables::evaluators::keccak_tables_keccak_rnd_bus_interaction;
 use keccak_tables::evaluators::keccak_tables_keccak_rnd_values;
@@ -14,8 +16,9 @@ use keccak_tables::lookups::keccak_tables_keccak_rc_bus_interaction;
 use libc::STDOUT_FILENO;
 use lists::put_words;
 use permutation::State;
-ghost use Prim.Native.Nat.{_+_, _≤_, _<_};
+ghost use Prim.Native.Nat.{_+_, _*_, _≤_, _<_};
 ghost use lib.ListN.{length};
+ghost use Rattle.keccak.specs.Row.{OP-WORDS};
 
 const FACTOR: u64 = 6364136223846793005;
 
@@ -119,10 +122,10 @@ fn permuted(input: [u64; 25]) -> [u64; 25] {
     output.lanes
 }
 
-// An operation of 52 words from `at` on, drawn after a word: timestamp, address, of which bits 3 to 47 are kept, and
-// input; its output is the permuted input. Answers the last word drawn.
+// An operation from `at` on, drawn after a word: timestamp, address, of which bits 3 to 47 are kept, and input; its
+// output is the permuted input, its segment number the lower half of the timestamp. Answers the last word drawn.
 fn put_operation(ops: &mut [u64], at: usize, before: u64) -> u64
-    requires { ⌜ at + 52 ≤ length (now ops) ⌝ }
+    requires { ⌜ at + OP-WORDS ≤ length (now ops) ⌝ }
 {
     let timestamp = next_word(before);
     let address = next_word(timestamp);
@@ -133,15 +136,16 @@ fn put_operation(ops: &mut [u64], at: usize, before: u64) -> u64
     put_words(ops, at, &head, 2);
     put_words(ops, at + 2, &input, 25);
     put_words(ops, at + 27, &output, 25);
+    put_words(ops, at + SEGMENT_WORD, &[timestamp % 4294967296], 1);
     last
 }
 
 fn put_operations(ops: &mut [u64])
-    requires { ⌜ 260 ≤ length (now ops) ⌝ }
+    requires { ⌜ 5 * OP-WORDS ≤ length (now ops) ⌝ }
 {
     let mut word: u64 = 2;
     for k in 0..5 {
-        word = put_operation(ops, 52 * k, word);
+        word = put_operation(ops, OP_WORDS * k, word);
     }
 }
 
@@ -155,18 +159,18 @@ fn core_rows(ops: &[u64]) {
 }
 
 fn round_rows(ops: &[u64])
-    requires { ⌜ 104 ≤ length (now ops) ⌝ }
+    requires { ⌜ 2 * OP-WORDS ≤ length (now ops) ⌝ }
 {
     let mut table = [0u64; 94720];
-    keccak_rnd_trace::generate_keccak_rnd_trace(ROUNDS, FLOOR, &ops[..104], &mut table);
+    keccak_rnd_trace::generate_keccak_rnd_trace(ROUNDS, FLOOR, &ops[..2 * OP_WORDS], &mut table);
     print_digests(17, &table, 1480);
 }
 
 // Five operations: their words, their keys, their core table, and of the first two the round table's digests.
 fn operations() {
-    let mut ops = [0u64; 260];
+    let mut ops = [0u64; 5 * OP_WORDS];
     put_operations(&mut ops);
-    print_rows(9, &ops, 52);
+    print_rows(9, &ops, OP_WORDS);
     core_rows(&ops);
     round_rows(&ops);
 }
@@ -351,7 +355,7 @@ fn core_evaluations(ops: &[u64]) {
 
 // The round table of an operation of its own, and two rows of drawn words.
 fn round_evaluations() {
-    let mut ops = [0u64; 52];
+    let mut ops = [0u64; OP_WORDS];
     put_operation(&mut ops, 0, 4);
     let mut rows = [0u64; 50320];
     keccak_rnd_trace::generate_keccak_rnd_trace(ROUNDS, FLOOR, &ops, &mut rows);
@@ -362,7 +366,7 @@ fn round_evaluations() {
 }
 
 fn evaluations() {
-    let mut ops = [0u64; 260];
+    let mut ops = [0u64; 5 * OP_WORDS];
     put_operations(&mut ops);
     core_evaluations(&ops);
     round_evaluations();

@@ -7,5 +7,6 @@ pub mod Stays
 pub mod Rows
 pub mod Padding
 pub mod Segments
+pub mod SegmentNumbers
 pub mod Refusals
 pub mod Looking

@@ -19,6 +19,7 @@ use Rattle.answer.proofs.Overwrite.{over-new, left}
 use Rattle.bitwise.specs.Columns.{NUM-ROWS, NUM-COUNTERS}
 use Rattle.bitwise.specs.Charge.{chargedWords, chargedCounters, chargedKind}
 use Rattle.bitwise.proofs.Charged.{charged-at}
+use Rattle.keccak.proofs.Refusals.{other-room}
 use Rattle.segment_counts.specs.Segment.{listCharged, chargeRefusal, chargeAfter, largest, LOOK-WORDS, lookWords, lookRefusal, lookCopyAfter, lookOutAfter}
 use Rattle.segment_counts.proofs.Accepted.{charge-accepted, look-refused}
 
@@ -71,7 +72,7 @@ module _ (nr floor : ℕ) (shipped : Bool) (ops counters copy out : List ℕ) (r
           a .0,
           a .1,
           a .2,
-          record { few = a .3 .few; whole = a .3 .whole; long = far; low = a .3 .low; aligned = a .3 .aligned },
+          other-room (a .3) (length copied) NUM-COUNTERS far,
           record { long = far; below = λ c l. subst (λ (n : ℕ). n < p) (sym (copied-at c l)) (a .4 .below c l) },
         )
 

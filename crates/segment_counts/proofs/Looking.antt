@@ -22,7 +22,7 @@ use Rattle.answer.proofs.Laws.{sets-overwrite}
 use Rattle.answer.proofs.Overwrite.{over-new, over-length}
 use Rattle.bitwise.specs.Columns.{NUM-ROWS, NUM-COUNTERS}
 use Rattle.bitwise.specs.Charge.{chargedWords, chargedCounters, chargedKind}
-use Rattle.keccak.specs.Row.{opAt}
+use Rattle.keccak.specs.Row.{OP-WORDS, opAt}
 use Rattle.keccak.specs.Refusals.{opCount}
 use Rattle.keccak_rnd.specs.Row.{roundHeight}
 use Rattle.segment_counts.specs.Segment.{sentRows, listCharged, largest, lookWords}
@@ -39,7 +39,15 @@ sums-listed nr floor shipped n s e = ap (λ (k : ℕ). 0 ∷ 0 ∷ 0 ∷ (4 * n 
 -- the input lanes of operations are words
 pub op-lanes : (ops : List ℕ) → ((k : ℕ) → word ops k < 2 ^ 64) → (i : ℕ) → Lanes (opAt ops i .input)
 unfolding opAt
-op-lanes ops h i j l = subst (λ (n : ℕ). n < 2 ^ 64) (sym (getD-tab 25 (λ k. word ops (52 * i + 2 + k)) j 0 l)) (h (52 * i + 2 + j))
+op-lanes ops h i j l = subst (λ (n : ℕ). n < 2 ^ 64) (sym (getD-tab 25 (λ k. word ops (OP-WORDS * i + 2 + k)) j 0 l)) (h (OP-WORDS * i + 2 + j))
+
+-- what is computed of a list is what its rows add
+module _ (nr floor : ℕ) (few : nr ≤ 24) (shipped : Bool) (ops : List ℕ) (small : (k : ℕ) → word ops k < 2 ^ 64) where
+  pub sums-charged : (sums : List ℕ) → sums ≡ tab 10 (kindSum nr floor shipped (opCount ops)) → (k : ℕ) → k < 10 → word sums k ≡ chargedKind (listCharged nr floor shipped ops) k
+  sums-charged sums e k l =
+      ap (λ (w : List ℕ). word w k) e
+      ∙ getD-tab 10 (kindSum nr floor shipped (opCount ops)) k 0 l
+      ∙ sym (kind-sums-at shipped (opCount ops) (opAt ops) (λ i _. op-lanes ops small i) nr floor few k l)
 
 -- ---- the words of the answer
 module _ (sums most : List ℕ) (j : ℕ) where
@@ -147,10 +155,7 @@ module _ (nr floor : ℕ) (few : nr ≤ 24) (shipped : Bool) (ops counters copy 
       ∙ sets-overwrite out (tab 20 (lookWord sums most)) (subst (λ (n : ℕ). n ≤ length out) (sym (length-tab 20 (lookWord sums most))) room)
       ∙ ap (λ (w : List ℕ). overwrite w out)
       (tab-same 20 (lookWord sums most) (λ j. pick (eqb (j % 2) 0) (chargedKind f (j / 2)) (largest (chargedWords counters f) (j / 2)))
-      (λ j l. ap₂ (λ (a b : ℕ). pick (eqb (j % 2) 0) a b) (sum (j / 2) (omega arith)) (top (j / 2) (omega arith))))
+      (λ j l. ap₂ (λ (a b : ℕ). pick (eqb (j % 2) 0) a b) (sums-charged nr floor few shipped ops small sums es (j / 2) (omega arith)) (top (j / 2) (omega arith))))
     where
-      sum : (k : ℕ) → k < 10 → word sums k ≡ chargedKind f k
-      sum k l = ap (λ (w : List ℕ). word w k) es ∙ getD-tab 10 (kindSum nr floor shipped (opCount ops)) k 0 l ∙ sym (kind-sums-at shipped (opCount ops) (opAt ops) (λ i _. op-lanes ops small i) nr floor few k l)
-
       top : (k : ℕ) → k < 10 → word most k ≡ largest (chargedWords counters f) k
       top k l = ap (λ (w : List ℕ). word w k) em ∙ getD-tab 10 (largest C) k 0 l ∙ ap (λ (w : List ℕ). largest w k) ec ∙ copy-largest counters copy long f k l

@@ -34,6 +34,7 @@ use Rattle.keccak.proofs.Table.{core-row-op, core-row-pad}
 use Rattle.keccak_rnd.specs.Row.{opRow, roundPad, roundHeight, roundRowAt}
 use Rattle.keccak_rnd.specs.Tuples.{roundTuple}
 use Rattle.keccak_rnd.proofs.Table.{round-row-op, round-row-pad}
+use Rattle.keccak.proofs.Refusals.{other-room}
 use Rattle.segment_counts.specs.Segment.{sentRows, segmentCharged, listCharged, chargeRefusal, chargeAfter}
 use Rattle.segment_counts.specs.Orders.{operationCharged, paddingCharged, chargedEach}
 use Rattle.segment_counts.proofs.Sums.{rows-sent}
@@ -130,8 +131,7 @@ module _ (nr nr′ floor floor′ : ℕ) (shipped shipped′ : Bool) (ops ops′
   pub charge-next : (Z : List ℕ) → chargeRefusal nr′ floor′ ops′ Z ≡ accepted → chargeRefusal nr′ floor′ ops′ (chargeAfter nr floor shipped ops C) ≡ accepted
   charge-next Z second =
       let b = charge-accepted nr′ floor′ ops′ Z .0 second in
-      let a = b .3 in
-      charge-accepted nr′ floor′ ops′ (chargeAfter nr floor shipped ops C) .1 (b .0, b .1, b .2, record { few = a .few; whole = a .whole; long = elements .long; low = a .low; aligned = a .aligned }, elements)
+      charge-accepted nr′ floor′ ops′ (chargeAfter nr floor shipped ops C) .1 (b .0, b .1, b .2, other-room (b .3) (length (chargeAfter nr floor shipped ops C)) NUM-COUNTERS (elements .long), elements)
 
   twice : (Z : List ℕ) → chargeRefusal nr′ floor′ ops′ Z ≡ accepted
       → chargeAfter nr′ floor′ shipped′ ops′ (chargeAfter nr floor shipped ops C) ≡ chargedCounters (chargedCounters C (listCharged nr floor shipped ops)) (listCharged nr′ floor′ shipped′ ops′)

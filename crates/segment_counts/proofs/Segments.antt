@@ -1,16 +1,18 @@
 -- The counters after both tables: the operations' core rows, their round rows, and the padding rows at once.
 use mathlib.Core.Bool.{Bool, true, false, not, _&&_}
-use mathlib.Core.List.{List}
+use mathlib.Core.List.{List, []}
 use mathlib.Core.Logic.{_⊎_, inl, inr}
 use mathlib.Core.Path.{_≡_, refl, sym, ap, ap₂, subst, _∙_}
 use Prim.Native.Nat.{ℕ, _+_, _-_, _*_, _/_, _%_, _^_, _≤_}
-use native.Mathlib.Nat.{add-assoc, zero-mul}
+use native.Mathlib.Nat.{add-assoc, zero-add, zero-mul}
 use native.Mathlib.Omega.{arith}
 use borrow.Author.Tests.{eq-eqb, ne-eqb}
 use lib.Dec.{eqb}
 use lib.ListN.{length}
 use Rattle.lists.specs.Tab.{pick}
+use Rattle.lists.specs.Sum.{sumBelow}
 use Rattle.answer.specs.Limits.{MAX-OPS}
+use Rattle.answer.specs.Refusal.{PowerFloor}
 use Rattle.bitwise.specs.Columns.{NUM-COUNTERS}
 use Rattle.bitwise.specs.Counters.{charge}
 use Rattle.bitwise.specs.Charge.{charged, chargedCounters}
@@ -25,6 +27,7 @@ use Rattle.keccak_rnd.specs.Row.{opRow, roundHeight}
 use Rattle.keccak_rnd.specs.Tuples.{roundTuple}
 use Rattle.keccak_rnd.proofs.Rows.{few-rows}
 use Rattle.segment_counts.specs.Segment.{sentRows, segmentCharged, listCharged}
+use Rattle.segment_counts.proofs.Sums.{empty-sent, no-rows}
 use Rattle.segment_counts.proofs.Orders.{sent-ge}
 use Rattle.segment_counts.proofs.Padding.{core-rows, round-rows}
 
@@ -89,3 +92,14 @@ module _ (nr floor : ℕ) (shipped : Bool) (ops : List ℕ) where
       let a₃ : Added C₀ (F s) C₃ = subst (Added C₀ (F s)) (sym e₃) (added-one a₂ 3 (220 * (s - n * nr)) long (omega arith)) in
       let a₄ : Added C₀ (F (sentRows shipped n (roundHeight nr floor n))) C₃ = subst (λ (m : ℕ). Added C₀ (F m) C₃) es a₃ in
       added-all (added-same a₄ (λ c _. sym (list-adds c))) long
+
+-- "An empty list charges none, in shipped mode 880 AreBytes": those of 0 and 0, so that one counter grows
+pub empty-counter : (nr floor : ℕ) → PowerFloor floor → (c : ℕ) → listCharged nr floor true [] c ≡ pick (eqb c 3) (220 * floor) 0
+unfolding charged sumBelow
+empty-counter nr floor power c =
+    let rounds : ℕ → ℕ = λ m. charged m 1031 (λ q. roundTuple (opRow nr (opAt [] (q / nr)) (q % nr))) c in
+    let e : sentRows true 0 (height floor 0) - 0 ≡ floor = omega (arith, empty-sent (height floor 0) .0, no-rows floor power) in
+    list-adds nr floor true [] c
+    ∙ ap (λ (m : ℕ). 0 + rounds m + pick (eqb c 3) (220 * (sentRows true 0 (height floor m) - m)) 0) (zero-mul nr)
+    ∙ ap (λ (h : ℕ). 0 + 0 + pick (eqb c 3) (220 * h) 0) e
+    ∙ zero-add (pick (eqb c 3) (220 * floor) 0)

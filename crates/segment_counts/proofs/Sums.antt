@@ -176,7 +176,7 @@ unfolding segmentCharged sentRows charged sumBelow
 empty-none nr floor op c = refl
 
 -- the height of no rows
-no-rows : (floor : ℕ) → PowerFloor floor → height floor 0 ≡ floor
+pub no-rows : (floor : ℕ) → PowerFloor floor → height floor 0 ≡ floor
 unfolding next-power-of-two doubled
 no-rows floor h = sym (height-below 0 refl (omega (arith, floor-least floor h)))
 

@@ -5,24 +5,14 @@ use mathlib.Core.List.{List}
 use mathlib.Core.Option.{Option}
 use lib.Dec.{eqb, ltb}
 use Rattle.lists.specs.Tab.{pick, word}
-use Rattle.field.specs.Elements.{firstNotElement}
-use Rattle.answer.specs.Refusal.{refuseAt, accepted, tooShort, notRounds, notFloor}
+use Rattle.answer.specs.Refusal.{tooShort, notRounds, notFloor}
 use Rattle.answer.specs.declared.Refusal.{Refusal}
-use Rattle.answer.specs.declared.Refusal.the-variants.{NotElement}
-use Rattle.bitwise.specs.Columns.{NUM-COUNTERS}
-use Rattle.keccak.specs.Refusals.{tooMany, notWhole, badAddress}
+use Rattle.segment_counts.specs.Segment.{segmentRefusal}
 
 -- the checks, with a slice of `room` words of which `needed` are needed
 unfoldable pub countsRefusal : ℕ → ℕ → ℕ → ℕ → List ℕ → List ℕ → Option Refusal
 countsRefusal nr floor room needed ops counters =
-    notRounds nr
-    (notFloor floor
-    (tooMany ops
-    (notWhole ops
-    (tooShort room needed
-    (badAddress ops
-    (refuseAt (firstNotElement counters NUM-COUNTERS) NotElement
-    accepted))))))
+    notRounds nr (notFloor floor (segmentRefusal (tooShort room needed) ops counters))
 
 -- the larger of two
 unfoldable pub larger : ℕ → ℕ → ℕ

@@ -3,6 +3,7 @@
 -- low and high byte) with Z 0."
 --     sentRows            how many rows of a table of h rows send
 --     segmentCharged      what both tables of a list send to counter c
+--     segmentRefusal      what every such call refuses for its list and its counters
 --     chargeRefusal, chargeAfter       what `charge` refuses, and what it leaves in the counters
 --     largest             the largest counter of a kind
 --     lookRefusal, lookCopyAfter, lookOutAfter   what `look` refuses, and what it leaves in the copy and in its answer
@@ -26,7 +27,7 @@ use Rattle.bitwise.specs.Columns.{NUM-ROWS, NUM-LOOKUP-TYPES, NUM-COUNTERS}
 use Rattle.bitwise.specs.Charge.{charged, chargedWords, chargedCounters, chargedKind}
 use Rattle.keccak.specs.Height.{height}
 use Rattle.keccak.specs.Row.{opAt, coreRowAt}
-use Rattle.keccak.specs.Refusals.{opCount, tooMany, notWhole, badAddress}
+use Rattle.keccak.specs.Refusals.{opCount, tooMany, notWhole, badOperation}
 use Rattle.keccak.specs.Tuples.{coreTuple, NUM-TUPLES as CORE-TUPLES}
 use Rattle.keccak.specs.declared.KeccakOperation.{KeccakOperation}
 use Rattle.keccak_rnd.specs.Row.{roundHeight, roundRowAt}
@@ -50,18 +51,19 @@ abbrev pub listCharged : ℕ → ℕ → Bool → List ℕ → ℕ → ℕ
 listCharged nr floor shipped ops = segmentCharged nr floor shipped (opCount ops) (opAt ops)
 
 -- ---- `charge`
--- "8, nr is 0 or above 24, detail nr, before 1", "9, any other floor, detail the floor, after 8 and before 1", then 1, 2, 3, 4, 7 of the
--- list and the counters, and then "5 covers every counter", the first of them that is p or more
+-- 1 and 2 of the list, 3 of the lent slices, then the list's other refusals, and then "5 covers every counter", the first of them that is p
+-- or more: what each call refuses that charges counters or a copy of them. `short` is 3
+abbrev pub segmentRefusal : (Option Refusal → Option Refusal) → List ℕ → List ℕ → Option Refusal
+segmentRefusal short ops counters =
+    tooMany ops
+    (notWhole ops
+    (short
+    (badOperation ops (refuseAt (firstNotElement counters NUM-COUNTERS) NotElement accepted))))
+
+-- "8, nr is 0 or above 24, detail nr, before 1", "9, any other floor, detail the floor, after 8 and before 1"
 unfoldable pub chargeRefusal : ℕ → ℕ → List ℕ → List ℕ → Option Refusal
 chargeRefusal nr floor ops counters =
-    notRounds nr
-    (notFloor floor
-    (tooMany ops
-    (notWhole ops
-    (tooShort (length counters) NUM-COUNTERS
-    (badAddress ops
-    (refuseAt (firstNotElement counters NUM-COUNTERS) NotElement
-    accepted))))))
+    notRounds nr (notFloor floor (segmentRefusal (tooShort (length counters) NUM-COUNTERS) ops counters))
 
 abbrev pub chargeAfter : ℕ → ℕ → Bool → List ℕ → List ℕ → List ℕ
 chargeAfter nr floor shipped ops counters =
@@ -81,19 +83,15 @@ lookWords counters added =
     tab LOOK-WORDS
     (λ j. pick (eqb (j % 2) 0) (chargedKind added (j / 2)) (largest (chargedWords counters added) (j / 2)))
 
--- as `charge`, and in 3 "The copy's words are lent too, checked by 3 after the counters", then the twenty words
+-- 3 of a look that answers so many words: "The copy's words are lent too, checked by 3 after the counters", then the words
+abbrev pub lookShort : ℕ → ℕ → ℕ → ℕ → Option Refusal → Option Refusal
+lookShort words counters copy out later =
+    tooShort counters NUM-COUNTERS (tooShort copy NUM-COUNTERS (tooShort out words later))
+
+-- else as `charge`
 unfoldable pub lookRefusal : ℕ → ℕ → List ℕ → List ℕ → ℕ → ℕ → Option Refusal
 lookRefusal nr floor ops counters copy out =
-    notRounds nr
-    (notFloor floor
-    (tooMany ops
-    (notWhole ops
-    (tooShort (length counters) NUM-COUNTERS
-    (tooShort copy NUM-COUNTERS
-    (tooShort out LOOK-WORDS
-    (badAddress ops
-    (refuseAt (firstNotElement counters NUM-COUNTERS) NotElement
-    accepted))))))))
+    notRounds nr (notFloor floor (segmentRefusal (lookShort LOOK-WORDS (length counters) copy out) ops counters))
 
 -- "and then hold the charged copy"
 abbrev pub lookCopyAfter : ℕ → ℕ → Bool → List ℕ → List ℕ → List ℕ → ℕ → List ℕ

@@ -26,7 +26,7 @@ ghost use Rattle.segment_counts.specs.Sums.{kindSum};
 ghost use Rattle.segment_counts.specs.Kinds.{larger, lookWord};
 
 // The sums of n operations of nr rounds in tables of `floor` rows or more, kind by kind.
-fn kind_sums(nr: usize, floor: usize, shipped: bool, n: usize) -> [u64; 10]
+pub fn kind_sums(nr: usize, floor: usize, shipped: bool, n: usize) -> [u64; 10]
     requires { ⌜ (nr ≤ 24) × (floor ≤ 65536) × (n ≤ MAX-OPS) ⌝ }
     ensures { λ r. ⌜ r ≡ tab 10 (kindSum nr floor shipped n) ⌝ }
 {
@@ -107,7 +107,7 @@ fn put_look(sums: [u64; 10], most: [u64; 10], out: &mut [u64])
 }
 
 // The copy, charged, and the answer, of a look that passed the checks.
-fn fill_look(
+pub fn fill_look(
     nr: usize,
     floor: usize,
     shipped: bool,
@@ -141,7 +141,7 @@ pub fn look(
     ensures copied { λ _. ⌜ now (copy .exit) ≡ lookCopyAfter nr floor shipped (now (ops .entry)) (now (counters .entry)) (now (copy .entry)) (length (now (out .entry))) ⌝ }
     ensures words { λ _. ⌜ now (out .exit) ≡ lookOutAfter nr floor shipped (now (ops .entry)) (now (counters .entry)) (length (now (copy .entry))) (now (out .entry)) ⌝ }
 {
-    let Room { room, needed } = first_short(counters.len(), copy.len(), out.len());
+    let Room { room, needed } = first_short(counters.len(), copy.len(), out.len(), LOOK_WORDS);
     if let Answer::Refused(refusal) = check_counts(nr, floor, ops, counters, room, needed) {
         return Answer::Refused(refusal);
     }

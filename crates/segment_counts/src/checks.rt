@@ -1,4 +1,4 @@
-// The checks of both calls.
+// The checks that a charge and its look share, of every call that makes one.
 use answer::Answer;
 use answer::MAX_OPS;
 use answer::Refusal;
@@ -15,7 +15,7 @@ ghost use lib.ListN.{length};
 ghost use Rattle.answer.specs.Refusal.{answerOf, tooShort};
 ghost use Rattle.answer.specs.declared.Refusal.{Refusal as Refused};
 ghost use Rattle.bitwise.specs.Columns.{NUM-COUNTERS};
-ghost use Rattle.segment_counts.specs.Segment.{LOOK-WORDS};
+ghost use Rattle.segment_counts.specs.Segment.{lookShort};
 ghost use Rattle.segment_counts.specs.Kinds.{countsRefusal};
 
 // The words of a look's answer.
@@ -27,9 +27,9 @@ pub struct Room {
     pub needed: usize,
 }
 
-// Of the three slices of a look the first that is too short, or the last.
-pub fn first_short(counters: usize, copy: usize, out: usize) -> Room
-    ensures { λ r. ⌜ ((later : Option Refused) → tooShort (r .room) (r .needed) later ≡ tooShort counters NUM-COUNTERS (tooShort copy NUM-COUNTERS (tooShort out LOOK-WORDS later))) ⌝ }
+// Of the three slices of a look that answers so many words the first that is too short, or the last.
+pub fn first_short(counters: usize, copy: usize, out: usize, words: usize) -> Room
+    ensures { λ r. ⌜ ((later : Option Refused) → tooShort (r .room) (r .needed) later ≡ lookShort words counters copy out later) ⌝ }
 {
     if counters < NUM_COUNTERS {
         return Room {
@@ -45,7 +45,7 @@ pub fn first_short(counters: usize, copy: usize, out: usize) -> Room
     }
     Room {
         room: out,
-        needed: LOOK_WORDS,
+        needed: words,
     }
 }
 

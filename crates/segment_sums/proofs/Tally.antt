@@ -17,7 +17,7 @@ use Rattle.keccak_rnd.specs.Row.{roundHeight, padding-are-bytes}
 use Rattle.segment_counts.specs.Segment.{sentRows, segmentCharged}
 use Rattle.segment_counts.specs.Sums.{kindSum}
 use Rattle.segment_counts.proofs.Sums.{kind-sums-at}
-use Rattle.op_file.specs.File.{busTotal, sumsOf}
+use Rattle.op_file.specs.File.{busTotal, noneTold, sumsOf}
 use Rattle.op_file.specs.Reader.{paddingSum, countsOf}
 use Rattle.op_file.specs.declared.Sums.{Sums}
 use Rattle.op_file.proofs.Totals.{counts-are-sums}
@@ -49,17 +49,17 @@ module _ (floor : ℕ) (shipped : Bool) (syscall n : ℕ) (op : ℕ → KeccakOp
 
   pub charged-are-bytes : sum 3 ≡ busTotal floor shipped syscall Sender AreBytes n op
   unfolding kindSum countsOf sumsOf
-  charged-are-bytes = by-kind 3 (omega arith) ∙ rows-padded floor shipped n ∙ ap (λ (s : Sums). s .«are_bytes») (counts-are-sums floor shipped syscall n op 0)
+  charged-are-bytes = by-kind 3 (omega arith) ∙ rows-padded floor shipped n ∙ ap (λ (s : Sums). s .«are_bytes») (counts-are-sums floor shipped syscall n op noneTold 0)
 
   pub charged-halfwords : sum 4 ≡ busTotal floor shipped syscall Sender IsHalfword n op
   unfolding kindSum countsOf sumsOf
-  charged-halfwords = by-kind 4 (omega arith) ∙ ap (λ (s : Sums). s .«is_halfword») (counts-are-sums floor shipped syscall n op 0)
+  charged-halfwords = by-kind 4 (omega arith) ∙ ap (λ (s : Sums). s .«is_halfword») (counts-are-sums floor shipped syscall n op noneTold 0)
 
   pub charged-byte-alu : sum 7 + sum 8 + sum 9 ≡ busTotal floor shipped syscall Sender ByteAlu n op
   unfolding kindSum countsOf sumsOf
   charged-byte-alu =
       all (by-kind 7 (omega arith)) (by-kind 8 (omega arith)) (by-kind 9 (omega arith))
-      ∙ ap (λ (s : Sums). s .«byte_alu») (counts-are-sums floor shipped syscall n op 0)
+      ∙ ap (λ (s : Sums). s .«byte_alu») (counts-are-sums floor shipped syscall n op noneTold 0)
     where
       all : {x y z : ℕ} → x ≡ n + 200 * (n * 24) → y ≡ 0 → z ≡ 608 * (n * 24) → x + y + z ≡ 19393 * n
       all a b c = omega (arith, a, b, c)

@@ -1,1 +1,2 @@
 pub mod Sha3
+pub mod Sponge

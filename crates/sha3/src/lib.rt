@@ -7,7 +7,7 @@ ghost use Rattle.lists.specs.Tab.{tab};
 ghost use Rattle.bits.specs.Bits.{laneOf, laneByte};
 ghost use Rattle.sha3.specs.Sha3.{RATE, blocks, paddedByte, blockLane, added, absorbed, sha3-256};
 
-const RATE: usize = 136;
+pub const RATE: usize = 136;
 
 fn wide(byte: u8) -> u64
     ensures { λ r. ⌜ r ≡ byte ⌝ }
@@ -61,7 +61,7 @@ fn block_lane(message: &[u8], i: usize, j: usize) -> u64
 }
 
 // The state with block i added.
-fn add_block(state: State, message: &[u8], i: usize) -> State
+pub fn add_block(state: State, message: &[u8], i: usize) -> State
     requires { ⌜ i ≤ length (now message) / 136 ⌝ }
     ensures { λ t. ⌜ t .lanes ≡ added (now (message .entry)) i (state .lanes) ⌝ }
 {

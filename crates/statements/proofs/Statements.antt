@@ -18,7 +18,7 @@ use Prim.Native.Nat.{ℕ, suc, _+_, _-_, _*_, _/_, _%_, _^_, _≤_, _<_}
 use native.Mathlib.Nat.{zero-div}
 use native.Mathlib.Omega.{arith}
 use lib.Dec.{eqb, ltb}
-use lib.ListN.{length, take, drop, replicate}
+use lib.ListN.{length, take, drop, getD, replicate}
 use Rattle.lists.specs.Tab.{pick, word, rowAt, followedBy}
 use Rattle.lists.specs.First.{countBelow}
 use Rattle.lists.proofs.Reading.{Alike}
@@ -27,7 +27,7 @@ use Rattle.field.proofs.Field.{inv-shift-32}
 use Rattle.answer.specs.Limits.{MAX-OPS}
 use Rattle.answer.specs.Refusal.{accepted, refusalNumber, notRounds, notFloor, PowerFloor, afterwards}
 use Rattle.answer.specs.declared.Refusal.{Refusal}
-use Rattle.answer.specs.declared.Refusal.the-variants.{HighAddress, PastEnd, Unaligned, Rounds, Floor}
+use Rattle.answer.specs.declared.Refusal.the-variants.{HighAddress, PastEnd, Unaligned, Rounds, Floor, Register, NotElement, BadRecord}
 use Rattle.answer.proofs.Refusals.{rounds-later, no-rounds-refused, many-rounds-refused, floor-refused, floor-most, both-later}
 use Rattle.answer.specs.declared.Number.the-variants.{Is}
 use Rattle.fips202.specs.Fips.{Agree, offset, walk, MetOnce, RHO, rnd, keccakF, keccakP}
@@ -37,6 +37,7 @@ use Rattle.tuple.specs.declared.Bus.the-variants.{AreBytes, IsWh}
 use Rattle.tuple.specs.declared.Side.{Side}
 use Rattle.tuple.specs.declared.Side.the-variants.{Sender, Receiver}
 use Rattle.templates.specs.Templates.{isBit}
+use Rattle.templates.proofs.Bit.{bit-is}
 use Rattle.bits.specs.Bits.{byteAt}
 use Rattle.fips202.specs.Lanes.{Lanes, bits, roundsL, keccakPL}
 use Rattle.fips202.specs.Tables.{roundConstant}
@@ -102,7 +103,6 @@ use Rattle.bus_sums.specs.Buses.{coreLine, roundLine, isWhLine, bitwiseLine, co
 use Rattle.bus_sums.specs.Sums.{Fillings, bitwiseAt, constantAt, Constrained, SumsHold, Filled, MAX-ROWS}
 use Rattle.bus_sums.specs.Sums.{tableShare, isWhKind}
 use Rattle.bus_sums.proofs.Buses.{core-line, round-line, is-wh-line, bitwise-line, constant-line}
-use Rattle.bus_sums.proofs.Bit.{bit-is}
 use Rattle.bus_sums.proofs.Receipt.{sums-core, sums-answer, sums-verdict, sums-computed, sums-claims, sums-exactly}
 use Rattle.bus_sums.proofs.Receipt.{sums-holds, sums-demand, ours-filled, witness-sums}
 use Rattle.matching.specs.Matching.{Matched}
@@ -116,14 +116,23 @@ use Rattle.bus_sums_needs.specs.Cancel.{Slips, twoRows, manyRows}
 use Rattle.bus_sums_needs.specs.Forged.{Forgery, bentCore, bentRound}
 use Rattle.bus_sums_needs.proofs.Cancel.{mu-needed, few-needed}
 use Rattle.bus_sums_needs.proofs.ForgedSegment.{twenty-needed}
-use Rattle.op_file.specs.File.{isWhole, addressOf, faultOf, firstFault, recordsOf}
+use Rattle.op_file.specs.File.{isMark, isMarked, sizeOf, isWhole, segmentOf, recordWord, addressOf, faultOf, startAt, firstFault, recordsOf, fileWords}
 use Rattle.op_file.specs.File.{isAligned, isUnaligned, alignedOf, unalignedOf, recordsWords}
-use Rattle.op_file.specs.File.{busTotal, sumsOf, unless, tallyOf}
-use Rattle.op_file.specs.Reader.{fileStart, feedOf, countsOf, finishOf}
+use Rattle.op_file.specs.File.{noneTold, segmentsOf, busTotal, sumsOf, unless, tallyOf}
+use Rattle.op_file.specs.Reader.{recordCount, stepOf, fileStart, feedOf, countsOf, finishOf}
+use Rattle.op_file.specs.declared.Segments.{Segments}
+use Rattle.op_file.specs.declared.Whole.{Whole as WholeRecords}
+use Rattle.op_file.specs.declared.Cursor.the-variants as cursor
+use Rattle.op_file.specs.declared.Cursor.the-variants.{Reading}
 use Rattle.op_file.specs.declared.Sums.{Sums}
 use Rattle.op_file.specs.declared.Tally.the-variants.{Counted, Refused}
 use Rattle.op_file.proofs.Cases as file
-use Rattle.op_file.proofs.Counted.{counted-accepted}
+use Rattle.op_file.proofs.Counted.{counted-accepted, file-word}
+use Rattle.op_file.proofs.SegmentNumbers.{SomeMarked, Told, segments-told, segments-none}
+use Rattle.op_file.proofs.Starts.{record-there, bad-start}
+use Rattle.op_file.proofs.Steps.{begun}
+use Rattle.op_list.specs.Files.{readRefusal, readAfter, fileBytes, bytesFor, writeRefusal, writeAfter}
+use Rattle.op_list.proofs.RoundTrip.{list-left, file-left}
 use Rattle.op_file.proofs.Laws.{reads-pieces}
 use Rattle.text.specs.Text.{decimalOf}
 use Rattle.tally_arguments.specs.Arguments.{shipped-word, isShipped, digitsOnly, floorIn, argumentsOf}
@@ -160,8 +169,72 @@ use Rattle.keccak_rc.proofs.Table.{update-sets, update-clears}
 use Rattle.keccak_rnd.specs.Refusals.{roundTraceRefusal}
 use Rattle.keccak_rnd.specs.Calls.{roundTraceAfter}
 use Rattle.verdict.specs.Honest.{RightOperation}
+use Rattle.keccak_rnd.specs.Passes.{Worked, Idle, Held}
+use Rattle.keccak_rnd.proofs.Completeness.{idle-passes}
+use Rattle.keccak_rnd.proofs.Passing.{mu-is, passes-idle, passes-exactly, free-words}
+use Rattle.verdict.specs.Kind.{Layout}
+use Rattle.verdict.specs.Unique.{EquallyOften, Rearranged, Refilled, repadded}
+use Rattle.verdict.specs.Honest.{fullRound}
+use Rattle.verdict.proofs.Unique.{some-order, ours-equally, ours-matched, ours-exactly, refilled-exactly, repadded-holds}
+use Rattle.verdict.proofs.Instances.{full-holds, full-differs}
+use Rattle.judge.proofs.Tied.{answered-equally, answered-exactly, answered-refilled}
 use Rattle.segment_sums.proofs.Calls.{calls-hold}
 use Rattle.segment_sums.proofs.Tally.{charged-are-bytes, charged-halfwords, charged-byte-alu}
+use Rattle.field.specs.Elements.{ElementRow, firstNotElement}
+use Rattle.answer.specs.Refusal.{tooShort}
+use Rattle.registers.specs.Registers.{inUse, throughRefusal, registerRefusal, registerCountersAfter, registerLedgersAfter}
+use Rattle.registers.specs.Registers.{REGISTER-LOOK-WORDS, registerLookRefusal, registerLookCopyAfter, registerLookOutAfter}
+use Rattle.registers.specs.History.{Call, State, historyAfter, callsOf, answersTo, lookupsIn, counterSum, ledgerSum, Zero, OnlyThrough}
+use Rattle.registers.proofs.Ledgers.{in-use-is}
+use Rattle.registers.proofs.Refusals.{through-floor}
+use Rattle.registers.proofs.Accepted.{register-look-refused}
+use Rattle.registers.proofs.Left as registers
+use Rattle.registers.proofs.Left.{register-accepted, register-unused, register-as-charge, register-ledger, register-counters, own-grows, ledgers-long}
+use Rattle.registers.proofs.Shown.{copies-taken, register-look-copy, register-look-sum, register-look-largest, register-look-ledger}
+use Rattle.registers.proofs.AddUp.{zero-adds-up}
+use Rattle.registers.proofs.Needed.{tooMuch, too-much-through, fewer-needed, zeroState, zero-is}
+use Rattle.registers.proofs.Alone.{alike-same, alone, same-ledger, same-answers}
+use Rattle.answer.specs.declared.Refusal.the-variants.{Segment}
+use Rattle.keccak.specs.Row.{OP-WORDS, LAST-SEGMENT, keyWords}
+use Rattle.keccak.specs.Values.{coreValue}
+use Rattle.keccak.specs.Refusals.{segmentAt}
+use Rattle.keccak.specs.Calls.{coreRowAfter, coreRowsAfter, keysAfter}
+use Rattle.keccak.specs.SegmentNumbers.{ButSegments, ShortSegments}
+use Rattle.keccak.proofs.SegmentNumbers as core-free
+use Rattle.keccak.proofs.Refusals.{op-words, segment-refused, told-segment, last-segment, next-segment}
+use Rattle.keccak_rnd.specs.Row.{opRow}
+use Rattle.keccak_rnd.specs.Values.{roundValue}
+use Rattle.keccak_rnd.specs.Calls.{roundRowsAfter}
+use Rattle.keccak_rnd.proofs.SegmentNumbers as round-free
+use Rattle.segment_counts.proofs.SegmentNumbers as charge-free
+use Rattle.segment_counts.proofs.Accepted.{charge-list}
+use Rattle.lists.specs.Sum.{sumBelow}
+use Rattle.verdict.specs.Job.{jobCore, jobRound}
+use Rattle.job.specs.Report.{segmentCount, coreRows, jobSegment, segments, verdictOn, Split, AcceptableJob, jobRefusal, Apart}
+use Rattle.job.proofs.Refusals.{job-accepted}
+use Rattle.job.proofs.Whole.{core-joined, round-joined}
+use Rattle.job.proofs.Tied.{Reported, segment-words, job-words, words-past, reported-together, reported-shared}
+use Rattle.job.proofs.Tied.{reported-apart, reported-computed, reported-balance, reported-refiled, reported-places}
+use Rattle.verdict.specs.Kind.{Whole}
+use Rattle.verdict.specs.Verdict.{verdictWords}
+use Rattle.answer.specs.declared.Refusal.the-variants.{Files}
+use Rattle.keccak_rnd.specs.Refusals.{roundCountRefusal}
+use Rattle.month.specs.Month.{fuller, fullest, emptiest, monthWords, monthRefusal, Planned, Best, SameCounts}
+use Rattle.month.proofs.Refusals.{month-accepted, month-files, month-past}
+use Rattle.month.proofs.Order.{refusal-order, sums-order, heights-order, full-order, empty-order}
+use Rattle.month.proofs.Fullness.{fullest-is, emptiest-is, shown-one}
+use Rattle.month.proofs.Writing.{row-words-sum, height-words-sum}
+use Rattle.month.proofs.Cases.{ties, no-files, one-refused, one-file, one-padding, one-shipped, words-most, products-most}
+use Rattle.answer.specs.declared.Refusal.the-variants.{LongMessage, LateTimestamp}
+use Rattle.sha3.specs.Sha3.{blocks, sha3-256}
+use Rattle.sha3.specs.Sponge.{sha3-256-bits, bitsOf, OnlyBytes}
+use Rattle.sha3.proofs.Sponge.{sha3-bits, bits-known}
+use Rattle.message.specs.Message.{messageList, Chained, lastDigest, Hashable, messageRefusal, messageAfter, judgedRefusal, IsMessage, isMessage, judgedOf}
+use Rattle.message.specs.declared.Judgement.the-variants as judgement
+use Rattle.message.proofs.Refusals as message-refusals
+use Rattle.message.proofs.Judging.{judge-yes, judge-no, judge-says, empty-no}
+use Rattle.message.proofs.Digest as message-list
+use Rattle.message_verdict.proofs.Chain.{left-digest, message-holds}
 
 -- ---- demand 3: "Suppose a core table, whoever filled it, passes its constraints and lookups .."
 -- (verdict/specs/Claims.antt)
@@ -257,13 +330,13 @@ pub table-last-of-24 : (n : ℕ) (op : ℕ → KeccakOperation) (i : ℕ) → i 
 table-last-of-24 n op i below lanes = table-fips 24 (omega arith) n op 4 i below lanes 23 refl
 
 -- "the sum of multiplicities that both tables send (Ecall: receive)": what `tally` answers when a file is fed to it in
--- two pieces, cut anywhere, and finished (more pieces: `feed-append`, op_file/proofs/Laws.antt) is the first fault, or these sums over the tables as written (`tallyOf`, op_file/specs/File.antt)
+-- two pieces, cut anywhere, and finished (more pieces: `feed-append`, op_file/proofs/Steps.antt) is the first fault, or these sums over the tables as written (`tallyOf`, op_file/specs/File.antt)
 pub tally-sums : (floor : ℕ) (shipped : Bool) (syscall : ℕ) (a b : List ℕ) →
     finishOf floor shipped (feedOf (feedOf fileStart a) b) ≡ tallyOf floor shipped syscall (a ++ b)
 tally-sums = reads-pieces
 
 -- "Each refusal comes on its listed condition only": a call that takes a list and needs so many words is refused by none
--- of its checks exactly where none of the five conditions is met
+-- of its checks exactly where none of the six conditions is met
 pub none-refused : (room needed : ℕ) (ops : List ℕ) →
     (operationsRefusal room needed ops ≡ accepted) ↔ Acceptable room needed ops
 none-refused = accepted-is
@@ -357,21 +430,22 @@ case-inverse = inv-shift-32
 
 -- "the highest accepted address in the cases becomes 18446744073709551416, the next multiple of eight being refused by 4.":
 -- of a list of one operation, with any other words
-module _ (timestamp : ℕ) (input output : List ℕ) (in-size : length input ≡ 25) (out-size : length output ≡ 25)
+module _ (timestamp : ℕ) (input output : List ℕ) (segment : ℕ) (in-size : length input ≡ 25) (out-size : length output ≡ 25)
     (room needed : ℕ) (fits : needed ≤ room) where
-  pub case-highest : operationsRefusal room needed (timestamp ∷ 18446744073709551416 ∷ (input ++ output)) ≡ accepted
-  case-highest = highest-accepted timestamp input output in-size out-size room needed fits
+  pub case-highest : segment ≤ LAST-SEGMENT →
+      operationsRefusal room needed (timestamp ∷ 18446744073709551416 ∷ (input ++ (output ++ (segment ∷ [])))) ≡ accepted
+  case-highest = highest-accepted timestamp input output segment in-size out-size room needed fits
 
   pub case-next :
-      operationsRefusal room needed (timestamp ∷ 18446744073709551424 ∷ (input ++ output))
+      operationsRefusal room needed (timestamp ∷ 18446744073709551424 ∷ (input ++ (output ++ (segment ∷ []))))
       ≡ some (HighAddress 18446744073709551424)
-  case-next = next-refused timestamp input output in-size out-size room needed fits
+  case-next = next-refused timestamp input output segment in-size out-size room needed fits
 
   -- the highest that 4 does not refuse is no multiple of 8, and refused by 7
   pub case-unaligned :
-      operationsRefusal room needed (timestamp ∷ 18446744073709551423 ∷ (input ++ output))
+      operationsRefusal room needed (timestamp ∷ 18446744073709551423 ∷ (input ++ (output ++ (segment ∷ []))))
       ≡ some (Unaligned 18446744073709551423)
-  case-unaligned = last-unaligned timestamp input output in-size out-size room needed fits
+  case-unaligned = last-unaligned timestamp input output segment in-size out-size room needed fits
 
 -- the same of a record of an operation file, which is counted, refused, or left out and not refused
 module _ (i at : ℕ) (r : List ℕ) (few : i < MAX-OPS) (whole : isWhole r ≡ true) where
@@ -392,7 +466,7 @@ pub case-by-7 : refusalNumber (Unaligned 18446744073709551423) ≡ 7
 case-by-7 = refl
 
 -- "For one record with address 4096 it prints all of": its ten numbers, whatever the record's other words are
-pub case-one-record : (shipped : Bool) (syscall : ℕ) (op : ℕ → KeccakOperation) →
+pub case-one-record : (shipped : Bool) (syscall : ℕ) (op : ℕ → KeccakOperation) (segments : Segments) →
     record {
       ops = 1;
       «core_rows» = 4;
@@ -404,9 +478,10 @@ pub case-one-record : (shipped : Bool) (syscall : ℕ) (op : ℕ → KeccakOpera
       «is_wh» = 25;
       memw = 26;
       ecall = 1;
+      segments = segments;
       unaligned = 0;
     }
-    ≡ sumsOf 4 shipped syscall 1 op 0
+    ≡ sumsOf 4 shipped syscall 1 op segments 0
 case-one-record = file.one-record
 
 -- "`tally` gives 1 as soon as any byte follows record 89,478,485"
@@ -427,6 +502,7 @@ empty-sums rows bytes =
       «is_wh» = 0;
       memw = 0;
       ecall = 0;
+      segments = noneTold;
       unaligned = 0;
     }
 
@@ -476,19 +552,19 @@ case-late-row = late-unbalanced
 -- ---- the change requests
 -- Item 1: "In shipped mode AreBytes equals the sum over the rows as written, for every n.": of what `finish` computes, and
 -- of the definition, which says it of every bus
-module _ (floor syscall n : ℕ) (op : ℕ → KeccakOperation) (left : ℕ) where
+module _ (floor syscall n : ℕ) (op : ℕ → KeccakOperation) (segments : Segments) (left : ℕ) where
   pub shipped-are-bytes :
-      (countsOf floor true n left) .«are_bytes»
+      (countsOf floor true n segments left) .«are_bytes»
       ≡ coreTableSum Sender AreBytes 24 syscall floor n op + roundTableSum Sender AreBytes 24 floor n op
-  shipped-are-bytes = file.shipped-are-bytes floor syscall n op left
+  shipped-are-bytes = file.shipped-are-bytes floor syscall n op segments left
 
   pub shipped-buses : (s : Side) (b : Bus) →
       busTotal floor true syscall s b n op ≡ coreTableSum s b 24 syscall floor n op + roundTableSum s b 24 floor n op
-  shipped-buses = file.shipped-buses floor syscall n op left
+  shipped-buses = file.shipped-buses floor syscall n op segments left
 
   -- both modes agree where there is an operation ..
-  pub modes-agree : 1 ≤ n → sumsOf floor true syscall n op left ≡ sumsOf floor false syscall n op left
-  modes-agree = file.modes-agree floor syscall n op left
+  pub modes-agree : 1 ≤ n → sumsOf floor true syscall n op segments left ≡ sumsOf floor false syscall n op segments left
+  modes-agree = file.modes-agree floor syscall n op segments left
 
 -- .. and on every file that has a record to count, refused or not
 pub modes-agree-on : (floor syscall : ℕ) (file : List ℕ) → 1 ≤ length (alignedOf file) → tallyOf floor true syscall file ≡ tallyOf floor false syscall file
@@ -634,7 +710,7 @@ pub after-4 : (room needed : ℕ) (ops : List ℕ) {a : ℕ} → operationsRefus
 after-4 room needed ops e = told-unaligned room needed ops e .4
 
 -- "detail the first such address": where nothing earlier refuses and operation i is the first at such an address
-pub first-unaligned : (room needed : ℕ) (ops : List ℕ) → opCount ops ≤ MAX-OPS → length ops % 52 ≡ 0 → needed ≤ room →
+pub first-unaligned : (room needed : ℕ) (ops : List ℕ) → opCount ops ≤ MAX-OPS → length ops % OP-WORDS ≡ 0 → needed ≤ room →
     ((j : ℕ) → j < opCount ops → addressAt ops j ≤ LAST-ADDRESS) →
     (i : ℕ) → i < opCount ops → (addressAt ops i % 8 ≡ 0 → ⊥) → ((j : ℕ) → j < i → addressAt ops j % 8 ≡ 0) →
     operationsRefusal room needed ops ≡ some (Unaligned (addressAt ops i))
@@ -646,7 +722,7 @@ pub each-record : (file : List ℕ) → length (alignedOf file) + length (unalig
 each-record = file.each-counted
 
 -- and those that are counted are a list that every call accepts
-pub counted-taken : (file : List ℕ) → firstFault 0 0 (recordsOf file) ≡ accepted → (room needed : ℕ) → needed ≤ room →
+pub counted-taken : (file : List ℕ) → ((k : ℕ) → word file k < 256) → firstFault 0 0 (recordsOf file) ≡ accepted → (room needed : ℕ) → needed ≤ room →
     operationsRefusal room needed (recordsWords (alignedOf file)) ≡ accepted
 counted-taken = counted-accepted
 
@@ -778,7 +854,7 @@ round-of-4 = round-as-before.as-before
 pub tally-floor : (floor : ℕ) (shipped : Bool) → PowerFloor floor → (syscall : ℕ) (file : List ℕ) →
     tallyOf floor shipped syscall file
     ≡ unless (firstFault 0 0 (recordsOf file))
-    (sumsOf floor shipped syscall (length (alignedOf file)) (opAt (recordsWords (alignedOf file))) (length (unalignedOf file)))
+    (sumsOf floor shipped syscall (length (alignedOf file)) (opAt (recordsWords (alignedOf file))) (segmentsOf (alignedOf file)) (length (unalignedOf file)))
 tally-floor = file.floor-counts
 
 pub tally-other-floor : (floor : ℕ) (shipped : Bool) → (PowerFloor floor → ⊥) → (syscall : ℕ) (file : List ℕ) →
@@ -794,7 +870,7 @@ empty-of-floor floor h syscall = (file.empty-shipped floor h syscall, file.empty
 pub tally-of-4 : (shipped : Bool) (syscall : ℕ) (file : List ℕ) →
     tallyOf 4 shipped syscall file
     ≡ unless (firstFault 0 0 (recordsOf file))
-    (sumsOf 4 shipped syscall (length (alignedOf file)) (opAt (recordsWords (alignedOf file))) (length (unalignedOf file)))
+    (sumsOf 4 shipped syscall (length (alignedOf file)) (opAt (recordsWords (alignedOf file))) (segmentsOf (alignedOf file)) (length (unalignedOf file)))
 tally-of-4 shipped = file.floor-counts 4 shipped file.four
 
 -- "(digits only, zeros may lead)": the floor that a word tells is its number, whatever zeros stand before it, "or a decimal
@@ -816,6 +892,507 @@ floor-last = last-floor
 
 pub mode-told : ((us vs : List (List ℕ)) → (argumentsOf (us ++ shipped-word ∷ vs)) .shipped ≡ true) × ((ws : List (List ℕ)) → NoneShipped ws → (argumentsOf ws) .shipped ≡ false)
 mode-told = (shipped-anywhere, never-shipped)
+
+-- Item 8, registers on one counter table (registers/specs/Registers.antt). "in use are as many as whole ledgers stand in the lent words, 16 at
+-- most": a register is in use exactly where its ten words stand in the lent words and it is one of the first 16
+pub registers-used : (words r : ℕ) → (r < inUse words) ↔ ((r * 10 + 10 ≤ words) × (r < 16))
+registers-used = in-use-is
+
+-- "Refused: 10, a register number not below the number in use, detail the register number, after 9 and before 1.": by 8, then by 9, whatever
+-- register it is ..
+module _ (nr floor register : ℕ) (ops counters ledgers : List ℕ) where
+  pub register-after-8 : NoRounds nr → registerRefusal nr floor register ops counters ledgers ≡ some (Rounds nr)
+  unfolding throughRefusal
+  register-after-8 = rounds-before-floor nr floor _
+
+  pub register-after-9 : 1 ≤ nr → nr ≤ 24 → (PowerFloor floor → ⊥) → registerRefusal nr floor register ops counters ledgers ≡ some (Floor floor)
+  register-after-9 = through-floor (tooShort (length counters) NUM-COUNTERS) nr floor register ops counters ledgers
+
+  -- .. then by 10, whatever else would be refused, and a register in use as a charge without it, so by 1, 2, 3, 4, 7 and 5 of the counters;
+  -- "and 5 covers the register's own ledger after the counters", by its place in all ledger words
+  module _ (right : (1 ≤ nr) × (nr ≤ 24) × PowerFloor floor) where
+    pub register-refused : inUse (length ledgers) ≤ register → registerRefusal nr floor register ops counters ledgers ≡ some (Register register)
+    register-refused = register-unused nr floor register ops counters ledgers right
+
+    module _ (used : register < inUse (length ledgers)) where
+      pub register-then : {r : Refusal} → chargeRefusal nr floor ops counters ≡ some r → registerRefusal nr floor register ops counters ledgers ≡ some r
+      register-then = register-as-charge nr floor register ops counters ledgers right used
+
+      pub register-own-ledger : chargeRefusal nr floor ops counters ≡ accepted → (k : ℕ) → firstNotElement (rowAt 10 ledgers register) 10 ≡ some k →
+          registerRefusal nr floor register ops counters ledgers ≡ some (NotElement (register * 10 + k))
+      register-own-ledger = register-ledger nr floor register ops counters ledgers right used
+
+  -- and for nothing else, so for no word of another ledger
+  pub register-taken : (registerRefusal nr floor register ops counters ledgers ≡ accepted)
+      ↔ ((register < inUse (length ledgers)) × (chargeRefusal nr floor ops counters ≡ accepted) × ElementRow 10 (rowAt 10 ledgers register))
+  register-taken = register-accepted nr floor register ops counters ledgers
+
+pub case-by-10 : refusalNumber (Register 16) ≡ 10
+case-by-10 = refl
+
+-- "A charge adds its sums mod p to its own ledger only": an accepted one to each of its ten words all that it adds to the counters of that
+-- kind, which it charges as a charge without a register does ..
+module _ (nr floor : ℕ) (shipped : Bool) (register : ℕ) (ops counters ledgers : List ℕ) where
+  pub register-charges : registerRefusal nr floor register ops counters ledgers ≡ accepted →
+      (registerCountersAfter nr floor shipped register ops counters ledgers ≡ chargeAfter nr floor shipped ops counters)
+      × ((k : ℕ) → k < 10 →
+      word (registerLedgersAfter nr floor shipped register ops counters ledgers) (register * 10 + k)
+      ≡ (word ledgers (register * 10 + k) + chargedKind (listCharged nr floor shipped ops) k) % p)
+  register-charges ok = (register-counters nr floor shipped register ops counters ledgers ok, own-grows nr floor shipped register ops counters ledgers ok)
+
+  -- .. and every other ledger word stays, those past the sixteenth ledger too, whether it is refused or not
+  pub register-keeps :
+      ((j : ℕ) → (j / 10 ≡ register → ⊥) → word (registerLedgersAfter nr floor shipped register ops counters ledgers) j ≡ word ledgers j)
+      × (length (registerLedgersAfter nr floor shipped register ops counters ledgers) ≡ length ledgers)
+  register-keeps = (registers.others-stay nr floor shipped register ops counters ledgers, ledgers-long nr floor shipped register ops counters ledgers)
+
+-- Histories (registers/specs/History.antt): calls one after the other, each by what the call above refuses and leaves. "From counters and
+-- ledgers all zero, with only charges through registers writing and fewer than p lookups in all, each kind's counters add up to that kind's
+-- sums over the ledgers.": as whole numbers, over all 1,048,576 rows, refused calls included
+pub ledgers-add-up : (s : State) → Zero s → (h : List Call) → OnlyThrough h → lookupsIn s h < p → (k : ℕ) → k < 10 →
+    counterSum (historyAfter s h) k ≡ ledgerSum (historyAfter s h) k
+ledgers-add-up = zero-adds-up
+
+-- why fewer than p: two registers whose calls charge p + 559 lookups on one pair of bytes, whose counter returns to zero at p while neither
+-- ledger does. Register 0 makes as many of these calls as charge fewer than p, and register 1 one
+module _ (s : State) (zero-start : Zero s) (counters : NUM-COUNTERS ≤ length (s .counters)) (ledgers : length (s .ledgers) ≡ 20) where
+  pub fewer-than-p : OnlyThrough (tooMuch 20962209169789300)
+      × (lookupsIn s (tooMuch 20962209169789300) ≡ p + 559)
+      × (counterSum (historyAfter s (tooMuch 20962209169789300)) 3 ≡ 559)
+      × (ledgerSum (historyAfter s (tooMuch 20962209169789300)) 3 ≡ p + 559)
+  fewer-than-p = let a = fewer-needed s zero-start counters ledgers in (too-much-through 20962209169789300, a .0, a .1, a .2)
+
+pub some-zero : Zero zeroState × (NUM-COUNTERS ≤ length (zeroState .counters)) × (length (zeroState .ledgers) ≡ 20)
+some-zero = zero-is
+
+-- "From the same start, with only charges writing, a register that makes the same calls in the same order has the same ledger and gets the
+-- same answers when charging, whatever the others charge meanwhile.": from any start, with charges through no register among them ..
+module _ (r : ℕ) (s : State) where
+  pub same-ledger-and-answers : (h g : List Call) → callsOf r h ≡ callsOf r g →
+      (rowAt 10 (historyAfter s h .ledgers) r ≡ rowAt 10 (historyAfter s g .ledgers) r) × (answersTo r s h ≡ answersTo r s g)
+  same-ledger-and-answers h g same = (same-ledger r s h g same, same-answers r s h g same)
+
+  -- .. and so as if it were alone
+  pub register-alone : (h : List Call) →
+      (rowAt 10 (historyAfter s h .ledgers) r ≡ rowAt 10 (historyAfter s (callsOf r h) .ledgers) r) × (answersTo r s h ≡ answersTo r s (callsOf r h))
+  register-alone h = let a = alone r s s (alike-same r s) h in (a .0 .own, a .1)
+
+-- "The look of Item 3 shows a register its own ledger as it would then stand.": it is refused exactly as charging is, where copy and the thirty
+-- words are long enough; neither counters nor ledgers are lent to be changed ..
+module _ (nr floor : ℕ) (shipped : Bool) (register : ℕ) (ops counters ledgers copy out : List ℕ) (room : NUM-COUNTERS ≤ length copy) (thirty : REGISTER-LOOK-WORDS ≤ length out) where
+  pub register-look-refuses : registerLookRefusal nr floor register ops counters ledgers (length copy) (length out) ≡ registerRefusal nr floor register ops counters ledgers
+  register-look-refuses = register-look-refused nr floor register ops counters ledgers (length copy) (length out) room thirty
+
+  module _ (ok : registerRefusal nr floor register ops counters ledgers ≡ accepted) where
+    -- .. and else the copy holds what a charge through the register makes of the counters, copied to its first words ..
+    pub register-look-charges :
+        (registerRefusal nr floor register ops (overwrite (take NUM-COUNTERS counters) copy) ledgers ≡ accepted)
+        × (registerLookCopyAfter nr floor shipped register ops counters ledgers copy (length out)
+        ≡ registerCountersAfter nr floor shipped register ops (overwrite (take NUM-COUNTERS counters) copy) ledgers)
+    register-look-charges = (
+      copies-taken nr floor shipped register ops counters ledgers copy out room thirty ok,
+      register-look-copy nr floor shipped register ops counters ledgers copy out room thirty ok,
+    )
+
+    -- .. and the answer of each kind the sum charged, the largest counter afterwards, and the word of the register's ledger afterwards
+    pub register-look-shows : (k : ℕ) → k < 10 →
+        (word (registerLookOutAfter nr floor shipped register ops counters ledgers (length copy) out) (2 * k) ≡ chargedKind (listCharged nr floor shipped ops) k)
+        × (word (registerLookOutAfter nr floor shipped register ops counters ledgers (length copy) out) (2 * k + 1) ≡ largest (registerCountersAfter nr floor shipped register ops counters ledgers) k)
+        × (word (registerLookOutAfter nr floor shipped register ops counters ledgers (length copy) out) (20 + k) ≡ word (registerLedgersAfter nr floor shipped register ops counters ledgers) (register * 10 + k))
+    register-look-shows k l = (
+      register-look-sum nr floor shipped register ops counters ledgers copy out room thirty ok k l,
+      register-look-largest nr floor shipped register ops counters ledgers copy out room thirty ok k l,
+      register-look-ledger nr floor shipped register ops counters ledgers copy out room thirty ok k l,
+    )
+
+-- Item 9: "An operation gains a 32-bit segment number, in the flat list as a 53rd word": operation i of a list is what its words say,
+-- whatever stands before and after them, "n is then the length div 53"
+pub list-operation : (timestamp address : ℕ) (input output : List ℕ) (segment : ℕ) → length input ≡ 25 → length output ≡ 25 →
+    (before after : List ℕ) (i : ℕ) → length before ≡ 53 * i →
+    opAt (before ++ ((timestamp ∷ address ∷ (input ++ (output ++ (segment ∷ [])))) ++ after)) i
+    ≡ record { timestamp = timestamp; «state_addr» = address; input = input; output = output; segment = segment }
+list-operation timestamp address input output segment in-size out-size = op-words timestamp address input output segment in-size out-size
+
+pub list-count : (ops : List ℕ) → opCount ops ≡ length ops / 53
+list-count ops = refl
+
+-- "The tables' columns don't hold it": of two lists that differ in segment numbers only (`ButSegments`,
+-- keccak/specs/SegmentNumbers.antt), rows, tables and keys are the same, so values and tuples, and so is what is charged ..
+module _ (a b : List ℕ) (but : ButSegments a b) where
+  pub rows-free : (i : ℕ) → (coreRow (opAt a i) ≡ coreRow (opAt b i)) × ((nr j : ℕ) → opRow nr (opAt a i) j ≡ opRow nr (opAt b i) j)
+  rows-free i = (core-free.row-free a b but i, λ nr. round-free.row-free a b but nr i)
+
+  pub tables-free : (floor : ℕ) →
+      (coreTable floor (opCount a) (opAt a) ≡ coreTable floor (opCount b) (opAt b))
+      × ((nr : ℕ) → roundTable nr floor (opCount a) (opAt a) ≡ roundTable nr floor (opCount b) (opAt b))
+  tables-free floor = (core-free.table-free a b but floor, λ nr. round-free.table-free a b but nr floor)
+
+  pub keys-free : keyWords (opCount a) (opAt a) ≡ keyWords (opCount b) (opAt b)
+  keys-free = core-free.keys-free a b but
+
+  pub values-free : (i k : ℕ) →
+      (coreValue (coreRow (opAt a i)) k ≡ coreValue (coreRow (opAt b i)) k)
+      × ((nr j : ℕ) → roundValue (opRow nr (opAt a i) j) k ≡ roundValue (opRow nr (opAt b i) j) k)
+  values-free i k =
+      (ap (λ (x : List ℕ). coreValue x k) (rows-free i .0), λ nr j. ap (λ (x : List ℕ). roundValue x k) (rows-free i .1 nr j))
+
+  pub tuples-free : (i k nr : ℕ) →
+      ((syscall : ℕ) → coreTuple nr syscall (coreRow (opAt a i)) k ≡ coreTuple nr syscall (coreRow (opAt b i)) k)
+      × ((j : ℕ) → roundTuple (opRow nr (opAt a i) j) k ≡ roundTuple (opRow nr (opAt b i) j) k)
+  tuples-free i k nr =
+      ((λ syscall. ap (λ (x : List ℕ). coreTuple nr syscall x k) (rows-free i .0)), λ j. ap (λ (x : List ℕ). roundTuple x k) (rows-free i .1 nr j))
+
+  pub charges-free : (nr floor : ℕ) (shipped : Bool) → listCharged nr floor shipped a ≡ listCharged nr floor shipped b
+  charges-free nr floor = charge-free.charged-free a b but nr floor
+
+  -- .. and where no segment word is refused, every call refuses both lists alike and leaves the same
+  module _ (short-a : ShortSegments a) (short-b : ShortSegments b) where
+    pub core-calls-free : (floor index : ℕ) (out : List ℕ) →
+        (coreRowAfter a index out ≡ coreRowAfter b index out) × (coreRowsAfter a out ≡ coreRowsAfter b out)
+        × (coreTraceAfter floor a out ≡ coreTraceAfter floor b out) × (keysAfter a out ≡ keysAfter b out)
+    core-calls-free floor index out = (
+      core-free.row-call-free a b but short-a short-b index out .1,
+      core-free.rows-call-free a b but short-a short-b out .1,
+      core-free.trace-call-free a b but short-a short-b floor out .1,
+      core-free.keys-call-free a b but short-a short-b out .1,
+    )
+
+    pub round-calls-free : (nr floor : ℕ) (out : List ℕ) →
+        (roundRowsAfter nr a out ≡ roundRowsAfter nr b out) × (roundTraceAfter nr floor a out ≡ roundTraceAfter nr floor b out)
+    round-calls-free nr floor out =
+        (round-free.rows-call-free a b but nr short-a short-b out .1, round-free.trace-call-free a b but nr short-a short-b floor out .1)
+
+    pub charge-calls-free : (nr floor : ℕ) (shipped : Bool) (counters copy out : List ℕ) →
+        (chargeAfter nr floor shipped a counters ≡ chargeAfter nr floor shipped b counters)
+        × (lookCopyAfter nr floor shipped a counters copy (length out) ≡ lookCopyAfter nr floor shipped b counters copy (length out))
+        × (lookOutAfter nr floor shipped a counters (length copy) out ≡ lookOutAfter nr floor shipped b counters (length copy) out)
+    charge-calls-free nr floor shipped counters copy out =
+        let look = charge-free.look-call-free a b but nr floor short-a short-b shipped counters copy out in
+        (charge-free.charge-call-free a b but nr floor short-a short-b shipped counters .1, look .1, look .2)
+
+    -- what they refuse, of the room that n operations need
+    pub refusals-free : (room : ℕ) (needed : ℕ → ℕ) → operationsRefusal room (needed (opCount a)) a ≡ operationsRefusal room (needed (opCount b)) b
+    refusals-free = core-free.refusal-free a b but short-a short-b
+
+-- "Refused: 11, a segment word of 2^32 or more in a list, detail the first such word": where nothing earlier refuses and operation i is the
+-- first with such a word; accepted exactly where there is none, `none-refused` above
+pub first-segment : (room needed : ℕ) (ops : List ℕ) → opCount ops ≤ MAX-OPS → length ops % OP-WORDS ≡ 0 → needed ≤ room →
+    ((j : ℕ) → j < opCount ops → addressAt ops j ≤ LAST-ADDRESS) → ((j : ℕ) → j < opCount ops → addressAt ops j % 8 ≡ 0) →
+    (i : ℕ) → i < opCount ops → LAST-SEGMENT < segmentAt ops i → ((j : ℕ) → j < i → segmentAt ops j ≤ LAST-SEGMENT) →
+    operationsRefusal room needed ops ≡ some (Segment (segmentAt ops i))
+first-segment = segment-refused
+
+-- "after 7 and before 5": it is told only where no address is refused, and then whatever the counters hold
+pub after-7 : (room needed : ℕ) (ops : List ℕ) {w : ℕ} → operationsRefusal room needed ops ≡ some (Segment w) →
+    ((i : ℕ) → i < opCount ops → addressAt ops i ≤ LAST-ADDRESS) × ((i : ℕ) → i < opCount ops → addressAt ops i % 8 ≡ 0)
+after-7 room needed ops e = let t = told-segment room needed ops e in (t .4, t .5)
+
+pub before-5 : (nr floor : ℕ) (ops counters : List ℕ) {w : ℕ} → 1 ≤ nr → nr ≤ 24 → PowerFloor floor →
+    operationsRefusal (length counters) NUM-COUNTERS ops ≡ some (Segment w) → chargeRefusal nr floor ops counters ≡ some (Segment w)
+before-5 nr floor ops counters one most power e = charge-list nr floor ops counters one most power e
+
+-- 2^32 - 1 is accepted, and 2^32 refused, of a list of one operation at an address that is accepted
+module _ (timestamp address : ℕ) (input output : List ℕ) (in-size : length input ≡ 25) (out-size : length output ≡ 25)
+    (room needed : ℕ) (fits : needed ≤ room) (low : address ≤ LAST-ADDRESS) (even : address % 8 ≡ 0) where
+  pub case-last-segment : operationsRefusal room needed (timestamp ∷ address ∷ (input ++ (output ++ (4294967295 ∷ [])))) ≡ accepted
+  case-last-segment = last-segment timestamp address input output in-size out-size room needed fits low even
+
+  pub case-next-segment :
+      operationsRefusal room needed (timestamp ∷ address ∷ (input ++ (output ++ (4294967296 ∷ [])))) ≡ some (Segment 4294967296)
+  case-next-segment = next-segment timestamp address input output in-size out-size room needed fits low even
+
+pub case-by-11 : refusalNumber (Segment 4294967296) ≡ 11
+case-by-11 = refl
+
+-- Item 11, only one way to fill it (verdict/specs/Unique.antt). "in some order" is said in two ways, which are one for any two tables:
+-- every list of words is an active row of both equally often, and the numbers of their active rows are matched one to one, by a
+-- function with its inverse (`OneToOne`, lists/specs/OneToOne.antt), "all 1,480 words equal"
+pub either-order : (A : Layout) (t u : List ℕ) → EquallyOften A t u ↔ Rearranged A t u
+either-order = some-order
+
+-- "For a core table as in the mission's supposition, the active rows of any round table that holds with it are exactly the active
+-- rows we would write .. With Item 6 the same is said for each nr.": and for every floor
+module _ (nr : ℕ) (some : 1 ≤ nr) (most : nr ≤ 24) (floor : ℕ) (core : List ℕ) (supposed : SupposedAt nr core) where
+  pub one-way : (round : List ℕ) → Answers nr core round → EquallyOften roundLayout round (ourRounds nr floor core)
+  one-way = ours-equally nr some most floor core supposed
+
+  pub one-way-matched : (round : List ℕ) → Answers nr core round → Rearranged roundLayout round (ourRounds nr floor core)
+  one-way-matched = ours-matched nr some most floor core supposed
+
+  -- and the other way round: where every active core row is computed, exactly the tables that have our active rows in some order, and
+  -- any number of idle rows between them (`Refilled`), pass and balance
+  pub one-way-exactly : EachActive (Computed nr) core → (round : List ℕ) → Answers nr core round ↔ Refilled (ourRounds nr floor core) round
+  one-way-exactly = ours-exactly nr some most floor core supposed
+
+-- with nothing supposed: where the verdict on a core table and a round table is 'holds', it is so with another round table exactly
+-- where that has the same active rows in some order, and any idle rows
+pub one-way-of-any : (nr : ℕ) (core round other : List ℕ) → 1 ≤ nr → nr ≤ 24 → (n : ℕ) → verdictAt nr core round ≡ Holds n →
+    (verdictAt nr core other ≡ Holds n) ↔ Refilled round other
+one-way-of-any = refilled-exactly
+
+-- which words of a round row are bound, and by what. MU is a bit; an active row that passes is the written one (`Worked`) ..
+pub row-mu : (row : List ℕ) → ((k : ℕ) → word row k < p) → RoundPasses row → (word row MU ≡ 0) ⊎ (word row MU ≡ 1)
+row-mu = mu-is
+
+pub rows-that-pass : (row : List ℕ) → length row ≡ 1480 → ((k : ℕ) → word row k < p) → RoundPasses row ↔ (Worked row ⊎ Idle row)
+rows-that-pass = passes-exactly
+
+-- .. and a row whose MU is 0 passes exactly where CXZ_LEFT, ROT_LEFT and ROT_RIGHT are bytes and CXZ_RIGHT are bits (`Idle`): nothing
+-- binds its other 1,019 words
+pub padding-row : (row : List ℕ) → ((k : ℕ) → word row k < p) → word row MU ≡ 0 → RoundPasses row ↔ Idle row
+padding-row row small off = ((λ ok. passes-idle row small ok off), idle-passes row)
+
+pub padding-free : (row other : List ℕ) → ((k : ℕ) → word row k < p) → word row MU ≡ 0 →
+    ((k : ℕ) → Held k → word other k ≡ word row k) → RoundPasses row → RoundPasses other
+padding-free = free-words
+
+-- "Padding rows may differ.": any idle rows in place of those that are not active leave a verdict of 'holds' as it is ..
+pub padding-exchanged : (pad : ℕ → List ℕ) → ((r : ℕ) → length (pad r) ≡ 1480) → ((r k : ℕ) → word (pad r) k < p) → ((r : ℕ) → Idle (pad r)) →
+    (round : List ℕ) (nr : ℕ) (core : List ℕ) (n : ℕ) → verdictAt nr core round ≡ Holds n → verdictAt nr core (repadded pad round) ≡ Holds n
+padding-exchanged = repadded-holds
+
+-- .. and here are two round tables that hold with one core table, and whose eight padding rows have no word in common but MU
+pub padding-differs :
+    (verdictOf (oneCore witness) (oneRound witness) ≡ Holds 1)
+    × (verdictOf (oneCore witness) (fullRound witness) ≡ Holds 1)
+    × ((q k : ℕ) → 24 ≤ q → q < 32 → k < 1479 → word (row roundLayout (oneRound witness) q) k ≡ word (row roundLayout (fullRound witness) q) k → ⊥)
+padding-differs = (one-holds witness witness-right, full-holds witness witness-right, λ q k past there. full-differs witness q past there k)
+
+-- Item 14, the month (month/specs/Month.antt; nr and floor "are those of the month").
+-- "Refused: 14, more than 4,096 files, detail their number, after 9 and before 1.": 8 and 9 first, as in every call (`rounds-first`, `floor-first`
+-- above), then 14, then 1 of any count, then 3; accepted exactly where none is met (`Planned`)
+module _ (nr floor : ℕ) (counts : List ℕ) (room : ℕ) where
+  pub month-taken : (monthRefusal nr floor counts room ≡ accepted) ↔ (Planned nr floor counts × (39 ≤ room))
+  month-taken = month-accepted nr floor counts room
+
+  module _ (h : (1 ≤ nr) × (nr ≤ 24) × PowerFloor floor) where
+    pub month-by-14 : 4096 < length counts → monthRefusal nr floor counts room ≡ some (Files (length counts))
+    month-by-14 = month-files nr floor counts room h
+
+    pub month-by-1 : length counts ≤ 4096 → (i : ℕ) → i < length counts → MAX-OPS < word counts i → monthRefusal nr floor counts room ≡ some (PastEnd 89478486)
+    month-by-1 = month-past nr floor counts room h
+
+pub case-by-14 : refusalNumber (Files 4097) ≡ 14
+case-by-14 = refl
+
+-- "The order of the counts changes nothing but which of the tied files is shown.": of two lists that have every count equally often (`SameCounts`)
+-- what is refused, the first four words and those from the ninth on are the same, and the fullest and the emptiest are equally full
+module _ (nr floor : ℕ) (xs ys : List ℕ) (same : SameCounts xs ys) where
+  pub month-refused-same : (room : ℕ) → monthRefusal nr floor xs room ≡ monthRefusal nr floor ys room
+  month-refused-same = refusal-order nr floor xs ys same
+
+  pub month-sums-same : take 4 (monthWords nr floor xs) ≡ take 4 (monthWords nr floor ys)
+  month-sums-same = sums-order nr floor xs ys same
+
+  pub month-heights-same : drop 8 (monthWords nr floor xs) ≡ drop 8 (monthWords nr floor ys)
+  month-heights-same = heights-order nr floor xs ys same
+
+  pub month-equally-full :
+      (word (monthWords nr floor xs) 4 * word (monthWords nr floor ys) 5 ≡ word (monthWords nr floor ys) 4 * word (monthWords nr floor xs) 5)
+      × (word (monthWords nr floor xs) 6 * word (monthWords nr floor ys) 7 ≡ word (monthWords nr floor ys) 6 * word (monthWords nr floor xs) 7)
+  month-equally-full = (full-order nr floor xs ys same, empty-order nr floor xs ys same)
+
+-- "(an earlier file wins a tie, fullness compared by whole-number products)": none is fuller than the fullest, and each earlier file is less full;
+-- none is emptier than the emptiest, and each earlier file is fuller (`Best`); and there is one of both where there is a file
+module _ (nr floor : ℕ) (counts : List ℕ) where
+  pub month-fullest : (k : ℕ) → (fullest nr floor counts ≡ some k) ↔ Best (λ j i. fuller nr floor (word counts j) (word counts i)) (length counts) k
+  month-fullest = fullest-is nr floor counts
+
+  pub month-emptiest : (k : ℕ) → (emptiest nr floor counts ≡ some k) ↔ Best (λ j i. fuller nr floor (word counts i) (word counts j)) (length counts) k
+  month-emptiest = emptiest-is nr floor counts
+
+  pub month-shows : 0 < length counts → ((k : ℕ) × (fullest nr floor counts ≡ some k)) × ((k : ℕ) × (emptiest nr floor counts ≡ some k))
+  month-shows h = (shown-one true nr floor counts h, shown-one false nr floor counts h)
+
+  -- used and padding rows are all rows of all tables, and the files at all heights are the files
+  pub month-rows : word (monthWords nr floor counts) 2 + word (monthWords nr floor counts) 3 ≡ sumBelow (length counts) (λ i. roundHeight nr floor (word counts i))
+  month-rows = row-words-sum nr floor counts
+
+  module _ (p : Planned nr floor counts) where
+    pub month-files-at-heights : sumBelow 30 (λ e. word (monthWords nr floor counts) (8 + e)) ≡ length counts
+    month-files-at-heights = height-words-sum nr floor counts p
+
+    -- no word, and no product that fullness is compared by, comes near 2^64
+    pub month-fits : ((k : ℕ) → word (monthWords nr floor counts) k ≤ 2 ^ 43)
+        × ((i j : ℕ) → i < length counts → j < length counts → word counts i * nr * roundHeight nr floor (word counts j) ≤ 2 ^ 62)
+    month-fits = (words-most nr floor counts p, products-most nr floor counts p)
+
+-- a month of one file is that file's `keccak_rnd_height` and `padding_are_bytes`, 220 to a row, and is refused as they are; "(a count of 0 is a
+-- shipped table)": of no operations the padding is the whole table, whose lookups are those of an empty segment that is shipped
+module _ (nr floor n : ℕ) where
+  pub month-of-one-refused : (room : ℕ) → 39 ≤ room → monthRefusal nr floor (n ∷ []) room ≡ roundCountRefusal nr floor n
+  month-of-one-refused = one-refused nr floor n
+
+  pub month-of-one : (word (monthWords nr floor (n ∷ [])) 4 ≡ n * nr) × (word (monthWords nr floor (n ∷ [])) 5 ≡ roundHeight nr floor n)
+      × (word (monthWords nr floor (n ∷ [])) 6 ≡ n * nr) × (word (monthWords nr floor (n ∷ [])) 7 ≡ roundHeight nr floor n)
+  month-of-one = one-file nr floor n
+
+  pub month-padding-of-one : 1 ≤ n → word (monthWords nr floor (n ∷ [])) 3 * 220 ≡ padding-are-bytes nr floor n
+  month-padding-of-one = one-padding nr floor n
+
+pub month-of-shipped : (nr floor : ℕ) → PowerFloor floor → word (monthWords nr floor (0 ∷ [])) 3 ≡ floor
+month-of-shipped = one-shipped
+
+-- "An empty list has all sums 0 and no fullest or emptiest."
+pub month-of-none : (nr floor : ℕ) → monthWords nr floor [] ≡ replicate 39 0
+month-of-none = no-files
+
+-- of counts 0, 1, 2 and 4: 24 of 32 rows, 48 of 64 and 96 of 128 are equally full, and the first is shown
+pub case-month : monthWords 24 4 (0 ∷ 1 ∷ 2 ∷ 4 ∷ []) ≡ 4 ∷ 7 ∷ 168 ∷ 60 ∷ 24 ∷ 32 ∷ 0 ∷ 4 ∷ 1 ∷ 0 ∷ 0 ∷ 1 ∷ 1 ∷ 1 ∷ (replicate 24 0 ++ (1 ∷ []))
+case-month = ties
+
+-- Item 9, the operation file: "in the file under mark 4B 50 with 4 more bytes at the end, lowest first. Records marked 4B 4F still read, as
+-- segment 0.": record i is what stands in the file where it starts, as long as its mark says
+module _ (file : List ℕ) (i : ℕ) (l : i < length (recordsOf file)) where
+  abbrev there : List ℕ
+  there = drop (startAt (recordsOf file) i) file
+
+  pub record-stands : getD (recordsOf file) i [] ≡ take (sizeOf there) there
+  record-stands = record-there file i l
+
+  pub record-words : (j : ℕ) → j < OP-WORDS → word (fileWords file) (i * OP-WORDS + j) ≡ recordWord (getD (recordsOf file) i []) j
+  record-words j = file-word file i j l
+
+module _ (r : List ℕ) where
+  pub record-sizes : (isMarked r ≡ false → sizeOf r ≡ 418) × (isMarked r ≡ true → sizeOf r ≡ 422)
+  record-sizes = file.sizes r
+
+  pub record-of-old : isMarked r ≡ false → segmentOf r ≡ 0
+  record-of-old = file.old-segment r
+
+  pub case-segment : length r ≡ 418 → isMarked (r ++ (1 ∷ 2 ∷ 3 ∷ 4 ∷ [])) ≡ true → segmentOf (r ++ (1 ∷ 2 ∷ 3 ∷ 4 ∷ [])) ≡ 0x04030201
+  case-segment = file.segment-bytes r
+
+-- "6 wrong mark or cut record, detail the byte, from 0, where that record starts": behind the bytes of all records before it, which are
+-- whole; a reader refuses a mark that is neither by its second byte
+pub bad-record-starts : (file : List ℕ) (d : ℕ) → firstFault 0 0 (recordsOf file) ≡ some (BadRecord d) →
+    ((j : ℕ) × (j < length (recordsOf file)) × (d ≡ startAt (recordsOf file) j) × (isWhole (getD (recordsOf file) j []) ≡ false)
+    × ((m : ℕ) → m < j → isWhole (getD (recordsOf file) m []) ≡ true))
+bad-record-starts = bad-start
+
+pub mark-at-once : (w : WholeRecords) → recordCount w < MAX-OPS → (m a t b : ℕ) → isMark b ≡ false →
+    stepOf (Reading w (begun 1 m a t)) b ≡ cursor.Refused (BadRecord (w .start))
+mark-at-once = file.mark-refused
+
+-- "Where a counted record is marked 4B 50, `tally` prints `segments A B`, least and greatest of all counted records": both are segment numbers
+-- of counted records, no counted record has a lower or a higher one; else the line is left out (`segmentsLine`, tally_text/specs/Output.antt)
+pub segments-line : (file : List ℕ) → ((k : ℕ) → word file k < 256) → SomeMarked (alignedOf file) →
+    ((segmentsOf (alignedOf file) .shown ≡ 1) × Told (alignedOf file) (segmentsOf (alignedOf file)))
+segments-line = segments-told
+
+pub no-segments-line : (rs : List (List ℕ)) → (SomeMarked rs → ⊥) → segmentsOf rs ≡ noneTold
+no-segments-line = segments-none
+
+-- a list that `write_operations` accepts is read back from the file that it leaves; a file without a fault is written again from the list that
+-- `read_operations` leaves, where its records under 4B 50 have segment numbers above 0: an operation of segment 0 is written under 4B 4F
+pub list-to-file : (ops out : List ℕ) → ((k : ℕ) → word ops k < 2 ^ 64) → writeRefusal (length out) ops ≡ accepted →
+    fileWords (take (bytesFor ops (opCount ops)) (writeAfter ops out)) ≡ ops
+list-to-file = list-left
+
+pub file-to-list : (file : List ℕ) → firstFault 0 0 (recordsOf file) ≡ accepted → ((k : ℕ) → word file k < 256) →
+    ((i : ℕ) → i < length (recordsOf file) → isMarked (getD (recordsOf file) i []) ≡ true → 0 < segmentOf (getD (recordsOf file) i [])) →
+    (out : List ℕ) → readRefusal file (length out) ≡ accepted →
+    fileBytes (take (length (recordsOf file) * OP-WORDS) (readAfter file out)) ≡ file
+file-to-list = file-left
+
+-- Item 13: "The last output's first 32 bytes are the digest of FIPS 202.": by FIPS 202 on bits (Algorithm 8 with pad10*1 and the
+-- suffix 01, sha3/specs/Sponge.antt), of what is written for any message of bytes
+pub message-digest : (m : List ℕ) (address timestamp : ℕ) → OnlyBytes m →
+    bitsOf (lastDigest (messageList m address timestamp)) ≡ sha3-256-bits (bitsOf m)
+message-digest = message-list.list-digest
+
+-- which SHA3-256 in bytes gives too, and bytes are known by their bits
+pub digest-in-bytes : (m : List ℕ) → OnlyBytes m → bitsOf (sha3-256 m) ≡ sha3-256-bits (bitsOf m)
+digest-in-bytes = sha3-bits
+
+pub bytes-by-bits : (a b : List ℕ) → OnlyBytes a → OnlyBytes b → bitsOf a ≡ bitsOf b → a ≡ b
+bytes-by-bits = bits-known
+
+-- "write the operations in order, all at that address, and answer their number": a block each of 136 bytes, the padding being of 1
+-- to 136; "timestamps rise by 1 and the segment is 0"; "each output is Keccak-f[1600] of its input", by FIPS 202 on bits
+module _ (m : List ℕ) (address timestamp : ℕ) where
+  pub message-count : opCount (messageList m address timestamp) ≡ length m / 136 + 1
+  message-count = message-list.list-count m address timestamp
+
+  module _ (i : ℕ) (l : i < length m / 136 + 1) where
+    pub message-operation :
+        (opAt (messageList m address timestamp) i .timestamp ≡ timestamp + i) × (addressAt (messageList m address timestamp) i ≡ address)
+        × (segmentAt (messageList m address timestamp) i ≡ 0)
+    message-operation =
+        (message-list.list-stamp m address timestamp i l, message-list.list-address m address timestamp i l, message-list.list-segment m address timestamp i l)
+
+    pub message-output : OnlyBytes m →
+        Agree (bits (opAt (messageList m address timestamp) i .output)) (keccakF (bits (opAt (messageList m address timestamp) i .input)))
+    message-output = message-list.list-fips m address timestamp i l
+
+  -- "each input is the previous output with the next padded 136-byte block added by exclusive or, the first starting from zero"
+  pub message-inputs : Chained m (messageList m address timestamp)
+  message-inputs = message-list.list-chained m address timestamp
+
+  -- of what the call leaves, where it is accepted: that list, which the judge says yes to, and of which the verdict holds
+  module _ (ops : List ℕ) (passed : messageRefusal (length ops) m address timestamp ≡ accepted) where
+    pub message-left : take ((length m / 136 + 1) * OP-WORDS) (messageAfter m address timestamp ops) ≡ messageList m address timestamp
+    message-left = message-list.left-list m address timestamp ops passed
+
+    pub message-left-yes :
+        judgedOf (judgedRefusal m (messageList m address timestamp)) (isMessage m (messageList m address timestamp)) ≡ judgement.Yes
+    message-left-yes = message-list.left-judged m address timestamp ops passed
+
+    pub message-left-holds : OnlyBytes m → (floor : ℕ) →
+        verdictAt 24 (coreTable floor (opCount (messageList m address timestamp)) (opAt (messageList m address timestamp)))
+        (roundTable 24 floor (opCount (messageList m address timestamp)) (opAt (messageList m address timestamp)))
+        ≡ Holds (length m / 136 + 1)
+    message-left-holds small = message-holds m small address timestamp ops passed
+
+-- "Refused: the address by 4 or 7; 12, message too long, detail its length, and 13, timestamps that pass 2^64 − 1, detail the first
+-- given, both after 1 and before 2, in this order": accepted exactly where none of it is so (`Hashable`), and 12 before 13 before 3
+module _ (room : ℕ) (m : List ℕ) (address timestamp : ℕ) where
+  pub message-accepted : (messageRefusal room m address timestamp ≡ accepted) ↔ Hashable room m address timestamp
+  message-accepted = message-refusals.message-accepted room m address timestamp
+
+  pub message-by-12 : 65536 < length m → messageRefusal room m address timestamp ≡ some (LongMessage (length m))
+  message-by-12 = message-refusals.long-refused room m address timestamp
+
+  pub message-by-13 : length m ≤ 65536 → 2 ^ 64 ≤ timestamp + length m / 136 → messageRefusal room m address timestamp ≡ some (LateTimestamp timestamp)
+  message-by-13 few late = message-refusals.late-refused room m address timestamp few (omega arith)
+
+pub cases-by-12-13 : (refusalNumber (LongMessage 65537) ≡ 12) × (refusalNumber (LateTimestamp 18446744073709551615) ≡ 13)
+cases-by-12-13 = (refl, refl)
+
+-- "judge a list of operations against a message: yes exactly when it is that list for its own first address and timestamp"
+module _ (m ops : List ℕ) where
+  pub judged-yes : (judgedOf (judgedRefusal m ops) (isMessage m ops) ≡ judgement.Yes) ↔ ((judgedRefusal m ops ≡ accepted) × IsMessage m ops)
+  judged-yes = judge-yes m ops
+
+  pub judged-no : (judgedOf (judgedRefusal m ops) (isMessage m ops) ≡ judgement.No) ↔ ((judgedRefusal m ops ≡ accepted) × (IsMessage m ops → ⊥))
+  judged-no = judge-no m ops
+
+  -- so a list that gets yes ends with the digest
+  pub judged-digest : OnlyBytes m → judgedOf (judgedRefusal m ops) (isMessage m ops) ≡ judgement.Yes → bitsOf (lastDigest ops) ≡ sha3-256-bits (bitsOf m)
+  judged-digest small told = message-list.judged-digest m ops small (judge-yes m ops .0 told .1)
+
+  -- it is refused by 1 and 12, and then as every call that takes a list; "the judge says no in the second case", that of 13
+  pub judged-as-lists : opCount ops ≤ MAX-OPS → length m ≤ 65536 → judgedRefusal m ops ≡ operationsRefusal 0 0 ops
+  judged-as-lists = message-refusals.judged-rest m ops
+
+  pub judged-late : judgedRefusal m ops ≡ accepted → 2 ^ 64 ≤ opAt ops 0 .timestamp + length m / 136 →
+      judgedOf (judgedRefusal m ops) (isMessage m ops) ≡ judgement.No
+  judged-late passed late = judge-no m ops .1 (passed, λ h. omega (arith, h .stamps))
+
+-- "an empty list gets no"
+pub judged-empty : (m : List ℕ) → length m ≤ 65536 → judgedOf (judgedRefusal m []) (isMessage m []) ≡ judgement.No
+judged-empty m few =
+    let passed : judgedRefusal m [] ≡ accepted = message-refusals.judged-rest m [] (omega arith) few ∙ none-refused 0 0 [] .1
+    (record { few = omega arith; whole = refl; long = omega arith; low = λ i l. absurd (omega arith); aligned = λ i l. absurd (omega arith); segments = λ i l. absurd (omega arith) }) in
+    sym (judge-says false passed (empty-no m))
+
+-- the chain from a page to its receipt: any list whose inputs are chained by the message's blocks, whatever its outputs claim; where
+-- the verdict holds on what `generate_keccak_trace` leaves of it and on any round table, its last output begins with the digest
+pub page-to-receipt : (m ops : List ℕ) → OnlyBytes m → Chained m ops → ((k : ℕ) → word ops k < 2 ^ 64) →
+    (floor : ℕ) (table round : List ℕ) (n : ℕ) → coreTraceRefusal floor (length table) ops ≡ accepted →
+    verdictAt 24 (take (height floor (opCount ops) * 486) (coreTraceAfter floor ops table)) round ≡ Holds n →
+    bitsOf (lastDigest ops) ≡ sha3-256-bits (bitsOf m)
+page-to-receipt = left-digest
 
 -- ---- beyond the demands: the buses as a prover checks them, by sums of multiplicities mod p (bus_sums/specs/Sums.antt).
 -- The sentences are those of docs/WHY.md, 'As a prover checks it'; nr is any number of rounds from 1 to 24.
@@ -1021,3 +1598,90 @@ module _ (nr : ℕ) (some : 1 ≤ nr) (most : nr ≤ 24) where
 pub code-computed : {nr : ℕ} {core round : List ℕ} {v : Verdict} → Answered nr core round v → (n : ℕ) → v ≡ Holds n →
     (1 ≤ nr) × (nr ≤ 24) × EachActive (λ x. Computed nr x × Addressed x) core
 code-computed = answered-computed
+
+-- Item 10, segments, then the job (job/specs/Report.antt). `Reported` (job/proofs/Tied.antt) is a call of `job` on two tables, a list of
+-- counts and a slice that was not refused, and what the slice holds when it ends.
+-- "the job, which is all core rows and all round rows one after the other": counts that are accepted split both tables into segments
+pub job-whole : (core round counts : List ℕ) → Whole coreLayout core → Whole roundLayout round → Split core round counts →
+    (jobCore (segments core round counts) ≡ core) × (jobRound (segments core round counts) ≡ round)
+job-whole core round counts c r s = (core-joined core round counts c s, round-joined core round counts r s)
+
+-- "a list not of pairs, or whose whole sums are not the tables' rows, is refused by 2 with detail 2": the call is accepted exactly where nr
+-- is from 1 to 24, both tables are whole rows of words below p, the counts split them, and the report fits
+pub job-taken : (nr : ℕ) (core round counts : List ℕ) (room : ℕ) →
+    (jobRefusal nr core round counts room ≡ accepted) ↔ AcceptableJob nr core round counts room
+job-taken = job-accepted
+
+module _ {nr : ℕ} {core round counts before after : List ℕ} (call : Reported nr core round counts before after) where
+  -- the core table of segment i
+  abbrev segmentCore : ℕ → List ℕ
+  segmentCore i = jobSegment core round counts i .core-table
+
+  -- "the report gives the segment verdicts in order and then the job's, four lent words each .. in what was judged"; words past them stay
+  pub job-reports :
+      ((i : ℕ) → i < segmentCount counts → rowAt 4 after i ≡ verdictWords (verdictOn nr core round counts i))
+      × (rowAt 4 after (segmentCount counts) ≡ verdictWords (verdictAt nr core round))
+      × (drop ((segmentCount counts + 1) * 4) after ≡ drop ((segmentCount counts + 1) * 4) before)
+  job-reports = (segment-words call, job-words call, words-past call)
+
+  -- "0, count, 0, 0, or the failure's place (1 to 6)": no verdict of a report is a refusal
+  pub job-places : (i : ℕ) → i ≤ segmentCount counts → word after (i * 4) ≤ 6
+  job-places = reported-places call
+
+  -- "If every segment holds with the same nr and no timestamp is active in two segments, the job holds, and its active core count is the
+  -- sum."
+  pub job-adds-up : ((i : ℕ) → i < segmentCount counts → word after (i * 4) ≡ 0) → Apart core round counts →
+      rowAt 4 after (segmentCount counts) ≡ 0 ∷ sumBelow (segmentCount counts) (λ i. word after (i * 4 + 1)) ∷ 0 ∷ 0 ∷ []
+  job-adds-up = reported-together call
+
+  -- and where a timestamp is active in two of them, the job's verdict names a row of its core table that repeats one, at the latest the
+  -- later of the two
+  pub job-names : ((i : ℕ) → i < segmentCount counts → word after (i * 4) ≡ 0) →
+      (i j : ℕ) → i < j → j < segmentCount counts → (q r : ℕ) → Active coreLayout (segmentCore i) q → Active coreLayout (segmentCore j) r →
+      SameTimestamp (row coreLayout (segmentCore i) q) (row coreLayout (segmentCore j) r) →
+      (s : ℕ) × (s ≤ sumBelow j (coreRows counts) + r) × RepeatsAt coreLayout core s
+      × (rowAt 4 after (segmentCount counts) ≡ 3 ∷ 0 ∷ s ∷ 0 ∷ [])
+  job-names = reported-shared call
+
+  -- where the job holds, every active core row of every segment is computed by Keccak-p[1600, nr], at its addresses, wherever its round
+  -- rows were filed, and no timestamp is active in two segments
+  pub job-computed : word after (segmentCount counts * 4) ≡ 0 →
+      (i : ℕ) → i < segmentCount counts → EachActive (λ x. Computed nr x × Addressed x) (segmentCore i)
+  job-computed = reported-computed call
+
+  pub job-apart : word after (segmentCount counts * 4) ≡ 0 → Apart core round counts
+  job-apart = reported-apart call
+
+  -- "A job can hold while a segment fails, because a round row was filed with the wrong segment": where the job holds, a segment can fail
+  -- by an unbalanced tuple alone
+  pub job-misfiled : word after (segmentCount counts * 4) ≡ 0 →
+      (i : ℕ) → i < segmentCount counts → (word after (i * 4) ≡ 0) ⊎ (word after (i * 4) ≡ 6)
+  job-misfiled = reported-balance call
+
+-- for however the rows of two tables are filed, the job's words are the same
+pub job-refiled : {nr : ℕ} {core round counts before after counts′ before′ after′ : List ℕ} → Reported nr core round counts before after →
+    Reported nr core round counts′ before′ after′ → rowAt 4 after (segmentCount counts) ≡ rowAt 4 after′ (segmentCount counts′)
+job-refiled = reported-refiled
+
+-- Item 11 of what the two calls answer and write: where `verdict` answers 'holds', the active rows of the round table that it was
+-- lent are those that `generate_keccak_rnd_trace` writes for the active core rows, in some order, for every floor that it accepts
+module _ (nr : ℕ) (some : 1 ≤ nr) (most : nr ≤ 24) (core : List ℕ) (supposed : SupposedAt nr core) (floor : ℕ) (power : PowerFloor floor)
+    (before after : List ℕ) (room : length (ourRounds nr floor core) ≤ length before) (wrote : Wrote nr floor (operations core) before after) where
+  abbrev written : List ℕ
+  written = take (length (ourRounds nr floor core)) after
+
+  pub code-one-way : (round : List ℕ) (v : Verdict) (n : ℕ) → Answered nr core round v → v ≡ Holds n → EquallyOften roundLayout round written
+  code-one-way round v n a e = answered-equally nr some most core supposed floor power round v n a e before after room wrote
+
+  pub code-one-way-matched : (round : List ℕ) (v : Verdict) (n : ℕ) → Answered nr core round v → v ≡ Holds n → Rearranged roundLayout round written
+  code-one-way-matched round v n a e = some-order roundLayout round written .0 (code-one-way round v n a e)
+
+  -- and it answers so exactly for these rows in some order, with any idle rows
+  pub code-one-way-exactly : EachActive (Computed nr) core → (round : List ℕ) (v : Verdict) → Answered nr core round v →
+      (v ≡ Holds (actives coreLayout core)) ↔ Refilled written round
+  code-one-way-exactly right round v a = answered-exactly nr some most core supposed floor power right round v a before after room wrote
+
+-- with nothing supposed, of two calls of `verdict` with one core table
+pub code-one-way-of-any : {nr : ℕ} {core round other : List ℕ} {v w : Verdict} → Answered nr core round v → Answered nr core other w →
+    (n : ℕ) → v ≡ Holds n → (w ≡ Holds n) ↔ Refilled round other
+code-one-way-of-any = answered-refilled

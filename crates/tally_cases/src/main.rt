@@ -2,13 +2,17 @@
 // has the same lines from elsewhere.
 use libc::STDOUT_FILENO;
 use op_file::Cursor;
+use op_file::RECORD_BYTES;
+use op_file::Segments;
+use op_file::Whole;
 use op_reader::feed;
 use op_reader::start;
+use op_reader::step::none_begun;
 use op_sums::finish;
 use tally_arguments::no_arguments;
 use tally_arguments::read_argument;
 use tally_text::put_tally;
-ghost use Prim.Native.Nat.{_≤_};
+ghost use Prim.Native.Nat.{_+_, _≤_};
 
 // The highest address that is counted, the highest that is not refused, and the first that is.
 const COUNTED: u64 = 18446744073709551416;
@@ -38,6 +42,53 @@ fn records(first: u64, second: u64) -> [u8; 836] {
     file
 }
 
+// The same with the first `count` bytes of a number from `at` on, lowest first.
+fn put_number(file: [u8; 844], at: usize, count: usize, x: u64) -> [u8; 844]
+    requires { ⌜ (at + count ≤ 844) × (count ≤ 8) ⌝ }
+{
+    let mut other = file;
+    for k in 0..count {
+        other[at + k] = byte_of(x, k as u64);
+    }
+    other
+}
+
+// Two records of these addresses under 4B 50; all other words are 0.
+fn numbered(first: u64, second: u64) -> [u8; 844] {
+    let mut file = [0u8; 844];
+    file[0] = 0x4B;
+    file[1] = 0x50;
+    file[422] = 0x4B;
+    file[423] = 0x50;
+    put_number(put_number(file, 10, 8, first), 432, 8, second)
+}
+
+// A record under 4B 4F, and one under 4B 50, which ends 4 bytes before the last.
+fn mixed(first: u64, second: u64) -> [u8; 844] {
+    let mut file = [0u8; 844];
+    file[0] = 0x4B;
+    file[1] = 0x4F;
+    file[418] = 0x4B;
+    file[419] = 0x50;
+    put_number(put_number(file, 10, 8, first), 428, 8, second)
+}
+
+// The same with a segment number.
+fn put_segment(file: [u8; 844], at: usize, segment: u64) -> [u8; 844]
+    requires { ⌜ at ≤ 840 ⌝ }
+{
+    put_number(file, at, 4, segment)
+}
+
+// The same with another byte at a place.
+fn altered(file: [u8; 844], at: usize, b: u8) -> [u8; 844]
+    requires { ⌜ at ≤ 843 ⌝ }
+{
+    let mut other = file;
+    other[at] = b;
+    other
+}
+
 // The same with another byte at a place.
 fn changed(file: [u8; 836], at: usize, b: u8) -> [u8; 836]
     requires { ⌜ at ≤ 835 ⌝ }
@@ -59,17 +110,29 @@ fn print_tally(c: Cursor) {
     print_call(4, false, c);
 }
 
-// The first n bytes of a file, read at once after so many good records.
-fn print_after(name: &[u8], records: u64, file: &[u8], n: usize) {
-    io::write_all(STDOUT_FILENO, name);
-    let c = Cursor::Reading {
+// A reader after so many good records under 4B 4F.
+fn after_records(records: u64) -> Cursor
+    requires { ⌜ records ≤ 89478485 ⌝ }
+{
+    let segments = Segments {
+        shown: 0,
+        least: 0,
+        greatest: 0,
+    };
+    let w = Whole {
         n: records,
         unaligned: 0,
-        at: 0,
-        addr: 0,
+        start: records * (RECORD_BYTES as u64),
+        segments,
     };
+    Cursor::Reading(w, none_begun())
+}
+
+// The first n bytes of a file, read at once after all records but one that a file may have.
+fn print_last(name: &[u8], file: &[u8], n: usize) {
+    io::write_all(STDOUT_FILENO, name);
     if n <= file.len() {
-        print_tally(feed(c, &file[0..n]));
+        print_tally(feed(after_records(89478484), &file[0..n]));
     }
 }
 
@@ -176,18 +239,12 @@ fn two_faults() {
 // The last record that a file may have is the 89,478,485th.
 fn last_records() {
     let file = records(4096, 8192);
-    print_after(b"last record\n", 89478484, &file, 418);
-    print_after(b"a byte after the last record\n", 89478484, &file, 419);
+    print_last(b"last record\n", &file, 418);
+    print_last(b"a byte after the last record\n", &file, 419);
     let after = changed(file, 418, 0);
-    print_after(
-        b"a record with a wrong mark after the last\n",
-        89478484,
-        &after,
-        836,
-    );
-    print_after(
+    print_last(b"a record with a wrong mark after the last\n", &after, 836);
+    print_last(
         b"wrong mark in the last record, and more\n",
-        89478484,
         &changed(after, 1, 0),
         836,
     );
@@ -213,8 +270,8 @@ fn unaligned_twice() {
 // The last record that a file may have is left out.
 fn last_unaligned() {
     let file = records(4097, 8192);
-    print_after(b"last record, unaligned\n", 89478484, &file, 418);
-    print_after(b"a byte after it\n", 89478484, &file, 419);
+    print_last(b"last record, unaligned\n", &file, 418);
+    print_last(b"a byte after it\n", &file, 419);
 }
 
 fn faulty_files() {
@@ -222,6 +279,78 @@ fn faulty_files() {
     wrong_marks();
     high_addresses();
     two_faults();
+}
+
+// Records under 4B 50: the segment numbers are told, also 0.
+fn numbered_files() {
+    let file = put_segment(numbered(4096, 8192), 418, 67305985);
+    print_first(b"one record of segment 67305985\n", &file, 422);
+    print_first(b"a record of segment 67305985, then one of 0\n", &file, 844);
+    print_bytes(b"the same, byte by byte\n", &file);
+    let two = put_segment(file, 840, 4294967295);
+    print_first(b"segments 67305985 and 4294967295\n", &two, 844);
+    print_pieces(b"the same, cut in a segment number\n", &two, 420);
+}
+
+fn numbered_orders() {
+    let file = put_segment(numbered(4096, 8192), 418, 9);
+    let two = put_segment(file, 840, 3);
+    print_first(b"segments 9 and 3\n", &two, 844);
+    let same = put_segment(two, 840, 9);
+    print_first(b"segment 9 twice\n", &same, 844);
+}
+
+// Both marks in one file: a record under 4B 4F is of segment 0.
+fn mixed_files() {
+    let file = put_segment(mixed(4096, 8192), 836, 9);
+    print_first(b"a record without a segment\n", &file, 418);
+    print_first(b"a record without a segment, then one of 9\n", &file, 840);
+    print_pieces(b"the same, then 4 bytes too many\n", &file, 419);
+    print_last(b"a last record, then one of segment 9\n", &file, 840);
+}
+
+// Records that are left out count in neither.
+fn numbered_unaligned() {
+    let first = put_segment(put_segment(numbered(4097, 8192), 418, 9), 840, 4);
+    print_first(b"segment 9 left out\n", &first, 422);
+    print_first(b"segment 9 left out, then segment 4\n", &first, 844);
+    let second = put_segment(mixed(4096, 8193), 836, 9);
+    print_first(b"no segment, then segment 9 left out\n", &second, 840);
+}
+
+// Where a record starts is not told by its number alone.
+fn numbered_cuts() {
+    let file = numbered(4096, 8192);
+    print_first(b"a segment number that is cut\n", &file, 421);
+    print_first(b"no segment number\n", &file, 418);
+    print_first(b"a cut record after a segment number\n", &file, 423);
+    print_first(b"a cut segment number after another\n", &file, 843);
+    print_first(b"one cut after a record without\n", &mixed(4096, 8192), 839);
+}
+
+fn numbered_marks() {
+    let file = numbered(4096, 8192);
+    print_first(b"mark 4B 51\n", &altered(file, 1, 0x51), 2);
+    print_first(b"mark 4B 51 in record 2\n", &altered(file, 423, 0x51), 844);
+    print_first(b"mark 50 4B\n", &altered(file, 0, 0x50), 844);
+}
+
+fn numbered_addresses() {
+    let file = numbered(HIGH, 8192);
+    print_first(b"high address of a numbered record, cut\n", &file, 421);
+    print_first(b"high address of a numbered record\n", &file, 422);
+    let next = numbered(COUNTED, HIGH + 1);
+    print_bytes(b"high address in numbered record 2\n", &next);
+}
+
+fn numbered_cases() {
+    numbered_files();
+    numbered_orders();
+    mixed_files();
+    numbered_unaligned();
+    numbered_cuts();
+    numbered_marks();
+    numbered_addresses();
 }
 
 fn floors() {
@@ -271,4 +400,5 @@ fn main() {
     wrong_floors();
     arguments();
     long_arguments();
+    numbered_cases();
 }

@@ -1,5 +1,6 @@
 // The lines that `tally` writes.
 use answer::Refusal;
+use op_file::Segments;
 use op_file::Sums;
 use op_file::Tally;
 use text::put;
@@ -8,7 +9,7 @@ use text::put_line;
 ghost use Prim.Native.Nat.{_+_, _≤_};
 ghost use lib.ListN.{length};
 ghost use Rattle.text.specs.Text.{Puts};
-ghost use Rattle.tally_text.specs.Output.{heightLines, lookupLines, otherLines, unalignedLine, textOf};
+ghost use Rattle.tally_text.specs.Output.{heightLines, lookupLines, otherLines, pairLine, segmentsLine, unalignedLine, textOf};
 
 // The record count and the two heights.
 fn put_heights(s: Sums, out: &mut [u8]) -> usize
@@ -41,6 +42,27 @@ fn put_others(s: Sums, out: &mut [u8], at: usize) -> usize
     put_line(out, e1, b"Ecall ", s.ecall)
 }
 
+// A name and two numbers on a line.
+fn put_pair(out: &mut [u8], at: usize, name: &[u8], a: u64, b: u64) -> usize
+    requires { ⌜ at + length (now name) + 42 ≤ length (now out) ⌝ }
+    ensures { λ r. ⌜ Puts (now (out .entry)) at (pairLine (now (name .entry)) a b) (now (out .exit)) r × (r ≤ at + length (now (name .entry)) + 42) ⌝ }
+{
+    let e0 = put(out, at, name);
+    let e1 = put_decimal(out, e0, a);
+    put_line(out, e1, b" ", b)
+}
+
+// The line of the segment numbers, where a counted record is marked 4B 50.
+fn put_segments(s: Segments, out: &mut [u8], at: usize) -> usize
+    requires { ⌜ at + 51 ≤ length (now out) ⌝ }
+    ensures { λ r. ⌜ Puts (now (out .entry)) at (segmentsLine s) (now (out .exit)) r × (r ≤ at + 51) ⌝ }
+{
+    if s.shown == 0 {
+        return at;
+    }
+    put_pair(out, at, b"segments ", s.least, s.greatest)
+}
+
 // The last line, where records were left out.
 fn put_unaligned(left: u64, out: &mut [u8], at: usize) -> usize
     requires { ⌜ at + 31 ≤ length (now out) ⌝ }
@@ -52,7 +74,7 @@ fn put_unaligned(left: u64, out: &mut [u8], at: usize) -> usize
     put_line(out, at, b"unaligned ", left)
 }
 
-// The ten lines, and the last.
+// The ten lines, and the last two.
 fn put_sums(s: Sums, out: &mut [u8]) -> usize
     requires { ⌜ 512 ≤ length (now out) ⌝ }
     ensures { λ r. ⌜ Puts (now (out .entry)) 0 (textOf (Tally.Counted s)) (now (out .exit)) r × (r ≤ 512) ⌝ }
@@ -60,7 +82,9 @@ fn put_sums(s: Sums, out: &mut [u8]) -> usize
     let a = put_heights(s, out);
     let b = put_lookups(s, out, a);
     let c = put_others(s, out, b);
-    put_unaligned(s.unaligned, out, c)
+    let segments = s.segments;
+    let d = put_segments(segments, out, c);
+    put_unaligned(s.unaligned, out, d)
 }
 
 // The one line of a faulty file.
@@ -70,9 +94,7 @@ fn put_refused(refusal: Refusal, out: &mut [u8]) -> usize
 {
     let number = refusal.number();
     let detail = refusal.detail();
-    let a = put(out, 0, b"refused ");
-    let b = put_decimal(out, a, number);
-    put_line(out, b, b" ", detail)
+    put_pair(out, 0, b"refused ", number, detail)
 }
 
 // What `tally` writes; answers how many bytes.

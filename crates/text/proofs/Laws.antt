@@ -2,7 +2,7 @@
 use Prim.Native.Nat.{ℕ, zero, suc, _+_, _-_, _*_, _/_, _%_, _^_, _<_, _≤_}
 use mathlib.Core.Path.{_≡_, refl, sym, ap, _∙_}
 use mathlib.Core.List.{List, [], _∷_, _++_, append-assoc}
-use native.Mathlib.Nat.{pow-suc}
+use native.Mathlib.Nat.{add-zero, pow-suc}
 use native.Mathlib.Numerals.{add-one}
 use native.Mathlib.Omega.{arith}
 use lib.ListN.{length, getD, take, drop, set, length-append, length-drop, length-set}
@@ -85,6 +85,10 @@ module _ {a s b : List ℕ} {at r : ℕ} where
 
   pub puts-long : Puts a at s b r → length b ≡ length a
   puts-long p = ap length (p .is) ∙ length-sets a at s
+
+-- nothing
+pub puts-nothing : (a : List ℕ) (at : ℕ) → Puts a at [] a at
+puts-nothing a at = record { ends = sym (add-zero at); is = refl }
 
 -- one byte
 pub puts-byte : (a : List ℕ) (at x : ℕ) → Puts a at (x ∷ []) (set a at x) (at + 1)

@@ -5,6 +5,7 @@
 --     core-places       a core row's tuples on the Keccak bus: 2, which it sends, and 3, which it receives
 --     round-places      a round row's: 0, which it receives, and 1, which it sends
 --     timestamp-twice   where a timestamp stands twice, the verdict names one
+--     by-balance        where both tables pass and timestamps differ, the verdict holds or names an unbalanced tuple
 --     out-of-balance    where only the bus is wrong, the verdict names an unbalanced tuple
 use mathlib.Core.Path.{_≡_, refl, sym, ap, subst, _∙_}
 use mathlib.Core.Bool.{Bool, true, false}
@@ -33,7 +34,7 @@ use Rattle.keccak_rnd.specs.Tuples.{roundTuple}
 use Rattle.tuple.proofs.Buses.{bus-decides}
 use Rattle.matching.specs.Matching.{matched}
 use Rattle.matching.proofs.Matching.{matched-decides}
-use Rattle.answer.specs.declared.Refusal.the-variants.{PastEnd, NotWhole, TooShort, HighAddress, NotElement, BadRecord, Unaligned, Rounds, Floor}
+use Rattle.answer.specs.declared.Refusal.the-variants.{PastEnd, NotWhole, TooShort, HighAddress, NotElement, BadRecord, Unaligned, Rounds, Floor, Register, Segment, LongMessage, LateTimestamp, Files}
 use Rattle.keccak.specs.Columns.{TIMESTAMP-0, TIMESTAMP-1}
 use Rattle.verdict.specs.Kind.{Layout, Kind, rows, row, isActive, active, actives, Active, SameTimestamp, sameStamp, DistinctTimestamps, Passes, onKeccak, sent, received, OnBus, BalancedAt, Balanced}
 use Rattle.verdict.specs.Verdict.{ragged, badValue, firstValue, badLookup, firstLookup, sameStampAt, repeats, firstRepeat, uneven, unevenTuple, badTuple, firstUnbalanced, stage, fromRoundBalance, fromCoreBalance, fromRoundLookup, fromRoundValue, fromRepeat, fromCoreLookup, fromCoreValue, fromRoundWords, fromCoreWords, judged}
@@ -270,7 +271,7 @@ module _ (K L : Kind) (core round : List ℕ) where
   at-round-balance h = at-core-balance (h .0) ∙ passes (firstUnbalanced K L core round K core) _ _ (no-uneven K core .1 (h .1))
 
   -- ---- so each answer comes where it says
-  of-passes : {n : ℕ} → Say (Holds n) → ToCoreBalance K L core round
+  pub of-passes : {n : ℕ} → Say (Holds n) → ToCoreBalance K L core round
   of-passes h =
       let (c, d, r, b, e) = h in
       ((((((c .whole, r .whole, c .below, r .below), c .values), c .lookups), d), r .values), r .lookups)
@@ -302,6 +303,11 @@ module _ (K L : Kind) (core round : List ℕ) where
   said (Refused (Unaligned d)) h = absurd h
   said (Refused (Rounds d)) h = absurd h
   said (Refused (Floor d)) h = absurd h
+  said (Refused (Register d)) h = absurd h
+  said (Refused (Segment d)) h = absurd h
+  said (Refused (LongMessage d)) h = absurd h
+  said (Refused (LateTimestamp d)) h = absurd h
+  said (Refused (Files d)) h = absurd h
 
   pub verdict-iff : (v : Verdict) → (judged K L core round ≡ v) ↔ Say v
   verdict-iff v = ((λ e. subst Say e says), said v)
@@ -325,17 +331,29 @@ module _ (K L : Kind) (core round : List ℕ) where
           let f = a-repeat (K .layout) core s .0 n in
           by-le s r (λ k. (s, k, f .fails, said (Repeated s) (h, f))) (λ k. absurd (f .lower r k b q l a e))
 
-  -- both tables pass and the timestamps differ, but the bus is not balanced: the verdict names an unbalanced tuple
-  pub out-of-balance : ToCoreBalance K L core round → (Balanced K L core round → ⊥) →
-      (r i : ℕ) × ((judged K L core round ≡ Unbalanced Core r i) ⊎ (judged K L core round ≡ Unbalanced Round r i))
-  out-of-balance h n = go (firstUnbalanced K L core round K core) (firstUnbalanced K L core round L round) refl refl
+  -- both tables pass and the timestamps differ: the verdict holds, or it names an unbalanced tuple
+  pub by-balance : ToCoreBalance K L core round →
+      (judged K L core round ≡ Holds (actives (K .layout) core))
+      ⊎ ((r i : ℕ) × ((judged K L core round ≡ Unbalanced Core r i) ⊎ (judged K L core round ≡ Unbalanced Round r i)))
+  by-balance h = go (firstUnbalanced K L core round K core) (firstUnbalanced K L core round L round) refl refl
     where
       go : (o o′ : Option (ℕ × ℕ)) → firstUnbalanced K L core round K core ≡ o → firstUnbalanced K L core round L round ≡ o′ →
-          (r i : ℕ) × ((judged K L core round ≡ Unbalanced Core r i) ⊎ (judged K L core round ≡ Unbalanced Round r i))
-      go (some a) o′ e f = (a .0, a .1, inl (said (Unbalanced Core (a .0) (a .1)) (h, an-uneven K core (a .0) (a .1) .0 e)))
+          (judged K L core round ≡ Holds (actives (K .layout) core))
+          ⊎ ((r i : ℕ) × ((judged K L core round ≡ Unbalanced Core r i) ⊎ (judged K L core round ≡ Unbalanced Round r i)))
+      go (some a) o′ e f = inr (a .0, a .1, inl (said (Unbalanced Core (a .0) (a .1)) (h, an-uneven K core (a .0) (a .1) .0 e)))
       go none (some a) e f =
-          (a .0, a .1, inr (said (Unbalanced Round (a .0) (a .1)) ((h, no-uneven K core .0 e), an-uneven L round (a .0) (a .1) .0 f)))
-      go none none e f = absurd (n (even-balanced K L core round (no-uneven K core .0 e) (no-uneven L round .0 f)))
+          inr (a .0, a .1, inr (said (Unbalanced Round (a .0) (a .1)) ((h, no-uneven K core .0 e), an-uneven L round (a .0) (a .1) .0 f)))
+      go none none e f =
+          inl (said (Holds (actives (K .layout) core))
+          (core-passes h, h .0 .0 .1, round-passes h, even-balanced K L core round (no-uneven K core .0 e) (no-uneven L round .0 f), refl))
+
+  -- so where the bus is not balanced, it names an unbalanced tuple
+  pub out-of-balance : ToCoreBalance K L core round → (Balanced K L core round → ⊥) →
+      (r i : ℕ) × ((judged K L core round ≡ Unbalanced Core r i) ⊎ (judged K L core round ≡ Unbalanced Round r i))
+  out-of-balance h n = elim (by-balance h) [
+    | inl e ↦ absurd (n (verdict-iff (Holds (actives (K .layout) core)) .0 e .3))
+    | inr x ↦ x
+  ]
 
 -- ---- the core table and the round table
 pub verdict-says : (nr : ℕ) (core round : List ℕ) (v : Verdict) → (verdictAt nr core round ≡ v) ↔ Says (coreKind nr) roundKind core round v

@@ -4,30 +4,38 @@
 --                        timestamp."
 --     late-unbalanced    "A row with ROUND 24, zero constant and MU 1 passes its values and lookups, and the bus is
 --                        unbalanced."
+--     full-holds, full-differs   "Padding rows may differ.": two round tables that hold with one core table, whose padding rows have
+--                        no word in common but MU
 use mathlib.Core.Path.{_≡_, refl, sym, ap, subst, _∙_}
 use mathlib.Core.Logic.{_⊎_, inl, inr}
 use mathlib.Core.List.{List, [], _∷_, List·Memᴰ, List·Memᴰ·not-nil, List·Memᴰ·cases-cons}
-use Prim.Native.Nat.{ℕ, zero, suc, _+_, _*_, _/_, _%_, _<_}
+use Prim.Native.Nat.{ℕ, zero, suc, _+_, _-_, _*_, _/_, _%_, _≤_, _<_}
 use native.Mathlib.Omega.{arith}
-use lib.ListN.{getD}
+use lib.ListN.{length, getD, List·getD-eq-default}
 use Rattle.lists.specs.Tab.{word, rowAt}
-use Rattle.lists.proofs.Laws.{tab-same, list-tab}
+use Rattle.lists.proofs.Laws.{length-tab, getD-tab, tab-same, list-tab}
+use Rattle.lists.proofs.Then.{by-le, then-all, partStart, partSize, partAt, then-at, then-from}
 use Rattle.field.specs.Field.{p}
 use Rattle.bits.specs.Bits.{wordAt}
 use Rattle.fips202.specs.Lanes.{Lanes}
 use Rattle.keccak.specs.declared.KeccakOperation.{KeccakOperation}
 use Rattle.keccak_rnd.specs.Columns.{MU, ROUND}
-use Rattle.keccak_rnd.specs.Row.{roundRow}
+use Rattle.keccak_rnd.specs.Row.{roundRow, roundPad, roundRowAt, roundHeight, roundTable}
+use Rattle.keccak_rnd.specs.Passes.{Idle}
+use Rattle.keccak_rnd.proofs.Cases.{heights}
 use Rattle.keccak_rnd.proofs.Cells.{length-round, written-cells}
-use Rattle.keccak_rnd.proofs.Completeness.{round-written, round-words}
+use Rattle.keccak_rnd.proofs.Completeness.{round-written, round-words, pad-word}
+use Rattle.keccak_rnd.proofs.Table.{round-row-pad, round-table-row}
 use Rattle.verdict.specs.Kind.{rows, row, actives, Passes}
 use Rattle.verdict.specs.CoreAndRound.{coreLayout, roundLayout, coreKind, roundKind, verdictOf}
 use Rattle.verdict.specs.Failures.{ToRepeat, ToCoreBalance}
 use Rattle.verdict.specs.Job.{Segment, jobCore, jobRound, jobActives, Separate, SegmentsApart}
-use Rattle.verdict.specs.Honest.{RightOperation, flatState, witness, lastWitness, oneCore, oneRound, twoSegments, exchanged, exchangedCore, exchangedRound, lateRound}
+use Rattle.verdict.specs.Honest.{RightOperation, flatState, witness, lastWitness, oneCore, oneRound, twoSegments, exchanged, exchangedCore, exchangedRound, lateRound, fullWord, fullPad, fullRound}
 use Rattle.verdict.specs.declared.Table.the-variants.{Core, Round}
 use Rattle.verdict.specs.declared.Verdict.the-variants.{Holds, Repeated, Unbalanced}
-use Rattle.verdict.proofs.Tables.{RowPasses, row-passes}
+use Rattle.verdict.proofs.Tables.{RowPasses, row-passes, table-rows}
+use Rattle.verdict.proofs.TwoTables.{is-off}
+use Rattle.verdict.proofs.Unique.{new-row, repadded-holds}
 use Rattle.verdict.proofs.Failures.{timestamp-twice}
 use Rattle.verdict.proofs.Late.{late-row}
 use Rattle.verdict.proofs.Job.{join-rows, join-right, join-passes, job-holds}
@@ -119,6 +127,82 @@ late-unbalanced =
     late-row 24 (oneCore witness) lateRound late-met (rows roundLayout (oneRound witness) + 0)
     (record { there = omega (arith, join-rows roundLayout (omega arith) (oneRound witness) lateRow (one-round .whole), n); on = ap (λ (x : List ℕ). word x MU) e ∙ w .mu-is })
     (omega (arith, ap (λ (x : List ℕ). word x ROUND) e ∙ w .round-is))
+
+-- ---- other padding rows
+abbrev fullParts : List (ℕ × (ℕ → ℕ))
+fullParts = (363, λ k. p - 1) ∷ (40, λ k. 255) ∷ (20, λ k. 1) ∷ (240, λ k. p - 1) ∷ (400, λ k. 255) ∷ (416, λ k. p - 1) ∷ []
+
+full-at : (j k : ℕ) → k < partSize fullParts j → fullWord (partStart fullParts j + k) ≡ partAt (λ k. 0) fullParts j k
+unfolding fullWord
+full-at = then-at (λ k. 0) fullParts
+
+full-last : fullWord 1479 ≡ 0
+unfolding fullWord
+full-last = then-from (λ k. 0) fullParts 6 0
+
+-- each word is below p, and none but the last is 0
+full-each : (P : ℕ → Type 0) (i : ℕ) → P (p - 1) → P 255 → P 1 → (1479 ≤ i → P 0) → P (fullWord i)
+unfolding fullWord
+full-each P i free byte bit last =
+    then-all P 363 _ _ i (λ l. free)
+    (λ a e₁. then-all P 40 _ _ a (λ l. byte)
+    (λ b e₂. then-all P 20 _ _ b (λ l. bit)
+    (λ c e₃. then-all P 240 _ _ c (λ l. free)
+    (λ d e₄. then-all P 400 _ _ d (λ l. byte)
+    (λ f e₅. then-all P 416 _ _ f (λ l. free)
+    (λ g e₆. last (omega arith)))))))
+
+full-size : length fullPad ≡ 1480
+unfolding fullPad
+full-size = length-tab 1480 fullWord
+
+full-word : (k : ℕ) → k < 1480 → word fullPad k ≡ fullWord k
+unfolding fullPad
+full-word k l = getD-tab 1480 fullWord k 0 l
+
+full-below : (k : ℕ) → word fullPad k < p
+full-below k =
+    by-le 1480 k
+    (λ l. subst (λ (n : ℕ). n < p) (sym (List·getD-eq-default fullPad 0 {n = k} (omega (arith, full-size)))) (omega arith))
+    (λ l. subst (λ (n : ℕ). n < p) (sym (full-word k l)) (full-each (λ n. n < p) k (omega arith) (omega arith) (omega arith) (λ c. omega arith)))
+
+full-some : (k : ℕ) → k < 1479 → 0 < word fullPad k
+full-some k l = subst (λ (n : ℕ). 0 < n) (sym (full-word k (omega arith))) (full-each (λ n. 0 < n) k (omega arith) (omega arith) (omega arith) (λ c. omega arith))
+
+pub full-idle : Idle fullPad
+full-idle =
+    record {
+      off = full-word 1479 (omega arith) ∙ full-last;
+      left-bytes = λ k l. omega (arith, full-word (363 + k) (omega arith) ∙ full-at 1 k l);
+      right-bits = λ k l. omega (arith, full-word (403 + k) (omega arith) ∙ full-at 2 k l);
+      rot-left-bytes = λ k l. omega (arith, full-word (663 + k) (omega arith) ∙ full-at 4 k (omega arith));
+      rot-right-bytes = λ k l. omega (arith, full-word (863 + k) (omega arith) ∙ ap fullWord (later k) ∙ full-at 4 (200 + k) (omega arith));
+    }
+  where
+    later : (k : ℕ) → 863 + k ≡ 663 + (200 + k)
+    later k = omega arith
+
+-- both hold with the core table of a right operation
+pub full-holds : (o : KeccakOperation) → RightOperation 24 o → verdictOf (oneCore o) (fullRound o) ≡ Holds 1
+full-holds o right = repadded-holds (λ r. fullPad) (λ r. full-size) (λ r. full-below) (λ r. full-idle) (oneRound o) 24 (oneCore o) 1 (one-holds o right)
+
+-- and they differ in each padding row: those of the one are zero, those of the other have a zero in no column but MU
+module _ (o : KeccakOperation) (q : ℕ) (past : 24 ≤ q) (there : q < 32) where
+  zero-row : row roundLayout (oneRound o) q ≡ roundPad
+  zero-row = round-table-row 24 1 (λ i. o) 4 q (subst (λ (n : ℕ). q < n) (sym (heights .1)) there) ∙ round-row-pad 24 1 (λ i. o) q past
+
+  one-rows : rows roundLayout (oneRound o) ≡ 32
+  unfolding roundTable
+  one-rows = table-rows roundLayout (omega arith) (roundHeight 24 4 1) (roundRowAt 24 1 (λ i. o)) ∙ heights .1
+
+  full-row : row roundLayout (fullRound o) q ≡ fullPad
+  full-row =
+      new-row (λ r. fullPad) (λ r. full-size) (λ r. full-below) (λ r. full-idle) (oneRound o) q (omega (arith, one-rows))
+      (is-off roundLayout (row roundLayout (oneRound o) q) (ap (λ (x : List ℕ). word x MU) zero-row ∙ pad-word MU))
+
+  pub full-differs : (k : ℕ) → k < 1479 → word (row roundLayout (oneRound o) q) k ≡ word (row roundLayout (fullRound o) q) k → ⊥
+  full-differs k l e =
+      omega (arith, full-some k l, sym (ap (λ (x : List ℕ). word x k) full-row) ∙ sym e ∙ ap (λ (x : List ℕ). word x k) zero-row ∙ pad-word k)
 
 -- ---- two segments
 -- what holds of a segment holds of each of a list of it, and what holds of two of each of a list of both

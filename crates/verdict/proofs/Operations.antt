@@ -4,7 +4,7 @@
 --     row-again    the core row that is written for what is read from a row is that row
 --     none-refused, lendable, rows-again   the claims of demand 3 on the operations
 use mathlib.Core.Path.{_≡_, refl, sym, ap, subst, _∙_}
-use mathlib.Core.List.{List, [], _++_}
+use mathlib.Core.List.{List, [], _∷_, _++_}
 use Prim.Native.Nat.{ℕ, zero, suc, _+_, _-_, _*_, _/_, _%_, _^_, _≤_, _<_}
 use native.Mathlib.Omega.{arith}
 use lib.ListN.{length, getD, List·getD-append}
@@ -13,20 +13,21 @@ use Rattle.lists.specs.Tab.{word, tab}
 use Rattle.lists.specs.First.{countBelow}
 use Rattle.lists.proofs.Laws.{tab-same, list-tab, table-at, length-table, length-rowAt, holds-row}
 use Rattle.lists.proofs.Then.{by-le}
+use Rattle.lists.proofs.Count.{count-before}
 use Rattle.bits.specs.Bits.{byteAt, laneByte, wordAt, limbAt}
 use Rattle.bits.proofs.Bytes.{lane-byteAt}
 use Rattle.answer.specs.Limits.{MAX-OPS}
 use Rattle.answer.specs.Refusal.{accepted}
 use Rattle.fips202.specs.Lanes.{Lanes}
 use Rattle.keccak.specs.Columns.{TIMESTAMP-0, TIMESTAMP-1, INPUT-STATE, OUTPUT-STATE, MU, NUM-COLUMNS, addr, state-ptr, laneColumn}
-use Rattle.keccak.specs.Row.{pointerLimb, coreGroups, coreRow, OP-WORDS, opAt, stateLanes, coreAddress}
+use Rattle.keccak.specs.Row.{pointerLimb, coreGroups, coreRow, OP-WORDS, SEGMENT-WORD, opAt, stateLanes, coreAddress}
 use Rattle.keccak.specs.Passes.{CoreCells}
 use Rattle.keccak.specs.Refusals.{opCount, operationsRefusal}
 use Rattle.keccak.specs.declared.KeccakOperation.{KeccakOperation}
 use Rattle.keccak.proofs.State.{length-state, state-lanes, state-byte}
 use Rattle.keccak.proofs.Cells.{length-core}
 use Rattle.keccak.proofs.Refusals.{accepted-is}
-use Rattle.bus.proofs.Listed.{index-mem, by-tab, count-before, selected-length, selected-at}
+use Rattle.bus.proofs.Listed.{index-mem, by-tab, selected-length, selected-at}
 use Rattle.verdict.specs.Kind.{Layout, rows, row, isActive, active, actives, activeRows, Active}
 use Rattle.verdict.specs.CoreAndRound.{coreLayout}
 use Rattle.verdict.specs.Claims.{EachActive, ShortTimestamp, States, opWords, operations}
@@ -41,6 +42,7 @@ readOp x =
       «state_addr» = coreAddress x;
       input = stateLanes INPUT-STATE x;
       output = stateLanes OUTPUT-STATE x;
+      segment = 0;
     }
 
 pub low-word : (a b : ℕ) → a < 2 ^ 32 → wordAt (a + 2 ^ 32 * b) 0 ≡ a
@@ -109,9 +111,17 @@ module _ (x : List ℕ) where
         mu-again k l = let e : 485 + k ≡ MU = omega arith in ap (word x) e ∙ on
 
   -- its words in a list of operations
-  past-two : (k : ℕ) → word (opWords x) (2 + k) ≡ word (stateLanes INPUT-STATE x ++ stateLanes OUTPUT-STATE x) k
+  abbrev after-input : List ℕ
+  after-input = stateLanes OUTPUT-STATE x ++ (0 ∷ [])
+
+  past-two : (k : ℕ) → word (opWords x) (2 + k) ≡ word (stateLanes INPUT-STATE x ++ after-input) k
   unfolding opWords
   past-two k = let e : 2 + k ≡ suc (suc k) = omega arith in ap (word (opWords x)) e
+
+  past-input : (k : ℕ) → word (opWords x) (27 + k) ≡ word after-input k
+  past-input k =
+      let e : 27 + k ≡ 2 + (length (stateLanes INPUT-STATE x) + k) = omega (arith, length-state INPUT-STATE x) in
+      ap (word (opWords x)) e ∙ past-two (length (stateLanes INPUT-STATE x) + k) ∙ getD-append-add (stateLanes INPUT-STATE x) after-input k 0
 
   op-stamp : word (opWords x) 0 ≡ readOp x .timestamp
   unfolding opWords
@@ -122,21 +132,26 @@ module _ (x : List ℕ) where
   op-address = refl
 
   op-input : (k : ℕ) → k < 25 → word (opWords x) (2 + k) ≡ word (stateLanes INPUT-STATE x) k
-  op-input k l = past-two k ∙ List·getD-append (stateLanes INPUT-STATE x) (stateLanes OUTPUT-STATE x) 0 k (omega (arith, length-state INPUT-STATE x))
+  op-input k l = past-two k ∙ List·getD-append (stateLanes INPUT-STATE x) after-input 0 k (omega (arith, length-state INPUT-STATE x))
 
   op-output : (k : ℕ) → k < 25 → word (opWords x) (27 + k) ≡ word (stateLanes OUTPUT-STATE x) k
-  op-output k l =
-      let e : 27 + k ≡ 2 + (length (stateLanes INPUT-STATE x) + k) = omega (arith, length-state INPUT-STATE x) in
-      ap (word (opWords x)) e ∙ past-two (length (stateLanes INPUT-STATE x) + k) ∙ getD-append-add (stateLanes INPUT-STATE x) (stateLanes OUTPUT-STATE x) k 0
+  op-output k l = past-input k ∙ List·getD-append (stateLanes OUTPUT-STATE x) (0 ∷ []) 0 k (omega (arith, length-state OUTPUT-STATE x))
+
+  op-segment : word (opWords x) SEGMENT-WORD ≡ 0
+  op-segment =
+      let e : 25 ≡ length (stateLanes OUTPUT-STATE x) + 0 = omega (arith, length-state OUTPUT-STATE x) in
+      past-input 25 ∙ ap (word after-input) e ∙ getD-append-add (stateLanes OUTPUT-STATE x) (0 ∷ []) 0 0
 
   op-word : ShortTimestamp x → coreAddress x < 2 ^ 64 → States x → (k : ℕ) → k < OP-WORDS → word (opWords x) k < 2 ^ 64
   op-word stamp low states zero l = let a = stamp .0 in let b = stamp .1 in omega (arith, op-stamp)
   op-word stamp low states (suc zero) l = omega (arith, op-address)
   op-word stamp low states (suc (suc k)) l =
       by-le 25 k
-      (λ h. let q : 27 + (k - 25) ≡ suc (suc k) = omega arith in
-      let g : k - 25 < 25 = omega arith in
-      subst (λ (m : ℕ). word (opWords x) m < 2 ^ 64) q (subst (λ (m : ℕ). m < 2 ^ 64) (sym (op-output (k - 25) g)) (lanes-small OUTPUT-STATE (states .output-bytes) (k - 25) g)))
+      (λ h. by-le 50 k
+      (λ g. let q : SEGMENT-WORD ≡ suc (suc k) = omega arith in subst (λ (m : ℕ). word (opWords x) m < 2 ^ 64) q (omega (arith, op-segment)))
+      (λ g. let q : 27 + (k - 25) ≡ suc (suc k) = omega arith in
+      let b : k - 25 < 25 = omega arith in
+      subst (λ (m : ℕ). word (opWords x) m < 2 ^ 64) q (subst (λ (m : ℕ). m < 2 ^ 64) (sym (op-output (k - 25) b)) (lanes-small OUTPUT-STATE (states .output-bytes) (k - 25) b))))
       (λ h. let q : 2 + k ≡ suc (suc k) = omega arith in
       subst (λ (m : ℕ). word (opWords x) m < 2 ^ 64) q (subst (λ (m : ℕ). m < 2 ^ 64) (sym (op-input k h)) (lanes-small INPUT-STATE (states .input-bytes) k h)))
 
@@ -172,18 +187,24 @@ module _ (core : List ℕ) where
 
     stamp-at : opAt (operations core) i .timestamp ≡ readOp x .timestamp
     unfolding opAt
-    stamp-at = let e : 52 * i ≡ i * 52 + 0 = omega arith in ap (word (operations core)) e ∙ ops-at i 0 l (omega arith) ∙ op-stamp x
+    stamp-at = let e : OP-WORDS * i ≡ i * OP-WORDS + 0 = omega arith in ap (word (operations core)) e ∙ ops-at i 0 l (omega arith) ∙ op-stamp x
 
     address-at : opAt (operations core) i .«state_addr» ≡ coreAddress x
     unfolding opAt
-    address-at = let e : 52 * i + 1 ≡ i * 52 + 1 = omega arith in ap (word (operations core)) e ∙ ops-at i 1 l (omega arith) ∙ op-address x
+    address-at = let e : OP-WORDS * i + 1 ≡ i * OP-WORDS + 1 = omega arith in ap (word (operations core)) e ∙ ops-at i 1 l (omega arith) ∙ op-address x
+
+    segment-at : opAt (operations core) i .segment ≡ 0
+    unfolding opAt
+    segment-at =
+        let e : OP-WORDS * i + SEGMENT-WORD ≡ i * OP-WORDS + SEGMENT-WORD = omega arith in
+        ap (word (operations core)) e ∙ ops-at i SEGMENT-WORD l (omega arith) ∙ op-segment x
 
     -- 25 lanes, of which the first is word `from` of the operation
     lanes-at : (base from : ℕ) → from ≤ 27 → ((k : ℕ) → k < 25 → word (opWords x) (from + k) ≡ word (stateLanes base x) k) →
-        tab 25 (λ k. word (operations core) (52 * i + from + k)) ≡ stateLanes base x
+        tab 25 (λ k. word (operations core) (OP-WORDS * i + from + k)) ≡ stateLanes base x
     lanes-at base from fits h =
-        tab-same 25 (λ k. word (operations core) (52 * i + from + k)) (λ k. word (stateLanes base x) k) (λ k g.
-        let e : 52 * i + from + k ≡ i * 52 + (from + k) = omega arith in
+        tab-same 25 (λ k. word (operations core) (OP-WORDS * i + from + k)) (λ k. word (stateLanes base x) k) (λ k g.
+        let e : OP-WORDS * i + from + k ≡ i * OP-WORDS + (from + k) = omega arith in
         ap (word (operations core)) e ∙ ops-at i (from + k) l (omega arith) ∙ h k g)
         ∙ sym (list-tab (stateLanes base x) 25 (length-state base x))
 
@@ -196,7 +217,7 @@ module _ (core : List ℕ) where
     output-at = lanes-at OUTPUT-STATE 27 (omega arith) (op-output x)
 
     pub op-is : opAt (operations core) i ≡ readOp x
-    op-is = λ p. record { timestamp = stamp-at p; «state_addr» = address-at p; input = input-at p; output = output-at p }
+    op-is = λ p. record { timestamp = stamp-at p; «state_addr» = address-at p; input = input-at p; output = output-at p; segment = segment-at p }
 
   -- ---- what demand 3 claims of them
   module _ (few : actives coreLayout core ≤ MAX-OPS) (stamps : EachActive ShortTimestamp core) (cells : EachActive CoreCells core) where
@@ -213,17 +234,18 @@ module _ (core : List ℕ) where
           aligned = λ i l.
               let h : i < length rowsOf = omega (arith, ops-count) in
               ap (λ (a : ℕ). a % 8) (address-at i h) ∙ of-active CoreCells cells i h .aligned;
+          segments = λ i l. let h : i < length rowsOf = omega (arith, ops-count) in omega (arith, segment-at i h);
         })
 
     pub lendable : EachActive States core → (k : ℕ) → k < length (operations core) → word (operations core) k < 2 ^ 64
     lendable states k l =
-        let i : k / 52 < length rowsOf = omega (arith, ops-length) in
-        let g : k % 52 < 52 = omega arith in
-        let e : k / 52 * 52 + k % 52 ≡ k = omega arith in
+        let i : k / OP-WORDS < length rowsOf = omega (arith, ops-length) in
+        let g : k % OP-WORDS < OP-WORDS = omega arith in
+        let e : k / OP-WORDS * OP-WORDS + k % OP-WORDS ≡ k = omega arith in
         subst (λ (m : ℕ). word (operations core) m < 2 ^ 64) e
-        (subst (λ (m : ℕ). m < 2 ^ 64) (sym (ops-at (k / 52) (k % 52) i g))
-        (op-word (getD rowsOf (k / 52) []) (of-active ShortTimestamp stamps (k / 52) i) (omega (arith, of-active CoreCells cells (k / 52) i .below))
-        (of-active States states (k / 52) i) (k % 52) g))
+        (subst (λ (m : ℕ). m < 2 ^ 64) (sym (ops-at (k / OP-WORDS) (k % OP-WORDS) i g))
+        (op-word (getD rowsOf (k / OP-WORDS) []) (of-active ShortTimestamp stamps (k / OP-WORDS) i) (omega (arith, of-active CoreCells cells (k / OP-WORDS) i .below))
+        (of-active States states (k / OP-WORDS) i) (k % OP-WORDS) g))
 
     pub rows-again : EachActive States core → (r : ℕ) → Active coreLayout core r →
         coreRow (opAt (operations core) (countBelow (active coreLayout core) r)) ≡ row coreLayout core r

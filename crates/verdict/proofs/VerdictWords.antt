@@ -3,7 +3,7 @@ use mathlib.Core.Path.{_≡_, refl, sym, ap, _∙_}
 use mathlib.Core.List.{List, [], _∷_}
 use Prim.Native.Nat.{ℕ, zero, suc}
 use Rattle.answer.specs.declared.Refusal.{Refusal}
-use Rattle.answer.specs.declared.Refusal.the-variants.{PastEnd, NotWhole, TooShort, HighAddress, NotElement, BadRecord, Unaligned, Rounds, Floor}
+use Rattle.answer.specs.declared.Refusal.the-variants.{PastEnd, NotWhole, TooShort, HighAddress, NotElement, BadRecord, Unaligned, Rounds, Floor, Register, Segment, LongMessage, LateTimestamp, Files}
 use Rattle.verdict.specs.Verdict.{verdictWords}
 use Rattle.verdict.specs.declared.Table.{Table}
 use Rattle.verdict.specs.declared.Table.the-variants.{Core, Round}
@@ -59,7 +59,12 @@ refusalFrom (suc (suc (suc (suc (suc zero))))) d = NotElement d
 refusalFrom (suc (suc (suc (suc (suc (suc zero)))))) d = BadRecord d
 refusalFrom (suc (suc (suc (suc (suc (suc (suc zero))))))) d = Unaligned d
 refusalFrom (suc (suc (suc (suc (suc (suc (suc (suc zero)))))))) d = Rounds d
-refusalFrom (suc (suc (suc (suc (suc (suc (suc (suc (suc n))))))))) d = Floor d
+refusalFrom (suc (suc (suc (suc (suc (suc (suc (suc (suc zero))))))))) d = Floor d
+refusalFrom (suc (suc (suc (suc (suc (suc (suc (suc (suc (suc zero)))))))))) d = Register d
+refusalFrom (suc (suc (suc (suc (suc (suc (suc (suc (suc (suc (suc zero))))))))))) d = Segment d
+refusalFrom (suc (suc (suc (suc (suc (suc (suc (suc (suc (suc (suc (suc zero)))))))))))) d = LongMessage d
+refusalFrom (suc (suc (suc (suc (suc (suc (suc (suc (suc (suc (suc (suc (suc zero))))))))))))) d = LateTimestamp d
+refusalFrom (suc (suc (suc (suc (suc (suc (suc (suc (suc (suc (suc (suc (suc (suc n)))))))))))))) d = Files d
 
 verdictFrom : List ℕ → Verdict
 verdictFrom (zero ∷ a ∷ b ∷ c ∷ ws) = Holds a
@@ -94,6 +99,11 @@ words-back (Refused (BadRecord d)) = refl
 words-back (Refused (Unaligned d)) = refl
 words-back (Refused (Rounds d)) = refl
 words-back (Refused (Floor d)) = refl
+words-back (Refused (Register d)) = refl
+words-back (Refused (Segment d)) = refl
+words-back (Refused (LongMessage d)) = refl
+words-back (Refused (LateTimestamp d)) = refl
+words-back (Refused (Files d)) = refl
 
 -- two verdicts with the same words are the same
 pub words-tell : (v w : Verdict) → verdictWords v ≡ verdictWords w → v ≡ w

@@ -1,11 +1,13 @@
 //! The tables of the program `verdict_cases`, made by the published Rust and damaged in the same way, and what `judge` says
-//! of each. The file `crates/verdict_cases/stdout` has these lines.
+//! of each, and `jobs` of two of them as a job. The file `crates/verdict_cases/stdout` has these lines.
 
 use oracle::sample::permuted;
 use oracle::tables::keccak::cols as core_cols;
 use oracle::tables::keccak_rnd::cols;
 use oracle::{CORE_COLUMNS, OPERATION_WORDS, P, ROUND_COLUMNS, core_table, round_table};
 
+use crate::by_rounds::ALL;
+use crate::jobs::{Job, report};
 use crate::judge::verdict;
 
 /// The first timestamp, and the address of the second operation.
@@ -18,9 +20,9 @@ struct Tables {
     round: Vec<u64>,
 }
 
-/// The operation of a timestamp, an address, an input and an output.
+/// The operation of a timestamp, an address, an input and an output; its segment number is the lower half of the timestamp.
 fn operation(timestamp: u64, address: u64, input: [u64; 25], output: [u64; 25]) -> Vec<u64> {
-    [&[timestamp, address][..], &input, &output].concat()
+    [&[timestamp, address][..], &input, &output, &[timestamp & 0xFFFF_FFFF]].concat()
 }
 
 /// Keccak-f[1600], as the published round table makes it.
@@ -41,9 +43,14 @@ fn written(timestamp: u64, address: u64, exchanged: bool) -> Tables {
     ]
     .concat();
     assert_eq!(list.len(), 2 * OPERATION_WORDS);
+    tables_of(&list)
+}
+
+/// The tables of a list.
+fn tables_of(list: &[u64]) -> Tables {
     Tables {
-        core: core_table(&list),
-        round: round_table(&list),
+        core: core_table(list),
+        round: round_table(list),
     }
 }
 
@@ -74,9 +81,48 @@ fn put_late_row(round: &mut [u64]) {
     late.copy_within(cols::CHI..cols::CHI + 8, cols::IOTA);
 }
 
-/// A line for each case: its name, then the four words of the verdict.
-pub fn lines() -> Vec<String> {
+/// A job of two segments with the two right operations, the second at a timestamp, and these counts.
+fn segments(timestamp: u64, counts: [u64; 4]) -> Job {
+    let input = keccak_f([0; 25]);
+    let middle = keccak_f(input);
+    let first = tables_of(&operation(STAMP, 4096, input, middle));
+    let second = tables_of(&operation(timestamp, ADDRESS, middle, keccak_f(middle)));
+    Job {
+        nr: ALL,
+        core: [first.core, second.core].concat(),
+        round: [first.round, second.round].concat(),
+        counts: counts.to_vec(),
+    }
+}
+
+/// A line for each verdict of a report, or for its refusal.
+fn job_lines(name: &str, job: &Job) -> Vec<String> {
+    match report(job, 12) {
+        Err((number, detail)) => vec![format!("{name} refused {number} {detail}")],
+        Ok(words) => ["segment 0", "segment 1", "job"]
+            .iter()
+            .zip(words.chunks_exact(4))
+            .map(|(part, words)| format!("{name} {part} {} {} {} {}", words[0], words[1], words[2], words[3]))
+            .collect(),
+    }
+}
+
+/// The lines of the jobs.
+fn jobs() -> Vec<String> {
     [
+        ("two segments", segments(STAMP + 1, [4, 32, 4, 32])),
+        ("misfiled", segments(STAMP + 1, [4, 33, 4, 31])),
+        ("shared timestamp", segments(STAMP, [4, 32, 4, 32])),
+        ("sums that wrap", segments(STAMP + 1, [12, 64, u64::MAX - 3, 0])),
+    ]
+    .iter()
+    .flat_map(|(name, job)| job_lines(name, job))
+    .collect()
+}
+
+/// A line for each case: its name, then the four words of the verdict; then those of the jobs.
+pub fn lines() -> Vec<String> {
+    let cases = [
         ("as written", damaged(|_| ())),
         (
             "no rows",
@@ -125,6 +171,6 @@ pub fn lines() -> Vec<String> {
     .map(|(name, Tables { core, round })| {
         let [a, b, c, d] = verdict(&core, &round).words();
         format!("{name} {a} {b} {c} {d}")
-    })
-    .collect()
+    });
+    cases.chain(jobs()).collect()
 }

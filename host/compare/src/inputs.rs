@@ -119,6 +119,25 @@ impl Words {
             address: self.address(),
             input: std::array::from_fn(|_| self.lane()),
             output: std::array::from_fn(|_| self.lane()),
+            segment: self.segment(),
+        }
+    }
+
+    /// A byte that may stand for one of a mark: of either mark, about them, or any.
+    pub fn mark(&mut self) -> u8 {
+        match self.below(4) {
+            0 => [0x4A, 0x4B, 0x4E, 0x4F, 0x50, 0x51][self.below(6) as usize],
+            1 => [0x4F, 0x50][self.below(2) as usize],
+            _ => self.below(256) as u8,
+        }
+    }
+
+    /// A segment number: of any size, and now and then one at an edge.
+    pub fn segment(&mut self) -> u32 {
+        match self.below(4) {
+            0 => [0, 1, 255, 256, 65_535, 65_536, 1 << 31, u32::MAX][self.below(8) as usize],
+            1 => self.below(1 << 8) as u32,
+            _ => self.below(1 << 32) as u32,
         }
     }
 

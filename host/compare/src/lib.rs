@@ -2,11 +2,11 @@
 //!
 //! `rows` compares rows, tables, keys, counters and refusals, `values` the constraint values of core and round rows and
 //! `tuples` their tuples. `looked_up` has the two tables that are looked up, whole, `charge` what a segment charges to the counters of one
-//! of them (`plain_charge` is a plain charge to time it against). `verdicts` holds the verdict against `judge`, a judge
-//! of its own, on the tables of `dishonest`, `lines` its line of text. `tally`
-//! reads operation files, `limit` the longest ones, and `refusals` has the table of what each call refuses. `rounds` has every number of
-//! rounds, by what `by_rounds` makes of the Rust's 24, and `floors` every floor, by what `by_floor` makes of the Rust's 4. A further area is a
-//! module beside them and a name in `bin/differential.rs`. `cases` has the small tables of the program `verdict_cases`.
+//! of them (`plain_charge` is a plain charge to time it against), `registers` what several registers do. `verdicts` holds the verdict against `judge`, a judge
+//! of its own, on the tables of `dishonest`, `lines` its line of text, `jobs` the report on a job's segments. `tally`
+//! reads operation files, beside `plain_file`, which reads them too, `limit` the longest ones, and `refusals` has the table of what each call refuses. `rounds` has every number of
+//! rounds, by what `by_rounds` makes of the Rust's 24, and `floors` every floor, by what `by_floor` makes of the Rust's 4; `month` has the month
+//! by exact fractions, `message` what is written and judged for messages, by a SHA3-256 of its own, `plain_sha3`. A further area is a module beside them and a name in `bin/differential.rs`. `cases` has the small tables of the program `verdict_cases`.
 
 #![deny(unsafe_code)]
 #![warn(missing_docs)]
@@ -20,15 +20,21 @@ pub mod dishonest;
 pub mod evaluated;
 pub mod floors;
 pub mod inputs;
+pub mod jobs;
 pub mod judge;
 pub mod lent;
 pub mod limit;
 pub mod lines;
 pub mod list_calls;
 pub mod looked_up;
+pub mod message;
+pub mod month;
 pub mod plain_charge;
+pub mod plain_file;
+pub mod plain_sha3;
 pub mod refusals;
 pub mod refused;
+pub mod registers;
 pub mod rounds;
 pub mod rows;
 pub mod say;

@@ -1,14 +1,15 @@
-//! Operation files about the most records that one may have: 37 GB, which repeat a piece of 55 MB.
+//! Operation files about the most records that one may have: 37 or 38 GB, which repeat a piece of 55 MB.
 
-use keccak_tables::operation_file::{RECORD_BYTES, Tally, read_operations};
-use keccak_tables::{MAX_OPS, OP_WORDS, Parameters};
+use keccak_tables::operation_file::{RECORD_BYTES, SEGMENT_RECORD_BYTES, Tally, read_operations};
+use keccak_tables::{MAX_OPS, OP_WORDS, Parameters, SEGMENT_WORD};
 
 use crate::comparison::Comparison;
 use crate::inputs::Words;
 use crate::lent::Lent;
 use crate::list_calls::TOO_MANY;
+use crate::plain_file::file_of;
 use crate::say;
-use crate::tally::{file_of, numbers};
+use crate::tally::numbers;
 use crate::untouched::Repeated;
 
 /// The records of the piece: so many that it is whole pages.
@@ -17,31 +18,43 @@ const RECORDS: usize = 1 << 17;
 /// What every file with a byte too many is refused with.
 const PAST_END: Option<(u64, u64)> = Some((1, TOO_MANY));
 
-/// The bytes of the longest file.
+/// The bytes of the longest file under 4B 4F, and of the longest of all, under 4B 50.
 const MOST: usize = MAX_OPS * RECORD_BYTES;
+const MOST_OF_ALL: usize = MAX_OPS * SEGMENT_RECORD_BYTES;
 
 /// The whole area; nothing in it but the piece's operations is drawn.
 pub fn compare(comparison: &mut Comparison, seed: u64, _n: usize) {
     let mut words = Words::new(seed);
     let mut ops = words.operations(RECORDS);
-    let Some(file) = repeated(&ops) else {
-        return;
-    };
-    comparison.group("sums of the longest file, and a byte more");
-    reader(comparison, &file.bytes()[..MOST], 0);
-    comparison.group("operations of the longest file into a short list, and a byte or a record more");
-    into_short_lists(comparison, &mut words, file.bytes());
-    drop(file);
-    // What is left out has a place in the file all the same.
-    for operation in ops.chunks_exact_mut(OP_WORDS).skip(7).step_by(1000) {
-        operation[1] += 4;
+    for operation in ops.chunks_exact_mut(OP_WORDS) {
+        operation[SEGMENT_WORD] = 0;
     }
     let Some(file) = repeated(&ops) else {
         return;
     };
-    comparison.group("sums of the longest file, some of its records off the eight, and a byte more");
+    comparison.group("sums of the longest file, and a byte more");
+    reader(comparison, &file.bytes()[..MOST], 0, [0; 3]);
+    comparison.group("operations of the longest file into a short list, and a byte or a record more");
+    into_short_lists(comparison, &mut words, file.bytes());
+    drop(file);
+    // What is left out has a place in the file all the same.
+    for operation in ops.chunks_exact_mut(OP_WORDS) {
+        operation[SEGMENT_WORD] = 2 + words.below(1 << 30);
+    }
+    for operation in ops.chunks_exact_mut(OP_WORDS).skip(7).step_by(1000) {
+        operation[1] += 4;
+        operation[SEGMENT_WORD] = 1;
+    }
+    let segments = ops.chunks_exact(OP_WORDS).map(|operation| operation[SEGMENT_WORD]);
+    let counted = segments.filter(|&segment| segment > 1);
+    let told = [1, counted.clone().min().unwrap_or(0), counted.max().unwrap_or(0)];
+    let Some(file) = repeated(&ops) else {
+        return;
+    };
+    comparison
+        .group("sums of the longest file of all, under 4B 50, some of its records off the eight, and a byte more");
     let left_out = (0..MAX_OPS).filter(|record| record % RECORDS % 1000 == 7).count();
-    reader(comparison, &file.bytes()[..MOST], left_out);
+    reader(comparison, &file.bytes()[..MOST_OF_ALL], left_out, told);
 }
 
 /// The file that repeats a piece's operations, where the system has the addresses for it.
@@ -67,8 +80,8 @@ fn into_short_lists(comparison: &mut Comparison, words: &mut Words, file: &[u8])
     }
 }
 
-/// The longest file in one piece, with so many records off the eight; then its end, a byte that begins a record, and one that does not.
-fn reader(comparison: &mut Comparison, file: &[u8], left_out: usize) {
+/// The longest file in one piece, with so many records off the eight and these segment numbers; then its end, a byte that begins a record, and one that does not.
+fn reader(comparison: &mut Comparison, file: &[u8], left_out: usize, segments: [u64; 3]) {
     let mut tally = Tally::new();
     tally.feed(file);
     let fault = |tally: &Tally| tally.fault().map_or(Ok(()), Err);
@@ -78,7 +91,7 @@ fn reader(comparison: &mut Comparison, file: &[u8], left_out: usize) {
     for mode in [today, today.shipped(), today.floor(65_536)] {
         let input = || format!("{mode:?}, the longest file");
         if let Some(sums) = comparison.done(input, tally.clone().finish_with(mode)) {
-            comparison.equal(|_| input(), &numbers(&sums), &expected(left_out));
+            comparison.equal(|_| input(), &numbers(&sums), &expected(left_out, segments));
         }
     }
     for byte in *b"KO" {
@@ -93,7 +106,7 @@ fn reader(comparison: &mut Comparison, file: &[u8], left_out: usize) {
 }
 
 /// The sums by the published Rust: each operation that is not left out sends as much as another, and the padding only on AreBytes.
-fn expected(left_out: usize) -> Vec<u64> {
+fn expected(left_out: usize, segments: [u64; 3]) -> Vec<u64> {
     let counted = MAX_OPS - left_out;
     let n = counted as u64;
     let one = oracle::tally(&[0; OP_WORDS]).map(|(_, sum)| u64::try_from(sum).expect("a sum is a word"));
@@ -101,5 +114,5 @@ fn expected(left_out: usize) -> Vec<u64> {
     sums[1] = n.next_power_of_two();
     sums[2] = (24 * n).next_power_of_two();
     sums[4] = n * (one[4] - oracle::padding_are_bytes(1)) + oracle::padding_are_bytes(counted);
-    [&sums[..], &[left_out as u64]].concat()
+    [&sums[..], &[left_out as u64], &segments].concat()
 }

@@ -4,9 +4,9 @@
 
 use keccak_tables::is_wh::IsWhKey;
 use keccak_tables::keccak::LAST_ADDRESS;
-use keccak_tables::operation_file::{RECORD_BYTES, Tally, read_operations, write_operations};
+use keccak_tables::operation_file::{Tally, read_operations, write_operations};
 use keccak_tables::verdict::{verdict_line_with, verdict_text_with, verdict_with};
-use keccak_tables::{MAX_OPS, OP_WORDS, P, Parameters, Refusal, bitwise, keccak, keccak_rnd};
+use keccak_tables::{MAX_OPS, OP_WORDS, P, Parameters, Refusal, SEGMENT_WORD, bitwise, keccak, keccak_rnd};
 
 use crate::by_floor;
 use crate::comparison::Comparison;
@@ -14,17 +14,21 @@ use crate::evaluated::{CORE, ROUND};
 use crate::inputs::{LAST_ALIGNED, Words};
 use crate::judge;
 use crate::lent::{Lent, LentBytes};
-use crate::list_calls::{ADDRESSES, LIST_CALLS, list_with, of_list};
+use crate::list_calls::{LIST_CALLS, PUT, list_with, of_list};
+use crate::plain_file::{self, file_of, first_fault, operations_of};
 use crate::refused::on_slice;
-use crate::tally::{file_of, first_fault, operations_of, read};
+use crate::tally::read;
 use crate::untouched::Untouched;
-use crate::{charge, lines, looked_up, rounds, rows, tuples, values, verdicts};
+use crate::{charge, jobs, lines, looked_up, message, month, registers, rounds, rows, tuples, values, verdicts};
 
 /// The numbers with which each call is tried, 0 being that it does its work. What only a file of 37 GB can cause is in
 /// `limit.rs`: 1 in `tally_feed`, `tally_finish` and `read_operations`. No file is refused by 7. The bindings' lookups have no kind past the
 /// last; the tests of the header try it. What depends on the number of rounds is refused by 8 before all that stands here: `charge`, `look`, the
-/// multiplicities of a constant table, a round table, its rows, height and padding, the tuples of a core row, `verdict`, `verdict_line`. What
+/// multiplicities of a constant table, a round table, its rows, height and padding, the tuples of a core row, `verdict`, `verdict_line`, `job`. What
 /// depends on the floor is refused by 9 then: `charge`, `look`, a core table, its height, a round table, its height and padding, `tally_finish`.
+/// What goes through a register, `register_charge` and `register_look`, is refused by 8, 9 and 10.
+/// `month` is refused by 8, by 9 and then by 14.
+/// What takes a list of operations is refused by 11 after 7. A message is refused by 12 after 1, and its timestamps by 13 then.
 ///
 /// | what | 1 | 2 | 3 | 4, then 7 | 5 | 6 |
 /// |---|---|---|---|---|---|---|
@@ -34,6 +38,7 @@ use crate::{charge, lines, looked_up, rounds, rows, tuples, values, verdicts};
 /// | a bitwise table, filled or not | | | counters, table | | counter | |
 /// | `merge` | | | both | | a counter of either | |
 /// | `charge`, `look` | n | list | counters, copy, out | address | counter | |
+/// | `register_charge`, `register_look` | n | list | counters, copy, out | address | counter, own ledger | |
 /// | a list of lookups on counters or a table | kind, Z | list | slice | | counter, X, Y | |
 /// | keys to rows; rows to a table or on counters | n | list | each slice | | word, half, count, counter | |
 /// | a constant table, its multiplicities | n | | table | | | |
@@ -42,11 +47,13 @@ use crate::{charge, lines, looked_up, rounds, rows, tuples, values, verdicts};
 /// | a height, the padding's lookups | n | | | | | |
 /// | values, all tuples | | | row, slice | | column | |
 /// | a tuple | index | | row, slice | | column | |
+/// | `month`, after 14 | a count | | slice | | | |
 /// | `verdict` | | core, round | | | core, round | |
 /// | `verdict_line` | | core, round | line | | core, round | |
+/// | `job` | | core, round, counts | report | | core, round | |
 /// | a file's reader | n | | | address | | mark, cut |
 /// | `read_operations` | n | | list | address | | mark, cut |
-pub const MATRIX: [(&str, &[u64]); 52] = [
+pub const MATRIX: [(&str, &[u64]); 58] = [
     ("generate_bitwise_row", &[0, 1, 3]),
     ("bitwise_row_index", &[0, 1]),
     ("bitwise_bump", &[0, 1, 3, 5]),
@@ -74,31 +81,37 @@ pub const MATRIX: [(&str, &[u64]); 52] = [
     ("generate_is_wh_trace", &[0, 1, 2, 3, 5]),
     ("collect_bitwise_from_is_wh", &[0, 1, 2, 3, 5]),
     ("is_wh_bus_interaction", &[0, 1, 3, 5]),
-    ("keccak_row", &[0, 1, 2, 3, 4, 7]),
-    ("generate_keccak_trace", &[0, 1, 2, 3, 4, 7, 9]),
-    ("keccak_rows", &[0, 1, 2, 3, 4, 7]),
-    ("is_wh_keys", &[0, 1, 2, 3, 4, 7]),
+    ("keccak_row", &[0, 1, 2, 3, 4, 7, 11]),
+    ("generate_keccak_trace", &[0, 1, 2, 3, 4, 7, 9, 11]),
+    ("keccak_rows", &[0, 1, 2, 3, 4, 7, 11]),
+    ("is_wh_keys", &[0, 1, 2, 3, 4, 7, 11]),
     ("keccak_height", &[0, 1, 9]),
     ("keccak_values", &[0, 3, 5]),
     ("keccak_bus_interaction", &[0, 1, 3, 5, 8]),
     ("keccak_bus_interactions", &[0, 3, 5, 8]),
     ("keccak_rnd_row", &[0, 1, 3]),
-    ("generate_keccak_rnd_trace", &[0, 1, 2, 3, 4, 7, 8, 9]),
-    ("keccak_rnd_rows", &[0, 1, 2, 3, 4, 7, 8]),
+    ("generate_keccak_rnd_trace", &[0, 1, 2, 3, 4, 7, 8, 9, 11]),
+    ("keccak_rnd_rows", &[0, 1, 2, 3, 4, 7, 8, 11]),
     ("keccak_rnd_height", &[0, 1, 8, 9]),
     ("padding_are_bytes", &[0, 1, 8, 9]),
     ("keccak_rnd_values", &[0, 3, 5]),
     ("keccak_rnd_bus_interaction", &[0, 1, 3, 5]),
     ("keccak_rnd_bus_interactions", &[0, 3, 5]),
-    ("charge", &[0, 1, 2, 3, 4, 5, 7, 8, 9]),
-    ("look", &[0, 1, 2, 3, 4, 5, 7, 8, 9]),
+    ("charge", &[0, 1, 2, 3, 4, 5, 7, 8, 9, 11]),
+    ("look", &[0, 1, 2, 3, 4, 5, 7, 8, 9, 11]),
+    ("register_charge", &[0, 1, 2, 3, 4, 5, 7, 8, 9, 10, 11]),
+    ("register_look", &[0, 1, 2, 3, 4, 5, 7, 8, 9, 10, 11]),
+    ("month", &[0, 1, 3, 8, 9, 14]),
+    ("message_operations", &[0, 3, 4, 7, 12, 13]),
+    ("judge_message", &[0, 1, 2, 4, 7, 11, 12]),
     ("verdict", &[0, 2, 5, 8]),
     ("verdict_line", &[0, 2, 3, 5, 8]),
+    ("job", &[0, 2, 3, 5, 8]),
     ("tally_start", &[0]),
     ("tally_feed", &[0, 4, 6]),
     ("tally_finish", &[0, 4, 6, 9]),
     ("read_operations", &[0, 3, 4, 6]),
-    ("write_operations", &[0, 1, 2, 3, 4, 7]),
+    ("write_operations", &[0, 1, 2, 3, 4, 7, 11]),
 ];
 
 /// The whole area; `n` times the lists and files that are drawn.
@@ -107,12 +120,16 @@ pub fn compare(comparison: &mut Comparison, seed: u64, n: usize) {
     rows::refusals::compare(comparison, &mut words);
     looked_up::refusals::compare(comparison, &mut words);
     charge::refusals::compare(comparison, &mut words);
+    registers::refusals::compare(comparison, &mut words);
+    jobs::refusals::compare(comparison, &mut words);
     comparison.group("refusals: values and tuples of core and round rows");
     for table in [CORE, ROUND] {
         values::refusals(comparison, &mut words, &table);
         tuples::refusals(comparison, &mut words, &table);
     }
     rounds::refusals::compare(comparison, &mut words);
+    month::refusals(comparison, &mut words, n);
+    message::refusals::compare(comparison, &mut words);
     comparison.group("refusals: counters, every set of conditions");
     counters(comparison, &mut words);
     comparison.group("refusals: calls on lists, every set of conditions");
@@ -228,7 +245,7 @@ impl OnList<'_> {
 
     /// The call that writes bytes.
     fn write_bytes(&self, comparison: &mut Comparison, words: &mut Words, off: isize) {
-        let needed = self.ops.len() / OP_WORDS * RECORD_BYTES;
+        let needed = plain_file::bytes_of(self.ops);
         let room = needed.saturating_add_signed(off).min(1 << 20);
         let expected = self.expected(false, needed, room);
         let mut file = LentBytes::drawn(room, words);
@@ -244,13 +261,13 @@ impl OnList<'_> {
     }
 }
 
-/// Lists of 0 to 5 operations, whole or not, with and without addresses that are refused, and indexes about the end.
+/// Lists of 0 to 5 operations, whole or not, with and without words that are refused, and indexes about the end.
 fn lists(comparison: &mut Comparison, words: &mut Words) {
     for n in [0, 1, 3, 5] {
-        for past in [0, 1, 2, 51] {
-            for put in ADDRESSES {
+        for past in [0, 1, 2, OP_WORDS - 1] {
+            for put in PUT {
                 let list = list_with(words, n, past, put);
-                let what = format!("{n} operations and {past} words, {put:?} among the addresses");
+                let what = format!("{n} operations and {past} words, {put:?} among them");
                 let mut lent = Lent::new(&list, words);
                 for index in [0, n.saturating_sub(1), n, n + 1, usize::MAX] {
                     let on_list = OnList {
@@ -270,19 +287,21 @@ fn lists(comparison: &mut Comparison, words: &mut Words) {
     }
 }
 
-/// As many operations as a list may have, one more and two more, whole or not, the first address refused or not. No slice has the
-/// room, so nothing but the first address could be read.
+/// As many operations as a list may have, one more and two more, whole or not, the first operation refused or not. No slice has the
+/// room, so nothing but the first operation could be read, and by the call that writes bytes the segment words.
 fn long_lists(comparison: &mut Comparison, words: &mut Words) {
     let Some(mut untouched) = Untouched::operations(MAX_OPS + 3) else {
         return;
     };
-    for address in [0, 4100, u64::MAX] {
+    for (address, segment) in [(0, 0), (4100, 0), (u64::MAX, 0), (0, 1 << 32)] {
         untouched.words_mut()[1] = address;
+        untouched.words_mut()[SEGMENT_WORD] = segment;
         for n in [MAX_OPS, MAX_OPS + 1, MAX_OPS + 2] {
-            for past in [0, 1, 51] {
+            for past in [0, 1, OP_WORDS - 1] {
                 for index in [0, n - 1, n, usize::MAX] {
                     let ops = &untouched.words()[..n * OP_WORDS + past];
-                    let what = format!("{n} operations and {past} words, the first address {address}");
+                    let what =
+                        format!("{n} operations and {past} words, the first address {address}, segment {segment}");
                     let on_list = OnList {
                         ops,
                         index,
@@ -291,20 +310,29 @@ fn long_lists(comparison: &mut Comparison, words: &mut Words) {
                     };
                     let short = isize::MIN;
                     on_list.write_words(comparison, words, short);
-                    on_list.write_bytes(comparison, words, short);
+                    if index == 0 {
+                        on_list.write_bytes(comparison, words, short);
+                    }
                 }
             }
         }
     }
 }
 
-/// Files of three records: every byte in place of either mark, every cut, and addresses off the eight and about the last, in each record
-/// and together, read in pieces and into a list that has the room or not. None is refused by 7.
+/// Files of three records under both marks: every byte in place of either byte of a mark, every cut, and addresses off the eight and about the
+/// last, in each record and together, read in pieces and into a list that has the room or not. None is refused by 7 or 11.
 fn files(comparison: &mut Comparison, words: &mut Words) {
-    let ops = words.operations(3);
+    let mut ops = words.operations(3);
+    let plain = words.below(3) as usize;
+    for (record, operation) in ops.chunks_exact_mut(OP_WORDS).enumerate() {
+        operation[SEGMENT_WORD] = if record == plain { 0 } else { 1 + words.below(1 << 16) };
+    }
     let whole = file_of(&ops);
-    for record in 0..3 {
-        let start = record * RECORD_BYTES;
+    let starts: Vec<usize> = plain_file::records(&whole)
+        .into_iter()
+        .map(|(start, _)| start)
+        .collect();
+    for &start in &starts {
         for byte in 0..=255 {
             for mark in [start, start + 1] {
                 let mut file = whole.clone();
@@ -313,21 +341,21 @@ fn files(comparison: &mut Comparison, words: &mut Words) {
             }
         }
         for address in [4100, LAST_ALIGNED, LAST_ADDRESS, LAST_ADDRESS + 1, u64::MAX] {
-            for other in 0..3 {
+            for &other in &starts {
                 let mut file = whole.clone();
                 file[start + 10..start + 18].copy_from_slice(&address.to_le_bytes());
                 one_file(comparison, words, &file);
                 // 6 before 4 within a record; of two records, the first that is faulty.
-                file[other * RECORD_BYTES + 1] = 0;
+                file[other + 1] = 0;
                 one_file(comparison, words, &file);
                 for end in [1, 2, 9, 10, 17, 18, 19, 417] {
-                    one_file(comparison, words, &file[..other * RECORD_BYTES + end]);
+                    one_file(comparison, words, &file[..other + end]);
                 }
             }
             let mut file = whole.clone();
             file[start + 10..start + 18].copy_from_slice(&address.to_le_bytes());
-            for end in (0..=file.len()).step_by(11).chain([start + 417, start + 418]) {
-                one_file(comparison, words, &file[..end]);
+            for end in (0..=file.len()).step_by(11).chain(start + 417..=start + 423) {
+                one_file(comparison, words, &file[..end.min(whole.len())]);
             }
         }
     }
@@ -347,13 +375,12 @@ fn one_file(comparison: &mut Comparison, words: &mut Words, file: &[u8]) {
     let input_with = || format!("{with:?}, {}", input());
     comparison.answered("tally_finish", input_with, read(words, with, lent.slice()), finished);
     // A cut is a fault only at the end of the file.
-    let cut = file.len() / RECORD_BYTES * RECORD_BYTES;
-    let marked = file[cut..].iter().zip(b"KO").all(|(byte, mark)| byte == mark);
-    let so_far = first_fault(&file[..cut]).or(first(&[(!marked, 6, cut as u64)]));
+    let (cut, wrong) = plain_file::cut(file);
+    let so_far = first_fault(&file[..cut]).or(first(&[(wrong, 6, cut as u64)]));
     let mut tally = Tally::new();
     tally.feed(lent.slice());
     comparison.answered("tally_feed", input, tally.fault().map_or(Ok(()), Err), so_far);
-    let needed = cut / RECORD_BYTES * OP_WORDS;
+    let needed = plain_file::records(&file[..cut]).len() * OP_WORDS;
     for room in [0, needed.saturating_sub(1), needed, needed + 1] {
         let mut list = Lent::drawn(room, words);
         let answer = read_operations(lent.slice(), list.slice());

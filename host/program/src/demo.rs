@@ -1,4 +1,6 @@
-//! `demo`: tables of a few drawn calls, honest and tampered with, and what is said of them.
+//! `demo`: tables of a few drawn calls, honest and tampered with, and what is said of them; and from a page of text to its receipt.
+
+mod page;
 
 use std::ffi::OsString;
 use std::io::{self, Write};
@@ -8,7 +10,7 @@ use keccak_tables::Refusal;
 use keccak_tables::keccak::LAST_ADDRESS;
 use keccak_tables::layout::{self, Place};
 use keccak_tables::verdict::{Table, Verdict, verdict};
-use keccak_tables::{OP_WORDS, Operation, Parameters, keccak, keccak_rnd, transposed};
+use keccak_tables::{OP_WORDS, Operation, Parameters, SEGMENT_WORD, keccak, keccak_rnd, transposed};
 
 /// The calls.
 const CALLS: usize = 3;
@@ -111,6 +113,7 @@ fn show(ops: &[u64], tables: &Tables, streams: &mut Streams) -> Result<Outcome, 
     }
     fine &= show_high_address(ops, out)?;
     fine &= show_unaligned_address(ops, out)?;
+    fine &= page::show(out)?;
     writeln!(
         out,
         "{}",
@@ -128,7 +131,7 @@ fn introduce(ops: &[u64], tables: &Tables, out: &mut dyn Write) -> io::Result<bo
         tables.core.len() / keccak::NUM_COLUMNS,
         tables.round.len() / keccak_rnd::NUM_COLUMNS,
     );
-    let first = ops[OP_WORDS - 25];
+    let first = ops[SEGMENT_WORD - 25];
     writeln!(
         out,
         "{CALLS} calls of the permutation: one of the zero state, the others of drawn states. Each OUTPUT is the"
@@ -214,7 +217,8 @@ pub(super) fn honest(parameters: Parameters) -> Result<(Vec<u64>, Tables), Refus
     let round = keccak_rnd::keccak_rnd_table_with(parameters, &ops)?;
     for (call, operation) in ops.chunks_exact_mut(OP_WORDS).enumerate() {
         let last = (call + 1) * parameters.rounds as usize - 1;
-        operation[OP_WORDS - 25..].copy_from_slice(&state_after(&round[last * keccak_rnd::NUM_COLUMNS..])?);
+        operation[SEGMENT_WORD - 25..SEGMENT_WORD]
+            .copy_from_slice(&state_after(&round[last * keccak_rnd::NUM_COLUMNS..])?);
     }
     let core = keccak::keccak_table(&ops)?;
     Ok((ops, Tables { core, round }))
@@ -234,6 +238,7 @@ fn drawn(call: u64) -> Operation {
         address: 4096 + 200 * call,
         input,
         output: [0; 25],
+        segment: 0,
     }
 }
 

@@ -151,6 +151,15 @@ fn same(left: &Metadata, right: &Metadata) -> bool {
     (left.dev(), left.ino()) == (right.dev(), right.ino())
 }
 
+/// That two open files, by what they are called, are two.
+pub fn are_two(first: (&str, &File), second: (&str, &File)) -> Result<(), Failure> {
+    if same(&first.1.metadata()?, &second.1.metadata()?) {
+        let message = format!("{} and {} must be two files", first.0, second.0);
+        return Err(Failure::Usage(message));
+    }
+    Ok(())
+}
+
 /// A file of words that is being written: beside its name, which it takes when it is whole. A device or a pipe has no such name, and is
 /// written as it is.
 pub struct WordFile {
@@ -198,6 +207,11 @@ impl WordFile {
         Ok(())
     }
 
+    /// The same of bytes, for a file that is one of text.
+    pub fn put_bytes(&mut self, bytes: &[u8]) -> Result<(), Failure> {
+        self.file.write_all(bytes).map_err(Failure::file(&self.path))
+    }
+
     /// Writes what is still held back.
     pub fn flush(&mut self) -> Result<(), Failure> {
         self.file.flush().map_err(Failure::file(&self.path))
@@ -217,6 +231,28 @@ impl WordFile {
         self.names = None;
         Ok(())
     }
+}
+
+/// Gives two files their names, or neither: where the second can't take its name, what had the first one's gets it back.
+pub fn finish_both(first: WordFile, second: WordFile) -> Result<(), Failure> {
+    let (path, full) = match &first.names {
+        Some([_, full]) => (first.path.clone(), full.clone()),
+        None => return first.finish().and_then(|()| second.finish()),
+    };
+    let mut old = full.clone().into_os_string();
+    old.push(format!(".{}.old", std::process::id()));
+    // A second name of what is there, or a copy where there are no second names.
+    let kept = fs::hard_link(&full, &old).or_else(|_| fs::copy(&full, &old).map(drop));
+    kept.map_err(Failure::file(&path))?;
+    let finished = first.finish().and_then(|()| {
+        second.finish().or_else(|failure| {
+            fs::rename(&old, &full).map_err(Failure::file(&path))?;
+            Err(failure)
+        })
+    });
+    // What can't be removed stays, under a name that says so.
+    let _ = fs::remove_file(&old);
+    finished
 }
 
 /// A file that did not come to its name is removed.

@@ -13,7 +13,7 @@ pub struct Command {
 }
 
 /// The commands, in the order in which they are told.
-pub const COMMANDS: [Command; 7] = [
+pub const COMMANDS: [Command; 11] = [
     Command {
         name: "demo",
         arguments: "",
@@ -21,7 +21,8 @@ pub const COMMANDS: [Command; 7] = [
         long: "\
 Writes the core and the round table of three calls, one of the zero state, and judges them; then changes a word, a row
 or a timestamp and judges again, eight times in all, and says what each verdict shows; then asks for tables at two addresses
-that are refused. Nothing is written to files.
+that are refused. It ends with a page of text: its digest, its tables, their verdict, and what a changed byte does. Nothing is
+written to files.
 Exit status: 0 where every answer is the expected one, else 1.
 ",
     },
@@ -63,6 +64,20 @@ Exit status: 0 the tables hold; 1 they don't, or refused; 2 a file can't be read
 ",
     },
     Command {
+        name: "job",
+        arguments: "[--rounds NR] CORE ROUND COUNTS",
+        short: "says of each segment of a job, and then of the job, whether its tables hold together",
+        long: "\
+CORE and ROUND have all rows of a job's segments, one segment after the other; COUNTS is a file of words, two a segment: its
+core rows and its round rows. Prints for each segment, from 0, `segment I: VERDICT`, and then `job: VERDICT`, a verdict as
+`judge` prints it, without the tuple; rows count from the first of what was judged. Where every segment holds and no timestamp
+is active in two of them, the job holds. It can hold where a segment does not: a round row stands with another segment. Counts
+that are not pairs, or whose sums are not the rows of the tables, are refused by 2 with detail 2. The files are held in memory.
+With --rounds NR the tables are judged as those of NR rounds, as by `judge`.
+Exit status: 0 every segment holds, and the job; 1 one does not, or refused; 2 a file can't be read.
+",
+    },
+    Command {
         name: "tally",
         arguments: "[--shipped] [--floor F] [OPS]",
         short: "counts the lookups of an operation file, or of standard input",
@@ -71,14 +86,15 @@ Prints ten lines: the operations, the heights of the two tables, and per bus the
 (Ecall: receive). The tables of an empty file count as not shipped, and send nothing; with --shipped they are, and their zero
 round rows send 220 each on AreBytes, 880 in all where there are four. Of a file with a record that is counted both give the
 same. With --floor F neither table has fewer than F rows: F is a power of two from 4 to 65536, and 4 where it is not given.
-Another floor is refused by 9, before anything is read. Records at addresses that are no multiples of 8 are left out of all
-ten lines; where there are N of them, a last line reads `unaligned N`.
+Another floor is refused by 9, before anything is read. Where a record is marked 4B 50, a line `segments A B` gives the least
+and the greatest segment number. Records at addresses that are no multiples of 8 are left out of all these; where there are N
+of them, a last line reads `unaligned N`.
 Exit status: 0; 1 refused; 2 the file can't be read.
 ",
     },
     Command {
         name: "look",
-        arguments: "[--rounds NR] [--floor F] [--shipped] OPS COUNTERS",
+        arguments: "[--rounds NR] [--floor F] [--shipped] [--register R --ledgers LEDGERS] OPS COUNTERS",
         short: "says what charging the lookups of an operation file to the bitwise table's counters would do",
         long: "\
 COUNTERS is a file of 10,485,760 words or more: the bitwise table's counters, row by row, ten kinds to a row. Prints a line
@@ -88,19 +104,64 @@ their zero rows, 220 times the floor of ARE_BYTES. The round table is that of NR
 neither table has fewer rows than the floor F, a power of two from 4 to 65536 and 4 without --floor. Another number of rounds
 is refused by 8 and another floor by 9, before any file is read. OPS is read twice, so it can't be a pipe; both files are held
 in memory.
+With --register R the charge is one of register R, which has ten words of LEDGERS from word 10 R on, the sums that it has
+charged of each kind, mod p. In use are as many registers as whole ledgers stand in LEDGERS, 16 at most; another is refused by
+10, after 9 and before OPS is read. Ten more lines, `ledger KIND SUM`, are the register's ledger as the charge would leave it.
 Exit status: 0; 1 refused; 2 a file can't be read.
 ",
     },
     Command {
         name: "charge",
-        arguments: "[--rounds NR] [--floor F] [--shipped] OPS COUNTERS",
+        arguments: "[--rounds NR] [--floor F] [--shipped] [--register R --ledgers LEDGERS] OPS COUNTERS",
         short: "charges the lookups of an operation file to a file of the bitwise table's counters",
         long: "\
 Adds to the counters what the core and the round table of OPS look up, mod p, and prints `KIND SUM` for each kind: it is the
 look, whose counters then take the place of the file. They are written beside it, as NAME.N.part, and take its name when they
 are on the disk and the lines are printed; words past the counters stay. A run that fails or is cut short leaves the file as
 it was. Two runs at once are made one after the other. What the IS_WH table looks up is not among it (`write --all`).
-Exit status: 0 exactly where the file is charged; 1 refused; 2 a file can't be read or written.
+With --register R --ledgers LEDGERS the sums are added to the register's ledger too, mod p, and every other word of LEDGERS
+stays; both files are written beside their names and take them together, or neither does.
+Exit status: 0 exactly where the file, or both, are charged; 1 refused; 2 a file can't be read or written.
+",
+    },
+    Command {
+        name: "month",
+        arguments: "[--rounds NR] [--floor F] [--svg FILE] [COUNTS]",
+        short: "says how full the round tables of a month's files are, from a text of operation counts",
+        long: "\
+COUNTS, or standard input, is a text: on each line a decimal, the operations of a file; 4096 files at most. Prints `files N`,
+`operations N`, `used-rows N` and `padding-rows N` of all round tables; `fullest USED TOTAL` and `emptiest USED TOTAL`, the
+rows of the fullest and of the emptiest round table, the first of those that are equally full, where there is a file; and
+`height H N`, how many files have a round table of H rows, for each of the 30 heights from 4 to 2147483648. On a terminal the
+heights are drawn as bars instead. A file without operations counts as one whose table is shipped, padding alone. An operation
+has NR rows, 1 to 24 and 24 without --rounds; no table has fewer rows than the floor F, a power of two from 4 to 65536 and 4
+without --floor. Another number of rounds is refused by 8 and another floor by 9, before COUNTS is read; more files by 14,
+then a count above 89478485 by 1. With --svg FILE a picture is drawn to FILE: how full each file's round table is, file by
+file. It is written beside its name, as NAME.N.part, and takes it when all is printed.
+Exit status: 0; 1 refused; 2 COUNTS can't be read or is no such text, or FILE can't be written.
+",
+    },
+    Command {
+        name: "message",
+        arguments: "MESSAGE ADDRESS TIMESTAMP OPS",
+        short: "writes the operations that hash a file with SHA3-256, and says its digest",
+        long: "\
+Writes the operation file OPS: the calls of the permutation that hash the bytes of the file MESSAGE, a block of 136 bytes
+each, all with their state at ADDRESS, the first at TIMESTAMP and each other one later. Prints their number, `ops N`, and the
+digest in hexadecimal, `sha3-256 D`. A message has at most 65,536 bytes, else 12 refuses it; timestamps that would pass
+2^64 - 1 are refused by 13, an address by 4 or 7. OPS is written beside its name, as OPS.N.part, and takes it when it is whole.
+Exit status: 0 the file is there; 1 refused; 2 a file can't be read or written.
+",
+    },
+    Command {
+        name: "is-message",
+        arguments: "MESSAGE OPS",
+        short: "says whether an operation file has the operations that hash a file with SHA3-256",
+        long: "\
+Prints `yes` where the records of OPS are what `message` writes for the file MESSAGE, at the address and from the timestamp of
+the first record on, and else `no`; an empty OPS gets `no`. OPS is refused as `tally` refuses it, then MESSAGE by 12 where it
+has more than 65,536 bytes, then a record at an address that is no multiple of 8 by 7. OPS is read twice, so it can't be a pipe.
+Exit status: 0 yes; 1 no, or refused; 2 a file can't be read.
 ",
     },
     Command {
@@ -117,9 +178,10 @@ Exit status: 0; 2 there is no such index, or the line is no verdict.
 ];
 
 const FORMATS: &str = "\
-An operation file has records of 418 bytes: 4B 4F (hexadecimal), then timestamp, address, 25 input and 25 output lanes.
+An operation file has records of 418 bytes: 4B 4F (hexadecimal), then timestamp, address, 25 input and 25 output lanes; or of 422:
+4B 50, the same, then the segment number in 4 bytes. A record under 4B 4F is of segment 0. Both may stand in one file.
 A table is a file of words, row after row: 486 to a core row, 1,480 to a round row, 4 to one of IS_WH, 10 to one of constants,
-21 to a bitwise row. Counters are a file of words. A word is 8 bytes, lowest first.
+21 to a bitwise row. Counters and ledgers are files of words. A word is 8 bytes, lowest first.
 
 What is refused gives the line `refused N D`, and what that means on standard error. An address is to be a multiple of 8: `tally`
 counts records at others apart, and what makes tables of the operations refuses the first of them, by 7.

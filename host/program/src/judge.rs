@@ -33,7 +33,7 @@ pub fn judge(arguments: &[OsString], streams: &mut Streams) -> Result<Outcome, F
 }
 
 /// The options, how many failures are wanted, where more than the verdict is, and the two files.
-fn options(arguments: &[OsString]) -> Option<(Options, Option<usize>, &[OsString; 2])> {
+fn options(arguments: &[OsString]) -> Option<(Options<'_>, Option<usize>, &[OsString; 2])> {
     let (options, files) = Options::read(&["--rounds", "--all", "--most"], arguments)?;
     let most = match (options.has("--all"), options.number("--most")) {
         (false, None) => None,
@@ -77,7 +77,7 @@ fn list(
 }
 
 /// What a refusal says of the two tables: which of them, and where in it.
-fn words(refusal: Refusal, core: &[u64], round: &[u64]) -> String {
+pub fn words(refusal: Refusal, core: &[u64], round: &[u64]) -> String {
     let (core, round) = (("CORE", Table::Core, core), ("ROUND", Table::Round, round));
     match refusal {
         Refusal::NotWhole { which, .. } => {

@@ -11,9 +11,14 @@ mod explain;
 pub mod failures;
 mod files;
 mod help;
+mod job;
 mod judge;
+mod ledgers;
 mod list;
+mod message;
+mod month;
 mod options;
+mod picture;
 mod progress;
 mod tally;
 #[cfg(test)]
@@ -23,7 +28,7 @@ mod write;
 mod write_all;
 
 use std::ffi::OsString;
-use std::io::{self, Read, Write};
+use std::io::{self, IsTerminal, Read, Write};
 use std::path::{Path, PathBuf};
 use std::process::ExitCode;
 
@@ -40,6 +45,8 @@ pub struct Streams<'a> {
     pub output: &'a mut dyn Write,
     /// Standard error.
     pub errors: &'a mut dyn Write,
+    /// Whether standard output is a terminal, for which something may be drawn.
+    pub terminal: bool,
 }
 
 /// How a command ended, where it could do its work.
@@ -101,6 +108,7 @@ pub fn main(run: fn(&[OsString], &mut Streams) -> u8) -> ExitCode {
         input: if closed::input() { &mut none } else { &mut input },
         output: &mut io::stdout().lock(),
         errors: &mut io::stderr(),
+        terminal: io::stdout().is_terminal(),
     };
     ExitCode::from(run(&arguments, &mut streams))
 }
@@ -137,9 +145,13 @@ fn named(name: &str, rest: &[OsString], streams: &mut Streams) -> Result<Outcome
         "demo" => demo::demo(rest, streams),
         "write" => write::write(rest, streams),
         "judge" => judge::judge(rest, streams),
+        "job" => job::job(rest, streams),
         "tally" => tally::tally(rest, streams),
         "look" => charge::look(rest, streams),
         "charge" => charge::charge(rest, streams),
+        "month" => month::month(rest, streams),
+        "message" => message::message(rest, streams),
+        "is-message" => message::is_message(rest, streams),
         _ => explain::explain(rest, streams),
     }
 }

@@ -6,7 +6,7 @@ use std::path::Path;
 
 use super::progress::Progress;
 use super::{Failure, files, tally, unaligned};
-use keccak_tables::operation_file::{RECORD_BYTES, Sums, read_operations};
+use keccak_tables::operation_file::{RECORD_BYTES, SEGMENT_MARK, SEGMENT_RECORD_BYTES, Sums, read_operations};
 use keccak_tables::{OP_WORDS, Parameters, Refusal};
 
 /// How many records are read at once.
@@ -48,12 +48,32 @@ pub fn changed(path: &Path) -> Failure {
     Failure::File(path.to_path_buf(), io::Error::other("it changed while it was read"))
 }
 
-/// The operations of a file that was read before, from its beginning on, some at a time.
+/// The operations of a file that was read before, from its beginning on, some at a time. Its records are of two lengths, so a piece ends with
+/// the last one that is whole, and what was read of the next stays for the next piece.
 pub struct Pieces<'a> {
     file: &'a mut File,
     path: &'a Path,
-    records: [u8; PIECE_RECORDS * RECORD_BYTES],
+    records: [u8; PIECE_RECORDS * SEGMENT_RECORD_BYTES],
+    /// Where in `records` the next piece begins, and how many bytes were read.
+    from: usize,
+    got: usize,
     list: [u64; PIECE_RECORDS * OP_WORDS],
+}
+
+/// How many of the records that begin these bytes are whole, at most as many as a piece has, and where they end.
+fn whole_records(bytes: &[u8]) -> (usize, usize) {
+    let (mut records, mut end) = (0, 0);
+    while records < PIECE_RECORDS {
+        let size = match bytes.get(end + 1) {
+            Some(&SEGMENT_MARK) => SEGMENT_RECORD_BYTES,
+            _ => RECORD_BYTES,
+        };
+        if end + size > bytes.len() {
+            break;
+        }
+        (records, end) = (records + 1, end + size);
+    }
+    (records, end)
 }
 
 impl<'a> Pieces<'a> {
@@ -62,16 +82,25 @@ impl<'a> Pieces<'a> {
         Ok(Self {
             file,
             path,
-            records: [0; PIECE_RECORDS * RECORD_BYTES],
+            records: [0; PIECE_RECORDS * SEGMENT_RECORD_BYTES],
+            from: 0,
+            got: 0,
             list: [0; PIECE_RECORDS * OP_WORDS],
         })
     }
 
     /// The next operations; none at the end of the file.
     pub fn next(&mut self) -> Result<Option<&[u64]>, Failure> {
-        let got = files::fill(self.file, &mut self.records).map_err(Failure::file(self.path))?;
-        let list = &mut self.list[..got / RECORD_BYTES * OP_WORDS];
-        read_operations(&self.records[..got], list).map_err(|_| changed(self.path))?;
-        Ok((got > 0).then_some(list))
+        self.records.copy_within(self.from..self.got, 0);
+        let held = self.got - self.from;
+        let read = files::fill(self.file, &mut self.records[held..]).map_err(Failure::file(self.path))?;
+        self.got = held + read;
+        let (records, end) = whole_records(&self.records[..self.got]);
+        self.from = end;
+        let list = &mut self.list[..records * OP_WORDS];
+        // Of a file that ends in no whole record these are all bytes that are left, which are then refused.
+        let piece = &self.records[..if records == 0 { self.got } else { end }];
+        read_operations(piece, list).map_err(|_| changed(self.path))?;
+        Ok((records > 0).then_some(list))
     }
 }

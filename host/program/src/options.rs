@@ -1,44 +1,69 @@
 //! The options before a command's files.
 
-use std::ffi::OsString;
+use std::ffi::{OsStr, OsString};
 
 use super::Failure;
 use keccak_tables::{Parameters, keccak_rnd};
 
-/// Options that have a number behind them.
-const NUMBERED: [&str; 3] = ["--rounds", "--floor", "--most"];
+/// Options that have a number behind them, and those that have a file's name.
+const NUMBERED: [&str; 4] = ["--rounds", "--floor", "--most", "--register"];
+const NAMED: [&str; 2] = ["--ledgers", "--svg"];
 
-/// The options of a run, each once at most, with its number or 0.
-pub struct Options(Vec<(&'static str, u64)>);
+/// What an option says: that it is there, a number or a file's name.
+#[derive(Debug, Clone, Copy, PartialEq, Eq)]
+enum Value<'a> {
+    Flag,
+    Number(u64),
+    Name(&'a OsStr),
+}
 
-impl Options {
-    /// Those of the options that a command takes, in any order, and what stands behind them. None where one stands twice or lacks its number.
-    pub fn read<'a>(takes: &[&'static str], arguments: &'a [OsString]) -> Option<(Self, &'a [OsString])> {
+/// The options of a run, each once at most.
+pub struct Options<'a>(Vec<(&'static str, Value<'a>)>);
+
+impl<'a> Options<'a> {
+    /// Those of the options that a command takes, in any order, and what stands behind them. None where one stands twice or lacks its number
+    /// or its name.
+    pub fn read(takes: &[&'static str], arguments: &'a [OsString]) -> Option<(Self, &'a [OsString])> {
         let (mut options, mut files) = (Self(Vec::new()), arguments);
         while let [option, behind @ ..] = files
             && let Some(&name) = takes.iter().find(|&name| option == name)
         {
-            let value = match behind {
-                [value, ..] if NUMBERED.contains(&name) => number(value.to_str()?)?,
-                [] if NUMBERED.contains(&name) => return None,
-                _ => 0,
+            let (value, behind) = match behind {
+                [value, behind @ ..] if NUMBERED.contains(&name) => (Value::Number(number(value.to_str()?)?), behind),
+                [value, behind @ ..] if NAMED.contains(&name) => (Value::Name(value), behind),
+                [] if NUMBERED.contains(&name) || NAMED.contains(&name) => return None,
+                _ => (Value::Flag, behind),
             };
             if options.has(name) {
                 return None;
             }
             options.0.push((name, value));
-            files = &behind[usize::from(NUMBERED.contains(&name))..];
+            files = behind;
         }
         Some((options, files))
     }
 
+    fn value(&self, name: &str) -> Option<Value<'a>> {
+        let found = self.0.iter().find(|(other, _)| *other == name);
+        found.map(|&(_, value)| value)
+    }
+
     pub fn has(&self, name: &str) -> bool {
-        self.number(name).is_some()
+        self.value(name).is_some()
     }
 
     pub fn number(&self, name: &str) -> Option<u64> {
-        let found = self.0.iter().find(|(other, _)| *other == name);
-        found.map(|&(_, number)| number)
+        match self.value(name) {
+            Some(Value::Number(number)) => Some(number),
+            _ => None,
+        }
+    }
+
+    pub fn word(&self, name: &str) -> Option<&'a OsStr> {
+        match self.value(name) {
+            Some(Value::Name(word)) => Some(word),
+            _ => None,
+        }
     }
 
     /// What is wanted of the tables. Rounds that are refused are so before any file is read, and then a floor.
@@ -69,11 +94,38 @@ pub fn number(word: &str) -> Option<u64> {
 mod tests {
     use super::*;
 
-    /// The names and numbers that are read, and how many arguments are left.
+    /// The names and numbers that are read, 0 where there is none, and how many arguments are left.
     fn read(arguments: &[&str]) -> Option<(Vec<(&'static str, u64)>, usize)> {
         let arguments: Vec<OsString> = arguments.iter().map(OsString::from).collect();
         let (options, files) = Options::read(&["--rounds", "--floor", "--shipped"], &arguments)?;
-        Some((options.0, files.len()))
+        let numbers = options.0.iter().map(|&(name, value)| match value {
+            Value::Number(number) => (name, number),
+            _ => (name, 0),
+        });
+        Some((numbers.collect(), files.len()))
+    }
+
+    #[test]
+    fn a_name_stands_behind_its_option() {
+        let arguments = ["--ledgers", "--register", "--register", "007", "a"].map(OsString::from);
+        let (options, files) = Options::read(&["--register", "--ledgers"], &arguments).expect("options");
+        assert_eq!(options.word("--ledgers"), Some(OsStr::new("--register")));
+        assert_eq!(
+            (options.number("--register"), options.number("--ledgers")),
+            (Some(7), None)
+        );
+        assert_eq!((options.word("--register"), files.len()), (None, 1));
+        for wrong in [
+            &["--ledgers"][..],
+            &["--ledgers", "a", "--ledgers", "b"],
+            &["--register", "a"],
+        ] {
+            let arguments: Vec<OsString> = wrong.iter().map(OsString::from).collect();
+            assert!(
+                Options::read(&["--register", "--ledgers"], &arguments).is_none(),
+                "{wrong:?}"
+            );
+        }
     }
 
     #[test]

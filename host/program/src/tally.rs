@@ -1,4 +1,5 @@
-//! `tally [--shipped] [--floor F] [OPS]`: ten lines on an operation file, and one more on the records that they leave out; or its first fault.
+//! `tally [--shipped] [--floor F] [OPS]`: ten lines on an operation file, one more on segment numbers and one on the records that all these leave
+//! out; or its first fault.
 
 use std::ffi::OsString;
 use std::fs::File;

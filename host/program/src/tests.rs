@@ -7,14 +7,16 @@ use std::io::{self, ErrorKind, Read, Write};
 use std::os::fd::AsRawFd;
 use std::path::{Path, PathBuf};
 
+use super::files::{self, Target, WordFile};
 use super::{Streams, run, run_judge};
 use keccak_tables::bitwise::{self, NUM_COUNTERS};
 use keccak_tables::is_wh::{self, IsWhRows};
-use keccak_tables::operation_file::{RECORD_BYTES, write_operations};
+use keccak_tables::operation_file::{RECORD_BYTES, file_bytes, write_operations};
+use keccak_tables::registers::{self, RegisterLook};
 use keccak_tables::verdict::verdict_text;
 use keccak_tables::{
-    Bus, BusInteraction, OP_WORDS, Operation, P, Parameters, Refusal, Side, keccak, keccak_rc, keccak_rnd, segment,
-    tuples,
+    Bus, BusInteraction, OP_WORDS, Operation, P, Parameters, Refusal, SEGMENT_WORD, Side, keccak, keccak_rc,
+    keccak_rnd, message, segment, tuples,
 };
 
 /// A call that gives a tuple of a row by its index.
@@ -30,6 +32,7 @@ fn ran(run: Run, arguments: &[&str], input: &[u8]) -> (u8, String, String) {
         input: &mut input,
         output: &mut output,
         errors: &mut errors,
+        terminal: false,
     };
     let status = run(&arguments, &mut streams);
     (
@@ -84,12 +87,13 @@ fn operations(count: u64) -> Vec<u64> {
         address: 4096 + 8 * at,
         input: std::array::from_fn(|lane| at.wrapping_mul(0x9E37_79B9_7F4A_7C15) ^ lane as u64),
         output: [0; 25],
+        segment: 0,
     };
     (0..count).flat_map(|at| operation(at).words()).collect()
 }
 
 fn records(ops: &[u64]) -> Vec<u8> {
-    let mut file = vec![0; ops.len() / OP_WORDS * RECORD_BYTES];
+    let mut file = vec![0; file_bytes(ops)];
     write_operations(ops, &mut file).unwrap();
     file
 }
@@ -110,9 +114,68 @@ fn demo_ends_well() {
         "core row 1 balance 3",
         "refused 4 18446744073709551424",
         "refused 7 4100",
+        "holds 2",
+        "yes, no",
+        "core row 1 balance 3",
     ] {
         assert!(output.contains(&format!("\n    {line}")), "{line}");
     }
+}
+
+/// A message's operations are written and recognized, and its digest printed; a changed byte, a cut file and others are not; and each
+/// refusal leaves no file.
+#[test]
+fn a_message_and_its_operations() {
+    let folder = Folder::new("message");
+    let page = folder.put("page", &[0xA3; 200]);
+    let ops = folder.path("ops");
+    let digest = "79f38adec5c20307a98ef76e8324afbfd46cfd81b22e3973c65fa1bd9de31787";
+    let told = ran(run, &["message", &page, "4096", "5", &ops], &[]);
+    assert_eq!(told, (0, format!("ops 2\nsha3-256 {digest}\n"), String::new()));
+    let list = message::Digest::new(&[0xA3; 200], 4096, 5).unwrap();
+    assert!(fs::read(&ops).unwrap() == records(list.list()));
+
+    let (yes, no) = ((0, "yes\n".into(), String::new()), (1, "no\n".into(), String::new()));
+    let is_message = |page: &str, ops: &str| ran(run, &["is-message", page, ops], &[]);
+    assert_eq!(is_message(&page, &ops), yes);
+    assert_eq!(is_message(&folder.put("other", &[0xA3; 199]), &ops), no);
+    let one = folder.put("one", &records(&list.list()[..OP_WORDS]));
+    assert_eq!(is_message(&page, &one), no);
+    let none = folder.put("none", b"");
+    assert_eq!(is_message(&page, &none), no);
+    assert_eq!(is_message(&page, &folder.put("cut", b"KO")).1, "refused 6 0\n");
+
+    let long = folder.put("long", &[0; 65_537]);
+    for (arguments, line) in [
+        (
+            ["message", &long, "4", "18446744073709551615", &folder.path("a")],
+            "refused 12 65537\n",
+        ),
+        (
+            ["message", &page, "4", "18446744073709551615", &folder.path("a")],
+            "refused 13 18446744073709551615\n",
+        ),
+        (
+            ["message", &none, "4", "18446744073709551615", &folder.path("a")],
+            "refused 7 4\n",
+        ),
+        (
+            ["message", &none, "18446744073709551424", "0", &folder.path("a")],
+            "refused 4 18446744073709551424\n",
+        ),
+    ] {
+        let (status, output, errors) = ran(run, &arguments, &[]);
+        assert_eq!((status, output.as_str()), (1, line));
+        assert!(errors.ends_with('\n'));
+    }
+    assert_eq!(is_message(&long, &ops).1, "refused 12 65537\n");
+    for arguments in [
+        ["message", &page, "8", "0", &page],
+        ["message", "absent", "8", "0", &ops],
+    ] {
+        assert_eq!(ran(run, &arguments, &[]).0, 2, "{arguments:?}");
+    }
+    assert_eq!(folder.names(), ["cut", "long", "none", "one", "ops", "other", "page"]);
 }
 
 #[test]
@@ -279,6 +342,7 @@ fn another_floor_is_refused_before_any_file_is_read() {
         input: &mut input,
         output: &mut output,
         errors: &mut errors,
+        terminal: false,
     };
     assert_eq!(run(&["tally", "--floor", "5"].map(OsString::from), &mut streams), 1);
     assert_eq!(output, b"refused 9 5\n");
@@ -302,6 +366,7 @@ fn another_number_of_rounds_is_refused_before_any_file_is_read() {
             &["write", "--rounds", rounds, "--shipped", "--all", &a, &b],
             &["judge", "--rounds", rounds, &a, &b],
             &["judge", "--all", "--rounds", rounds, "--most", "3", &a, &b],
+            &["job", "--rounds", rounds, &a, &b, &c],
             &["look", "--rounds", rounds, &a, &b],
             &["charge", "--shipped", "--rounds", rounds, &a, &b],
         ] {
@@ -315,6 +380,7 @@ fn another_number_of_rounds_is_refused_before_any_file_is_read() {
         input: &mut &[][..],
         output: &mut Broken(ErrorKind::StorageFull),
         errors: &mut Vec::new(),
+        terminal: false,
     };
     let arguments = ["judge", "--rounds", "0", &a, &b].map(OsString::from);
     assert_eq!(run(&arguments, &mut streams), 2);
@@ -336,6 +402,38 @@ fn refused_files_leave_the_tables_alone() {
     }
     assert_eq!(fs::read(&core).unwrap(), b"before");
     assert!(!fs::exists(&round).unwrap());
+}
+
+#[test]
+fn records_of_both_marks_make_the_tables_of_their_operations() {
+    let folder = Folder::new("marks");
+    // More than are read at once, so that pieces end within records.
+    let mut ops = operations(200);
+    let plain = folder.put("plain", &records(&ops));
+    for (at, operation) in ops.chunks_exact_mut(OP_WORDS).enumerate() {
+        operation[SEGMENT_WORD] = [0, 7, 1 << 31, 3][at % 4];
+    }
+    let file = records(&ops);
+    assert_eq!(file.len(), 50 * RECORD_BYTES + 150 * 422);
+    let marked = folder.put("marked", &file);
+    let tables = |ops: &str, name: &str| {
+        let [core, round] = ["core", "round"].map(|table| folder.path(&format!("{name}-{table}")));
+        let (status, output, errors) = ran(run, &["write", ops, &core, &round], &[]);
+        assert_eq!((status, errors.as_str()), (0, ""));
+        (output, fs::read(core).unwrap(), fs::read(round).unwrap())
+    };
+    assert!(
+        tables(&plain, "plain") == tables(&marked, "marked"),
+        "segment numbers stand in no column"
+    );
+    let lines = ran(run, &["tally", &plain], &[]).1;
+    let with_segments = lines.clone() + "segments 0 2147483648\n";
+    assert_eq!(ran(run, &["tally", &marked], &[]), (0, with_segments, String::new()));
+    let cut = folder.put("cut", &file[..RECORD_BYTES + 421]);
+    let refused = ran(run, &["write", &cut, &folder.path("a"), &folder.path("b")], &[]);
+    assert_eq!((refused.0, refused.1.as_str()), (1, "refused 6 418\n"));
+    let later = folder.put("later", &file[..RECORD_BYTES + 422 + 1]);
+    assert_eq!(ran(run, &["tally", &later], &[]).1, "refused 6 840\n");
 }
 
 /// Puts an address into a record of a file.
@@ -606,12 +704,338 @@ fn a_charge_that_fails_leaves_the_counters_alone() {
             input: &mut &[][..],
             output: &mut Broken(kind),
             errors: &mut Vec::new(),
+            terminal: false,
         };
         let arguments: [OsString; 3] = ["charge".into(), ops.clone().into(), counters.clone().into()];
         assert_eq!(run(&arguments, &mut streams), 2);
     }
     assert!(fs::read(&counters).unwrap() == before);
     assert_eq!(folder.names(), names);
+}
+
+/// The look and the charge of a register: ten more lines of the look, both files changed by the charge, and all else in them as it was.
+#[test]
+fn a_register_is_shown_its_ledger_and_charges_both_files() {
+    let folder = Folder::new("registers");
+    let before = some_counters();
+    let mut ledgers: Vec<u64> = (0..175).collect();
+    ledgers[9] = P - 1;
+    ledgers[47] = P;
+    let today = Parameters::default();
+    for (count, options, parameters, register) in [
+        (0, &["--shipped"][..], today.shipped(), 15),
+        (2, &[], today, 0),
+        (5, &["--floor", "256", "--rounds", "3"], today.rounds(3).floor(256), 9),
+    ] {
+        let ops = operations(count);
+        let look = RegisterLook::with(parameters, register, &ops, &before, &ledgers).unwrap();
+        let files = [
+            folder.put("ops", &records(&ops)),
+            folder.put("counters", &bytes(&before)),
+            folder.put("ledgers", &bytes(&ledgers)),
+        ];
+        let [file, counters, kept] = &files;
+        let number = register.to_string();
+        let run_on = |name| {
+            let register = ["--ledgers", kept, "--register", &number];
+            ran(run, &[&[name], options, &register, &[file, counters]].concat(), &[])
+        };
+        let kinds = look.look().kinds();
+        let shown = kinds.map(|kind| format!("{} {} {}\n", kind.kind.name(), kind.sum, kind.largest));
+        let own = kinds.map(|kind| format!("ledger {} {}\n", kind.kind.name(), look.ledger()[kind.kind.number()]));
+        assert_eq!(run_on("look"), (0, shown.concat() + &own.concat(), String::new()));
+        assert!(fs::read(counters).unwrap() == bytes(&before) && fs::read(kept).unwrap() == bytes(&ledgers));
+        let charged = kinds.map(|kind| format!("{} {}\n", kind.kind.name(), kind.sum));
+        assert_eq!(run_on("charge"), (0, charged.concat(), String::new()));
+        let (mut after, mut sums) = (before.clone(), ledgers.clone());
+        registers::charge_with(parameters, register, &ops, &mut after, &mut sums).unwrap();
+        assert!(fs::read(counters).unwrap() == bytes(&after), "register {register}");
+        assert_eq!(fs::read(kept).unwrap(), bytes(&sums), "register {register}");
+        assert_eq!(folder.names(), ["counters", "ledgers", "ops"]);
+    }
+}
+
+/// 10 comes before OPS and COUNTERS are read, of which there are none; the rest as without a register, and then a word of its own ledger.
+#[test]
+fn a_refused_register_leaves_both_files_alone() {
+    let folder = Folder::new("register-refused");
+    let none = folder.path("none");
+    for (words, register) in [
+        (0, "0"),
+        (9, "0"),
+        (25, "2"),
+        (160, "16"),
+        (500, "16"),
+        (500, "18446744073709551615"),
+    ] {
+        let ledgers = folder.put("ledgers", &bytes(&vec![P; words]));
+        for name in ["look", "charge"] {
+            let arguments = [name, "--register", register, "--ledgers", &ledgers, &none, &none];
+            let line = format!("refused 10 {register}\n");
+            let words = format!("register {register} is not in use: its ledger is not a whole one of the first 16\n");
+            assert_eq!(ran(run, &arguments, &[]), (1, line, words), "{arguments:?}");
+            let eight = [&[name, "--rounds", "0"][..], &arguments[1..]].concat();
+            assert_eq!(ran(run, &eight, &[]).1, "refused 8 0\n");
+            let nine = [&[name, "--floor", "5"][..], &arguments[1..]].concat();
+            assert_eq!(ran(run, &nine, &[]).1, "refused 9 5\n");
+        }
+    }
+    let mut ledgers = vec![0; 30];
+    ledgers[14] = u64::MAX;
+    let [few, many] = [NUM_COUNTERS - 1, NUM_COUNTERS].map(|length| bytes(&vec![0; length]));
+    let files = [
+        folder.put("ops", &records(&operations(1))),
+        folder.put("few", &few),
+        folder.put("many", &many),
+        folder.put("ledgers", &bytes(&ledgers)),
+    ];
+    let [ops, few, many, ledgers] = &files;
+    let before = files.clone().map(|file| fs::read(file).unwrap());
+    let names = folder.names();
+    for name in ["look", "charge"] {
+        let run_on = |counters: &str| {
+            ran(
+                run,
+                &[name, "--register", "1", "--ledgers", ledgers, ops, counters],
+                &[],
+            )
+        };
+        let words = "COUNTERS has 10485759 words, and 10485760 are needed\n";
+        assert_eq!(run_on(few), (1, "refused 3 10485760\n".into(), words.into()));
+        let words = "LEDGERS, word 14 (register 1, IS_HALF): 18446744073709551615 is not below p\n";
+        assert_eq!(run_on(many), (1, "refused 5 14\n".into(), words.into()));
+    }
+    assert!(files.clone().map(|file| fs::read(file).unwrap()) == before);
+    assert_eq!(folder.names(), names);
+}
+
+/// Whatever goes wrong, both files are as they were and nothing is left beside them.
+#[test]
+fn a_register_whose_charge_fails_leaves_both_files_alone() {
+    let folder = Folder::new("register-fails");
+    let ops = folder.put("ops", &records(&operations(1)));
+    let (counters, ledgers) = (bytes(&vec![7; NUM_COUNTERS]), bytes(&vec![7; 20]));
+    let (first, second) = (folder.put("counters", &counters), folder.put("ledgers", &ledgers));
+    let (odd, linked) = (folder.put("odd", &[0; 81]), folder.path("linked"));
+    fs::hard_link(&second, &linked).unwrap();
+    let names = folder.names();
+    let through = |ledgers: &str, ops: &str, counters: &str| {
+        ["charge", "--register", "1", "--ledgers", ledgers, ops, counters].map(OsString::from)
+    };
+    for ([ledgers, ops, counters], said) in [
+        ([&second, &second, &first], "OPS and LEDGERS must be two files\n"),
+        ([&second, &ops, &linked], "LEDGERS and COUNTERS must be two files\n"),
+        ([&second, &first, &first], "refused 6 0"),
+        ([&second, &ops, &ops], "OPS and COUNTERS must be two files\n"),
+        ([&odd, &ops, &first], "81 bytes are no whole words\n"),
+        ([&"/dev/zero".to_string(), &ops, &first], "it is no file"),
+        ([&folder.path("none"), &ops, &first], "No such file"),
+        ([&second, &ops, &folder.path("none")], "No such file"),
+    ] {
+        let arguments = ["charge", "--register", "1", "--ledgers", ledgers, ops, counters];
+        let (status, output, errors) = ran(run, &arguments, &[]);
+        assert!(
+            status > 0 && (output + &errors).contains(said),
+            "{arguments:?}: {errors}"
+        );
+    }
+    for kind in [ErrorKind::StorageFull, ErrorKind::BrokenPipe] {
+        let mut streams = Streams {
+            input: &mut &[][..],
+            output: &mut Broken(kind),
+            errors: &mut Vec::new(),
+            terminal: false,
+        };
+        assert_eq!(run(&through(&second, &ops, &first), &mut streams), 2);
+    }
+    assert!(fs::read(&first).unwrap() == counters && fs::read(&second).unwrap() == ledgers);
+    assert_eq!(folder.names(), names);
+}
+
+/// Two files take their names, or neither does: a folder that is not empty has the second one's.
+#[test]
+fn two_files_take_their_names_together() {
+    let folder = Folder::new("together");
+    let written = |name: &str, words: &[u64]| {
+        let path = folder.0.join(name);
+        let target = Target::of(&path).unwrap();
+        let mut file = WordFile::beside(&target).unwrap();
+        file.put(words).unwrap();
+        file.sync().unwrap();
+        file
+    };
+    let (first, second) = (folder.put("first", b"old"), folder.put("second", b"old"));
+    files::finish_both(written("first", &[1]), written("second", &[2])).unwrap();
+    assert_eq!(fs::read(&first).unwrap(), bytes(&[1]));
+    assert_eq!(fs::read(&second).unwrap(), bytes(&[2]));
+    let (one, two) = (written("first", &[3]), written("second", &[4]));
+    fs::remove_file(&second).unwrap();
+    fs::create_dir(&second).unwrap();
+    folder.put("second/in it", b"");
+    assert!(files::finish_both(one, two).is_err());
+    assert_eq!(fs::read(&first).unwrap(), bytes(&[1]));
+    assert_eq!(folder.names(), ["first", "second"]);
+}
+
+/// The lines of a month of 0, 1, 2 and 4 operations.
+const MONTH: &str = "files 4\noperations 7\nused-rows 168\npadding-rows 60\nfullest 24 32\nemptiest 0 4\n";
+
+/// A line for each height, with a file at these.
+fn height_lines(heights: &[u64]) -> String {
+    let line = |power: u32| {
+        format!(
+            "height {} {}\n",
+            1u64 << power,
+            u8::from(heights.contains(&(1 << power)))
+        )
+    };
+    (2..32).map(line).collect()
+}
+
+#[test]
+fn a_month_has_a_line_for_each_number() {
+    let folder = Folder::new("month");
+    let lines = MONTH.to_string() + &height_lines(&[4, 32, 64, 128]);
+    for text in ["0\n1\n2\n4\n", "0\n1\n2\n4", "000\r\n01\r\n 2\n4 \n"] {
+        let counts = folder.put("counts", text.as_bytes());
+        let told = (0, lines.clone(), String::new());
+        assert_eq!(ran(run, &["month", &counts], &[]), told, "{text:?}");
+        assert_eq!(ran(run, &["month"], text.as_bytes()), told, "{text:?}");
+    }
+    let counts = folder.path("counts");
+    let other = ran(run, &["month", "--floor", "64", "--rounds", "12", &counts], &[]).1;
+    let words = "used-rows 84\npadding-rows 172\nfullest 48 64\nemptiest 0 64\nheight 4 0\n";
+    assert!(other.contains(words) && other.contains("\nheight 64 4\n"), "{other}");
+    // Without a file there is nothing that is fullest.
+    let none = "files 0\noperations 0\nused-rows 0\npadding-rows 0\n".to_string() + &height_lines(&[]);
+    assert_eq!(ran(run, &["month"], &[]), (0, none, String::new()));
+}
+
+/// On a terminal the heights are bars: one character a file, or at most fifty.
+#[test]
+fn a_month_is_drawn_on_a_terminal() {
+    let drawn = |counts: &[u8]| {
+        let (mut input, mut output) = (counts, Vec::new());
+        let mut streams = Streams {
+            input: &mut input,
+            output: &mut output,
+            errors: &mut Vec::new(),
+            terminal: true,
+        };
+        assert_eq!(run(&["month".into()], &mut streams), 0);
+        String::from_utf8(output).unwrap()
+    };
+    let bars = "
+round height   files
+           4       1 #
+           8       0
+          16       0
+          32       1 #
+          64       1 #
+         128       1 #
+";
+    assert_eq!(drawn(b"0\n1\n2\n4\n"), MONTH.to_string() + bars);
+    let many = drawn([&b"1\n".repeat(1000)[..], b"2\n"].concat().as_slice());
+    let bars = format!("\n          32    1000 {}\n          64       1 #\n", "#".repeat(50));
+    assert!(many.ends_with(&bars), "{many}");
+    assert!(drawn(&[]).ends_with("padding-rows 0\n"));
+}
+
+#[test]
+fn a_month_that_is_refused_says_why() {
+    let most = "0\n".repeat(4096);
+    assert_eq!(ran(run, &["month"], most.as_bytes()).0, 0);
+    let many = ran(run, &["month"], (most.clone() + "89478486\n").as_bytes());
+    let words = "a month has at most 4096 files, and not 4097\n";
+    assert_eq!(many, (1, "refused 14 4097\n".into(), words.into()));
+    for count in ["89478486", "18446744073709551616", &"9".repeat(50)] {
+        let told = ran(run, &["month"], format!("0\n89478485\n{count}\n0\n").as_bytes());
+        let words = "COUNTS, line 3: a file has at most 89478485 operations\n";
+        assert_eq!(told, (1, "refused 1 89478486\n".into(), words.into()));
+    }
+    // 8 and then 9, before the text is read.
+    for (options, line) in [
+        (["--rounds", "25", "--floor", "5"], "refused 8 25\n"),
+        (["--rounds", "24", "--floor", "5"], "refused 9 5\n"),
+    ] {
+        let told = ran(run, &[&["month"][..], &options, &["no such file"]].concat(), &[]);
+        assert_eq!((told.0, told.1.as_str()), (1, line));
+    }
+}
+
+#[test]
+fn a_text_that_is_no_month_has_status_2() {
+    for (text, line) in [
+        (&b"1\n\n2\n"[..], "line 2: `` is no decimal number\n"),
+        (b"1\n2\n\n", "line 3: `` is no decimal number\n"),
+        (b"-1\n", "line 1: `-1` is no decimal number\n"),
+        (b"1 2\n", "line 1: `1 2` is no decimal number\n"),
+        (b"1\n0x10\n", "line 2: `0x10` is no decimal number\n"),
+        (b"1\n2,5\n", "line 2: `2,5` is no decimal number\n"),
+        (b"\xFF\n", "line 1: `\u{FFFD}` is no decimal number\n"),
+    ] {
+        let (status, output, errors) = ran(run, &["month"], text);
+        assert_eq!((status, output.as_str()), (2, ""), "{line}");
+        assert!(errors.ends_with(line), "{errors}");
+    }
+}
+
+/// The picture has a bar for each file, and takes its name where the month is told.
+#[test]
+fn a_month_has_a_picture() {
+    let folder = Folder::new("picture");
+    let (counts, svg) = (folder.put("counts", b"0\n1\n2\n4\n"), folder.put("svg", b"old"));
+    let told = ran(run, &["month", "--svg", &svg, &counts], &[]);
+    assert_eq!(told, ran(run, &["month", &counts], &[]));
+    let picture = fs::read_to_string(&svg).unwrap();
+    assert!(picture.starts_with("<svg xmlns=") && picture.ends_with("</svg>\n"));
+    for title in [
+        "file 1: 0 operations, 0 of 4 rows used, 0.0 %",
+        "file 2: 1 operation, 24 of 32 rows used, 75.0 %",
+        "file 3: 2 operations, 48 of 64 rows used, 75.0 %",
+        "file 4: 4 operations, 96 of 128 rows used, 75.0 %",
+    ] {
+        assert_eq!(
+            picture.matches(&format!("<title>{title}</title>")).count(),
+            1,
+            "{title}"
+        );
+    }
+    assert_eq!(picture.matches("<title>").count(), 4);
+    for words in [
+        "4 files, 7 operations: 168 of 228 rows used, 73.6 %; 24 rounds, floor 4",
+        "fullest: file 2, 24 of 32 rows used, 75.0 %",
+        "emptiest: file 1, 0 of 4 rows used, 0.0 %",
+        "73.6 %",
+    ] {
+        assert_eq!(picture.matches(&format!(">{words}<")).count(), 1, "{words}");
+    }
+    assert_eq!(ran(run, &["month", "--svg", &svg], b"89478485\n").0, 0);
+    let most = "1 file, 89,478,485 operations: 2,147,483,640 of 2,147,483,648 rows used, 99.9 %; 24 rounds, floor 4";
+    assert!(fs::read_to_string(&svg).unwrap().contains(most));
+    assert_eq!(ran(run, &["month", "--svg", &svg], b"").0, 0);
+    assert!(fs::read_to_string(&svg).unwrap().contains(">no files<"));
+
+    // What is refused, no text or can't be printed leaves what was there.
+    fs::write(&svg, "old").unwrap();
+    let past = folder.put("past", b"89478486\n");
+    assert_eq!(ran(run, &["month", "--svg", &svg, &past], &[]).0, 1);
+    assert_eq!(ran(run, &["month", "--svg", &svg], b"one\n").0, 2);
+    let mut streams = Streams {
+        input: &mut &b"1\n"[..],
+        output: &mut Broken(ErrorKind::StorageFull),
+        errors: &mut Vec::new(),
+        terminal: false,
+    };
+    assert_eq!(run(&["month", "--svg", &svg].map(OsString::from), &mut streams), 2);
+    assert_eq!(fs::read(&svg).unwrap(), b"old");
+    // The text is not overwritten.
+    let told = ran(run, &["month", "--svg", &counts, &counts], &[]);
+    assert_eq!((told.0, told.1.as_str()), (2, ""));
+    assert!(told.2.starts_with("FILE and COUNTS must be two files\n"));
+    let nowhere = folder.path("no/folder");
+    assert_eq!(ran(run, &["month", "--svg", &nowhere, &counts], &[]).0, 2);
+    assert_eq!(folder.names(), ["counts", "past", "svg"]);
 }
 
 #[test]
@@ -882,6 +1306,71 @@ fn judged_files() {
     assert_eq!(words(&honest, &round), format!("{place}: {} is not below p\n", P + 5));
 }
 
+/// Two segments of twelve rounds, of two calls and of one: as they are, with a round row filed with the wrong one, and refused.
+#[test]
+fn segments_and_then_the_job() {
+    let (folder, with) = (Folder::new("job"), Parameters::default().rounds(12));
+    let list = honest(12);
+    let segments = list.split_at(2 * OP_WORDS);
+    let table = |make: fn(Parameters, &[u64]) -> Result<Vec<u64>, Refusal>| {
+        [segments.0, segments.1].map(|ops| make(with, ops).unwrap()).concat()
+    };
+    let core = folder.put("core", &bytes(&table(keccak::keccak_table_with)));
+    let round = folder.put("round", &bytes(&table(keccak_rnd::keccak_rnd_table_with)));
+    let told = |counts: &[u64]| {
+        let counts = folder.put("counts", &bytes(counts));
+        ran(run, &["job", "--rounds", "12", &core, &round, &counts], &[])
+    };
+    let lines = |first: &str, second: &str| format!("segment 0: {first}\nsegment 1: {second}\njob: holds 3\n");
+    let fine = String::new();
+    assert_eq!(told(&[4, 32, 4, 16]), (0, lines("holds 2", "holds 1"), fine.clone()));
+    let misfiled = lines("round row 32 balance 0", "core row 0 balance 2");
+    assert_eq!(told(&[4, 33, 4, 15]), (1, misfiled, fine.clone()));
+    let one = "segment 0: holds 3\njob: holds 3\n".to_string();
+    assert_eq!(told(&[8, 48]), (0, one, fine.clone()));
+
+    let refused = |words: &str| (1, "refused 2 2\n".to_string(), format!("COUNTS has {words}\n"));
+    assert_eq!(told(&[4, 32, 4]), refused("3 words, which are not pairs"));
+    let rows = "core rows and 48 round rows, and the tables have 8 and 48";
+    assert_eq!(told(&[4, 48]), refused(&format!("4 {rows}")));
+    assert_eq!(
+        told(&[8, 48, u64::MAX, 0, 1, 0]),
+        refused(&format!("18446744073709551624 {rows}"))
+    );
+    assert_eq!(
+        told(&[]),
+        refused("0 core rows and 0 round rows, and the tables have 8 and 48")
+    );
+    let none = folder.put("none", &[]);
+    let empty = ran(run, &["job", &none, &none, &none], &[]);
+    assert_eq!(empty, (0, "job: holds 0\n".into(), fine));
+    let (odd, missing) = (folder.put("odd", &[0; 9]), folder.path("missing"));
+    for [core, round, counts] in [
+        [&core, &round, &odd],
+        [&none, &none, &missing],
+        [&missing, &none, &none],
+    ] {
+        let (status, output, errors) = ran(run, &["job", core, round, counts], &[]);
+        assert_eq!((status, output.as_str(), errors.is_empty()), (2, "", false));
+    }
+    let large = folder.put("large", &bytes(&[vec![0; 485], vec![P]].concat()));
+    let counts = folder.put("counts", &bytes(&[1, 0]));
+    let words = format!("CORE, row 0, column 485 (MU): {P} is not below p\n");
+    assert_eq!(
+        ran(run, &["job", &large, &none, &counts], &[]),
+        (1, "refused 5 485\n".into(), words)
+    );
+    assert_eq!(
+        ran(run, &["job", &odd_words(&folder), &none, &none], &[]).1,
+        "refused 2 0\n"
+    );
+}
+
+/// A file of three words, which are no row.
+fn odd_words(folder: &Folder) -> String {
+    folder.put("three", &bytes(&[0; 3]))
+}
+
 #[test]
 fn every_failure_has_a_line() {
     let folder = Folder::new("failures");
@@ -1011,6 +1500,7 @@ fn tallied(input: &mut dyn Read, output: &mut dyn Write) -> (u8, String) {
         input,
         output,
         errors: &mut errors,
+        terminal: false,
     };
     let status = run(&["tally".into()], &mut streams);
     (status, String::from_utf8(errors).unwrap())
@@ -1146,13 +1636,17 @@ fn lines_of_verdicts_are_explained() {
 
 #[test]
 fn wrong_usage_has_status_2() {
-    let cases: [&[&str]; 38] = [
+    let cases: [&[&str]; 60] = [
         &[],
         &["undo"],
         &["demo", "1"],
         &["write", "ops", "core"],
         &["write", "a", "b", "b"],
         &["judge", "core"],
+        &["job", "core", "round"],
+        &["job", "core", "round", "counts", "more"],
+        &["job", "--all", "core", "round", "counts"],
+        &["job", "--rounds", "core", "round", "counts"],
         &["tally", "a", "b"],
         &["tally", "a", "--shipped"],
         &["tally", "--shipped", "a", "b"],
@@ -1183,6 +1677,42 @@ fn wrong_usage_has_status_2() {
         &["tally", "--floor", "5", "a", "b"],
         &["look", "--floor", "18446744073709551616", "ops", "counters"],
         &["charge", "--floor", "0x8", "ops", "counters"],
+        &["message", "page", "8", "0"],
+        &["message", "page", "8", "0", "ops", "more"],
+        &["message", "page", "0x8", "0", "ops"],
+        &["message", "page", "8", "-1", "ops"],
+        &["message", "page", "8", "18446744073709551616", "ops"],
+        &["is-message", "page"],
+        &["is-message", "page", "ops", "more"],
+        &["look", "--register", "1", "ops", "counters"],
+        &["charge", "--ledgers", "ledgers", "ops", "counters"],
+        &["charge", "--register", "one", "--ledgers", "ledgers", "ops", "counters"],
+        &[
+            "charge",
+            "--register",
+            "18446744073709551616",
+            "--ledgers",
+            "ledgers",
+            "ops",
+            "counters",
+        ],
+        &[
+            "look",
+            "--ledgers",
+            "ledgers",
+            "--register",
+            "1",
+            "--register",
+            "1",
+            "ops",
+            "counters",
+        ],
+        &["look", "--register", "1", "--ledgers", "ledgers", "counters"],
+        &["month", "a", "b"],
+        &["month", "--svg"],
+        &["month", "--svg", "a", "--svg", "b", "c"],
+        &["month", "--shipped", "a"],
+        &["month", "--rounds", "25", "a", "b"],
         &["explain", "core", "row", "1"],
         &["explain", "middle", "column", "1"],
     ];
@@ -1197,7 +1727,19 @@ fn wrong_usage_has_status_2() {
 fn every_command_has_its_help() {
     let (status, help, _) = ran(run, &["help"], &[]);
     assert_eq!(status, 0);
-    for name in ["demo", "write", "judge", "tally", "look", "charge", "explain"] {
+    for name in [
+        "demo",
+        "write",
+        "judge",
+        "job",
+        "tally",
+        "look",
+        "charge",
+        "message",
+        "is-message",
+        "month",
+        "explain",
+    ] {
         assert!(help.contains(&format!("\n  keccak-tables {name}")));
         let told = ran(run, &["help", name], &[]);
         assert!(told.0 == 0 && told.1.starts_with(&format!("usage: keccak-tables {name}")) && told.2.is_empty());

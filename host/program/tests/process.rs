@@ -19,6 +19,7 @@ impl Folder {
             address: 4096,
             input: [at; 25],
             output: [0; 25],
+            segment: 0,
         };
         let ops: Vec<u64> = (0..records).flat_map(|at| operation(at).words()).collect();
         let mut file = vec![0; records as usize * RECORD_BYTES];
@@ -160,13 +161,16 @@ fn a_table_keeps_its_links_and_rights() {
 fn a_closed_standard_output_is_an_error_in_every_command() {
     let folder = Folder::new("closed-output", 1);
     fs::write(folder.0.join("none"), b"").unwrap();
-    let commands: [&[&str]; 10] = [
+    let commands: [&[&str]; 13] = [
         &["demo"],
         &["write", "ops", "core", "round"],
         &["judge", "none", "none"],
+        &["job", "none", "none", "none"],
         &["tally", "ops"],
         &["look", "ops", "none"],
         &["charge", "ops", "none"],
+        &["message", "none", "8", "0", "new"],
+        &["is-message", "none", "ops"],
         &["write", "--all", "all", "ops"],
         &["explain", "core", "column", "0"],
         &["help"],
@@ -251,6 +255,26 @@ fn charges_at_once_are_all_made() {
     assert_eq!((found.len(), &found[past..]), (after.len(), &after.split_off(past)[..]));
 }
 
+/// On a terminal a month's heights are drawn, and in a pipe they are lines.
+#[test]
+fn a_month_is_drawn_on_a_terminal_alone() {
+    let folder = Folder::new("month", 0);
+    fs::write(folder.0.join("counts"), "1\n1\n").unwrap();
+    let piped = folder.program(&["month", "counts"]).output().unwrap();
+    assert!(text(&piped.stdout).contains("\nheight 32 2\n") && !text(&piped.stdout).contains('#'));
+    let Some(output) = folder.terminal("month counts") else {
+        return;
+    };
+    assert_eq!(output.status.code(), Some(0));
+    let drawn = text(&output.stdout);
+    assert!(drawn.contains("          32       2 ##") && !drawn.contains("\nheight"));
+    // A picture does not go to the terminal that is printed to.
+    let Some(output) = folder.terminal("month --svg /dev/stdout counts") else {
+        return;
+    };
+    assert_eq!(output.status.code(), Some(2));
+}
+
 /// On a terminal whoever waits for a charge is told so.
 #[test]
 fn a_charge_says_that_it_goes_on() {
@@ -281,5 +305,22 @@ fn a_long_judgement_says_what_it_is_about() {
         };
         assert_eq!(output.status.code(), Some(1));
         assert!(text(&output.stdout).contains(words), "{round}");
+    }
+    // The padding rows of a segment stand before those of the next, which is the writer's order all the same.
+    let [core, rows] = ["core", "round"].map(|name| fs::read(folder.0.join(name)).unwrap().repeat(2));
+    fs::write(folder.0.join("cores"), core).unwrap();
+    fs::write(folder.0.join("rounds"), rows).unwrap();
+    let in_order = "judging 1088 rows in 2 segments, and then as one job";
+    for (counts, words) in [
+        ([32, 512, 32, 512], in_order),
+        ([32, 513, 32, 511], "one job; some are not in the writer's order"),
+    ] {
+        let counts: Vec<u8> = counts.iter().flat_map(|&rows: &u64| rows.to_le_bytes()).collect();
+        fs::write(folder.0.join("counts"), counts).unwrap();
+        let output = folder
+            .terminal("job cores rounds counts")
+            .expect("there was one before");
+        assert_eq!(output.status.code(), Some(1));
+        assert!(text(&output.stdout).contains(words), "{words}");
     }
 }

@@ -275,6 +275,7 @@ fn written_rows_have_the_named_columns() {
         address: 0x0102_0304_0506_0708,
         input,
         output,
+        segment: 7,
     };
     let mut row = [0; keccak::NUM_COLUMNS];
     keccak::keccak_row(&operation.words(), 0, &mut row).unwrap();

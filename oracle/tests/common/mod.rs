@@ -4,9 +4,9 @@
 
 use oracle::lanes::{State, keccak_f};
 
-/// The operation that permutes `input`, as 52 words.
+/// The operation that permutes `input`, as a list has it, of segment 0.
 pub fn operation(timestamp: u64, address: u64, input: &State) -> Vec<u64> {
-    [&[timestamp, address], input.as_slice(), &keccak_f(input)].concat()
+    [&[timestamp, address], input.as_slice(), &keccak_f(input), &[0]].concat()
 }
 
 /// Eight words as the number that these bytes make, lowest first.

@@ -1,75 +1,78 @@
 -- `judge::judged` meets its contract: whole rows, then field elements, then the stages on rows.
-use mathlib.Core.Path.{sym, _∙_}
+use mathlib.Core.Path.{_≡_, sym, _∙_}
+use mathlib.Core.Option.{none}
 use native.Mathlib.Omega.{arith}
 use borrow.Author.Needs.{needs}
-use Rattle.lists.proofs.First.{place-at, place-nowhere}
-use Rattle.field.proofs.NotElement.{all-elements}
-use Rattle.verdict.specs.Verdict.{fromCoreWords, fromRoundWords}
-use Rattle.verdict.proofs.Stages.{passes, answers, core-refused, round-refused, both-whole}
+use Rattle.answer.specs.Refusal.{accepted}
+use Rattle.answer.proofs.Laws.{is-refused, is-done}
+use Rattle.verdict.proofs.Stages.{answers}
+use Rattle.judge.specs.Checks.{notRows, notWords}
+use Rattle.judge.proofs.Passed.{rows-still, rows-passed, rows-later, words-passed, verdict-checked, verdict-passed}
 use Rattle.judge.proofs.judged.Statement.{statement}
 use Rattle.judge.proofs.judged.Tie as tie
 
+abbrev start : tie.After-enum-told → tie.Start
+start t = t .before .before .before .before .before
+
+abbrev rows : tie.After-enum-told2 → tie.After-enum-told
+rows t = t .before .before .before
+
+-- the rows passed, the words passed
+rows-are : (t : tie.After-enum-told) → notRows (start t .args .core .now) (start t .args .round .now) accepted ≡ none
+rows-are t = is-done _ (sym (t .enum-told .given .1) ∙ t .before .before .check-rows .ensures)
+
+words-are : (t : tie.After-enum-told2) → notWords (start (rows t) .args .core .now) (start (rows t) .args .round .now) accepted ≡ none
+words-are t = is-done _ (sym (t .enum-told2 .given .1) ∙ t .before .before .check-words .ensures)
+
+check-rows-requires : tie.Need-check-rows-requires
+check-rows-requires c κs = search needs
+
+enum-known-refusal : tie.Need-enum-known-refusal
+enum-known-refusal c = search needs
+
 returns : tie.Need-returns
-returns c = sym (core-refused _ _ _ _ (c .if1 .taken))
-
-returns-2 : tie.Need-returns-2
-returns-2 c = sym (round-refused _ _ _ _ (c .before .if1 .left) (c .if2 .taken))
-
-first-not-element-requires : tie.Need-first-not-element-requires
-first-not-element-requires c κs = search needs
-
-enum-known-k : tie.Need-enum-known-k
-enum-known-k c = search needs
-
-returns-3 : tie.Need-returns-3
-unfolding fromCoreWords
-returns-3 c =
-    sym (both-whole _ _ _ _ (c .before .before .before .before .before .if1 .left) (c .before .before .before .before .if2 .left)
-    ∙ answers _ _ _ _ (place-at _ (sym (c .before .k .given .1) ∙ c .before .before .before .first-not-element .ensures)))
+returns c =
+    let k = c .before .before .before in
+    sym (verdict-checked _ _ _ ∙ answers _ _ _ _ (rows-still _ _ _ (is-refused _ (sym (c .before .refusal .given .1) ∙ k .check-rows .ensures))))
 
 enum-told : tie.Need-enum-told
 enum-told c = search needs
 
-first-not-element-requires-2 : tie.Need-first-not-element-requires-2
-first-not-element-requires-2 c κs = search needs
+check-words-requires : tie.Need-check-words-requires
+check-words-requires c κs = search needs
 
-enum-known-k-2 : tie.Need-enum-known-k-2
-enum-known-k-2 c = search needs
+enum-known-refusal-2 : tie.Need-enum-known-refusal-2
+enum-known-refusal-2 c = search needs
 
-returns-4 : tie.Need-returns-4
-unfolding fromCoreWords fromRoundWords
-returns-4 c =
-    sym (both-whole _ _ _ _ (c .before .before .before .before .before .before .before .before .if1 .left) (c .before .before .before .before .before .before .before .if2 .left)
-    ∙ passes _ _ _ (place-nowhere _ (sym (c .before .before .before .before .enum-told .given .1) ∙ c .before .before .before .before .before .before .first-not-element .ensures))
-    ∙ answers _ _ _ _ (place-at _ (sym (c .before .k2 .given .1) ∙ c .before .before .before .first-not-element2 .ensures)))
+returns-2 : tie.Need-returns-2
+returns-2 c =
+    let k = c .before .before .before in
+    let w = rows-passed _ _ _ (rows-are (k .before)) in
+    sym (verdict-checked _ _ _ ∙ answers _ _ _ _ (rows-later _ _ _ (w .0) (w .1) ∙ is-refused _ (sym (c .before .refusal2 .given .1) ∙ k .check-words .ensures)))
 
 enum-told-2 : tie.Need-enum-told-2
 enum-told-2 c = search needs
 
 from-core-value-requires : tie.Need-from-core-value-requires
-from-core-value-requires c κs = (omega arith, all-elements _ _ (place-nowhere _ (sym (c .before .before .before .enum-told .given .1) ∙ c .before .before .before .before .before .first-not-element .ensures)), all-elements _ _ (place-nowhere _ (sym (c .enum-told2 .given .1) ∙ c .before .before .first-not-element2 .ensures)))
+from-core-value-requires c κs = let e = words-passed _ _ _ (words-are c) in (omega arith, e .0, e .1)
 
-returns-5 : tie.Need-returns-5
-unfolding fromCoreWords fromRoundWords
-returns-5 c =
-    c .from-core-value .ensures
-    ∙ sym (both-whole _ _ _ _ (c .before .before .before .before .before .before .before .before .if1 .left) (c .before .before .before .before .before .before .before .if2 .left)
-    ∙ passes _ _ _ (place-nowhere _ (sym (c .before .before .before .before .enum-told .given .1) ∙ c .before .before .before .before .before .before .first-not-element .ensures))
-    ∙ passes _ _ _ (place-nowhere _ (sym (c .before .enum-told2 .given .1) ∙ c .before .before .before .first-not-element2 .ensures)))
+returns-3 : tie.Need-returns-3
+returns-3 c =
+    let w = rows-passed _ _ _ (rows-are (rows (c .before))) in
+    let e = words-passed _ _ _ (words-are (c .before)) in
+    c .from-core-value .ensures ∙ sym (verdict-passed _ _ _ (w .0) (w .1) (e .0) (e .1))
 
 pub judged-spec : {M : Type 1} → statement M
 judged-spec =
     tie.close
     (tie.spec
+    check-rows-requires
+    enum-known-refusal
     returns
-    returns-2
-    first-not-element-requires
-    enum-known-k
-    returns-3
     enum-told
-    first-not-element-requires-2
-    enum-known-k-2
-    returns-4
+    check-words-requires
+    enum-known-refusal-2
+    returns-2
     enum-told-2
     from-core-value-requires
-    returns-5)
+    returns-3)

@@ -49,7 +49,7 @@ enum-told : tie.Need-enum-told
 enum-told c = search needs
 
 put-op-keys-requires : tie.Need-put-op-keys-requires
-put-op-keys-requires c κs = (omega arith, known (c .before) .1 .fits, known (c .before) .1 .low)
+put-op-keys-requires c κs = (omega arith, known (c .before) .1 .fits, known (c .before) .1 .low, known (c .before) .1 .segments)
 
 same-length : tie.Need-same-length
 same-length c = search needs

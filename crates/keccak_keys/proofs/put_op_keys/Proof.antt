@@ -8,7 +8,7 @@ use Rattle.lists.specs.Tab.{tab}
 use Rattle.lists.proofs.Laws.{Filled, filled-none, filled-add, filled-all}
 use Rattle.keccak.specs.declared.KeccakOperation.{KeccakOperation}
 use Rattle.keccak.specs.Row.{opAt, is-wh-keys, keyWord, keyWords, pointerKey}
-use Rattle.keccak.proofs.Checks.{address-fits}
+use Rattle.keccak.proofs.Checks.{address-fits, segment-fits}
 use Rattle.keccak.proofs.Keys.{operation-key}
 use Rattle.keccak_keys.proofs.put_op_keys.Statement.{statement}
 use Rattle.keccak_keys.proofs.put_op_keys.Tie as tie
@@ -23,7 +23,10 @@ loop-holds : tie.Need-loop-holds Inv-loop μ-loop
 loop-holds c = (omega arith, filled-none _ _ _ _)
 
 operation-at-requires : tie.Need-operation-at-requires Inv-loop μ-loop
-operation-at-requires c κs = omega arith
+operation-at-requires c κs =
+    let at-loop = c .before in
+    let start = at-loop .before .before .before in
+    (omega arith, segment-fits (start .args .ops .now) (start .args .n) (at-loop .loop .i) (start .pre .3) (c .loop-test .taken))
 
 mul-put-keys : tie.Need-mul-put-keys Inv-loop μ-loop
 mul-put-keys c = omega arith

@@ -1,6 +1,6 @@
 -- `keccak_rnd_operands::lane_from` meets its contract: the part has eight words.
 use native.Mathlib.Omega.{arith}
-use Rattle.keccak_rnd_operands.proofs.Sources.{part-is}
+use Rattle.lists.proofs.Kept.{part-tab}
 use Rattle.keccak_rnd_operands.proofs.lane_from.Statement.{statement}
 use Rattle.keccak_rnd_operands.proofs.lane_from.Tie as tie
 
@@ -20,7 +20,7 @@ part-result-end : tie.Need-part-result-end
 part-result-end c = omega arith
 
 returns : tie.Need-returns
-returns c = part-is _ _ (c .before .pre)
+returns c = part-tab _ _ 8 (c .before .pre)
 
 pub lane-from-spec : {M : Type 1} → statement M
 lane-from-spec =

@@ -81,7 +81,7 @@ loop-again c =
       omega arith,
       filled-row _ w (blockOf nr ops) i (at-loop .loop .inv .1) (in-loop .loop-test .taken) (length-table nr 1480 (opRow nr (opAt ops i))) (sym (zero-add (i * w)))
           (put .put-rounds .ensures
-          ∙ ap (λ (z : List ℕ). sets t (i * w) (tableOf nr 1480 (rowAfter (24 - nr) (getD ops (52 * i) 0) z))) (ln .lanes-at .ensures)
+          ∙ ap (λ (z : List ℕ). sets t (i * w) (tableOf nr 1480 (rowAfter (24 - nr) (opAt ops i .timestamp) z))) (ln .lanes-at .ensures)
           ∙ ap (sets t (i * w)) (op-block nr (opAt ops i))),
     )
 

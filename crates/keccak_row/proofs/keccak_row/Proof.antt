@@ -10,8 +10,8 @@ use borrow.Author.Tests.{lt-ltb, le-ltb, le-leb, lt-leb}
 use lib.Seq.{sets}
 use Rattle.answer.specs.Refusal.{accepted, tooShort}
 use Rattle.answer.proofs.Laws.{refuse-yes, refuse-no, refused, done, is-refused, is-done, sets-overwrite}
-use Rattle.keccak.specs.Refusals.{opCount, notWhole, badAddress, coreRowRefusal}
-use Rattle.keccak.proofs.Checks.{Passed, passed, address-fits}
+use Rattle.keccak.specs.Refusals.{opCount, notWhole, badOperation, coreRowRefusal}
+use Rattle.keccak.proofs.Checks.{Passed, passed, address-fits, segment-fits}
 use Rattle.keccak.specs.Row.{coreRow, opAt}
 use Rattle.keccak.specs.declared.KeccakOperation.{KeccakOperation}
 use Rattle.keccak.proofs.Cells.{length-core}
@@ -29,7 +29,7 @@ abbrev Index : tie.After-check-operations → ℕ
 Index k = k .before .before .before .before .before .args .index
 
 -- what an accepted call knows
-clear : (c : tie.After-enum-told) → notWhole (Ops (c .before .before)) (tooShort (length (Row (c .before .before))) 486 (badAddress (Ops (c .before .before)) accepted)) ≡ none
+clear : (c : tie.After-enum-told) → notWhole (Ops (c .before .before)) (tooShort (length (Row (c .before .before))) 486 (badOperation (Ops (c .before .before)) accepted)) ≡ none
 clear c = is-done _ (sym (c .enum-told .given .1) ∙ c .before .before .check-operations .ensures)
 
 known : (c : tie.After-enum-told) → Passed (length (Row (c .before .before))) 486 (Ops (c .before .before))
@@ -66,7 +66,9 @@ enum-told : tie.Need-enum-told
 enum-told c = search needs
 
 operation-at-requires : tie.Need-operation-at-requires
-operation-at-requires c κs = omega arith
+operation-at-requires c κs =
+    let k = c .before .before in
+    (omega arith, segment-fits (Ops k) (opCount (Ops k)) (Index k) (known c .segments) (k .before .if2 .left))
 
 put-core-row-requires : tie.Need-put-core-row-requires
 put-core-row-requires c κs =

@@ -99,7 +99,7 @@ put-core-rows-requires c κs =
     let told = c .before in
     let k = told .before .before .before in
     let h = k .table-height .ensures in
-    (omega arith, omega (arith, h, height-ge (Floor k) (opCount (Ops k))), omega (arith, h, known told .1 .fits), known told .1 .low)
+    (omega arith, omega (arith, h, height-ge (Floor k) (opCount (Ops k))), omega (arith, h, known told .1 .fits), known told .1 .low, known told .1 .segments)
 
 same-length : tie.Need-same-length
 same-length c = search needs

@@ -49,7 +49,7 @@ enum-told : tie.Need-enum-told
 enum-told c = search needs
 
 put-op-rows-requires : tie.Need-put-op-rows-requires
-put-op-rows-requires c κs = (omega arith, known (c .before) .1 .fits, known (c .before) .1 .low)
+put-op-rows-requires c κs = (omega arith, known (c .before) .1 .fits, known (c .before) .1 .low, known (c .before) .1 .segments)
 
 same-length : tie.Need-same-length
 same-length c = search needs

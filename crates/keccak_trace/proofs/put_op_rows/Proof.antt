@@ -9,7 +9,7 @@ use Rattle.keccak.specs.declared.KeccakOperation.{KeccakOperation}
 use Rattle.keccak.specs.Row.{coreRow, opAt}
 use Rattle.lists.proofs.Laws.{Filled, filled-none, filled-row, filled-rows}
 use Rattle.keccak.proofs.Cells.{length-core}
-use Rattle.keccak.proofs.Checks.{address-fits}
+use Rattle.keccak.proofs.Checks.{address-fits, segment-fits}
 use Rattle.keccak_trace.proofs.put_op_rows.Statement.{statement}
 use Rattle.keccak_trace.proofs.put_op_rows.Tie as tie
 
@@ -23,7 +23,10 @@ loop-holds : tie.Need-loop-holds Inv-loop μ-loop
 loop-holds c = (omega arith, filled-none _ _ _ _)
 
 operation-at-requires : tie.Need-operation-at-requires Inv-loop μ-loop
-operation-at-requires c κs = omega arith
+operation-at-requires c κs =
+    let at-loop = c .before in
+    let start = at-loop .before .before .before in
+    (omega arith, segment-fits (start .args .ops .now) (start .args .n) (at-loop .loop .i) (start .pre .3) (c .loop-test .taken))
 
 mul-put-core-row : tie.Need-mul-put-core-row Inv-loop μ-loop
 mul-put-core-row c = omega arith

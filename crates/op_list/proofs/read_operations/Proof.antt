@@ -12,7 +12,7 @@ use Rattle.op_file.specs.File.{recordsOf, firstFault, tallyOf}
 use Rattle.op_file.specs.Reader.{feedOf, finishOf}
 use Rattle.op_file.specs.declared.Cursor.{Cursor}
 use Rattle.op_file.proofs.Laws.{reads-file}
-use Rattle.op_list.proofs.Files.{file-whole, told-fault, told-file, read-fault, read-short, read-accepted, read-words}
+use Rattle.op_list.proofs.Files.{count-fits, told-fault, told-file, read-fault, read-short, read-accepted, read-words}
 use borrow.Author.Needs.{needs}
 use Rattle.op_list.proofs.read_operations.Statement.{statement}
 use Rattle.op_list.proofs.read_operations.Tie as tie
@@ -36,7 +36,7 @@ counted k = told-file (File (k .before .before)) (sym (k .sums .given .1) ∙ sa
 
 -- so many words can be counted
 fits : (k : tie.After-sums) → let sums = k .sums .given .0 .0 in (sums .ops + sums .unaligned) * 418 ≤ length (File (k .before .before))
-fits k = let q = counted k in let n = q .1 in omega (arith, n, file-whole (File (k .before .before)) (q .0))
+fits k = let q = counted k in let n = q .1 in omega (arith, n, count-fits (File (k .before .before)) (q .0))
 
 start-requires : tie.Need-start-requires
 start-requires c κs = search needs
@@ -69,7 +69,7 @@ returns c =
     refused _ _ (read-short (File (k .before .before)) _ _ (q .0) (q .1) (c .if1 .taken))
 
 put-operations-requires : tie.Need-put-operations-requires
-put-operations-requires c κs = (fits (c .before .before .before .before), c .before .if1 .left)
+put-operations-requires c κs = let q = counted (c .before .before .before .before) in (q .0, q .1, c .before .if1 .left)
 
 returns-2 : tie.Need-returns-2
 returns-2 c = refused _ _ (read-fault _ _ (told-fault _ (sym (c .before .refusal .given .1) ∙ said (c .before .before .before))))

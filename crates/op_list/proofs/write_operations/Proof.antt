@@ -9,21 +9,21 @@ use borrow.Author.Needs.{needs}
 use Rattle.answer.proofs.Laws.{refused, done, sets-overwrite}
 use Rattle.keccak.specs.Refusals.{opCount, operationsRefusal}
 use Rattle.keccak.proofs.Checks.{Passed, too-many, told-refused, told-done}
-use Rattle.op_list.specs.Files.{fileBytes, writeRefusal}
+use Rattle.op_list.specs.Files.{bytesFor, fileBytes, writeRefusal}
 use Rattle.op_list.proofs.Files.{file-length}
 use Rattle.op_list.proofs.write_operations.Statement.{statement}
 use Rattle.op_list.proofs.write_operations.Tie as tie
 
 -- the arguments, from the place after the checks
 abbrev Ops : tie.After-check-operations → List ℕ
-Ops k = k .before .before .before .before .args .ops .now
+Ops k = k .before .before .before .before .before .args .ops .now
 
 abbrev Out : tie.After-check-operations → List ℕ
-Out k = k .before .before .before .before .args .file .now
+Out k = k .before .before .before .before .before .args .file .now
 
 -- what an accepted call knows
-known : (c : tie.After-enum-told) → let k = c .before .before in (operationsRefusal (length (Out k)) (opCount (Ops k) * 418) (Ops k) ≡ none) × Passed (length (Out k)) (opCount (Ops k) * 418) (Ops k)
-known c = let k = c .before .before in told-done _ _ _ (k .before .if1 .left) refl (k .check-operations .ensures) (c .enum-told .given .1)
+known : (c : tie.After-enum-told) → let k = c .before .before in (operationsRefusal (length (Out k)) (bytesFor (Ops k) (opCount (Ops k))) (Ops k) ≡ none) × Passed (length (Out k)) (bytesFor (Ops k) (opCount (Ops k))) (Ops k)
+known c = let k = c .before .before in told-done _ _ _ (k .before .before .if1 .left) (k .before .bytes-for .ensures) (k .check-operations .ensures) (c .enum-told .given .1)
 
 add-t9 : tie.Need-add-t9
 add-t9 c = search needs
@@ -32,8 +32,8 @@ returns : tie.Need-returns
 unfolding writeRefusal
 returns c = refused _ _ (too-many _ _ _ (c .if1 .taken))
 
-mul-check-operations : tie.Need-mul-check-operations
-mul-check-operations c = omega arith
+bytes-for-requires : tie.Need-bytes-for-requires
+bytes-for-requires c κs = (c .if1 .left, omega arith)
 
 check-operations-requires : tie.Need-check-operations-requires
 check-operations-requires c κs = search needs
@@ -43,7 +43,7 @@ enum-known-refusal c = search needs
 
 returns-2 : tie.Need-returns-2
 unfolding writeRefusal
-returns-2 c = let k = c .before .before .before in refused _ _ (told-refused _ _ _ (k .before .if1 .left) refl (k .check-operations .ensures) (c .before .refusal .given .1))
+returns-2 c = let k = c .before .before .before in refused _ _ (told-refused _ _ _ (k .before .before .if1 .left) (k .before .bytes-for .ensures) (k .check-operations .ensures) (c .before .refusal .given .1))
 
 enum-told : tie.Need-enum-told
 enum-told c = search needs
@@ -71,7 +71,7 @@ write-operations-spec =
     (tie.spec
     add-t9
     returns
-    mul-check-operations
+    bytes-for-requires
     check-operations-requires
     enum-known-refusal
     returns-2

@@ -1,6 +1,7 @@
 -- `op_reader::feed` meets its contract: after each turn the rest of the piece is left.
 use Rattle.op_file.specs.declared.Cursor.{Cursor}
-use Rattle.op_file.proofs.Laws.{feed-go, feed-refused, feed-none}
+use Rattle.op_file.proofs.Laws.{feed-go, feed-none}
+use Rattle.op_file.proofs.Steps.{feed-refused}
 use Rattle.op_file.specs.Reader.{feedOf}
 use lib.ListN.{length, drop, length-take, length-drop}
 use borrow.Author.Needs.{needs}

@@ -16,11 +16,11 @@ mul-table-height c = search needs
 table-height-requires-2 : tie.Need-table-height-requires-2
 table-height-requires-2 c κs = search needs
 
-mul-t11 : tie.Need-mul-t11
-mul-t11 c = search needs
-
 mul-t12 : tie.Need-mul-t12
 mul-t12 c = search needs
+
+mul-t13 : tie.Need-mul-t13
+mul-t13 c = search needs
 
 padding-requires : tie.Need-padding-requires
 padding-requires c κs =
@@ -30,11 +30,8 @@ padding-requires c κs =
     let pre = c .before .before .pre in
     (pre .1, omega (arith, h, height-ge floor (n * 24)), omega (arith, h, height-le floor (n * 24), pre .0, pre .1))
 
-add-t14 : tie.Need-add-t14
-add-t14 c = search needs
-
-mul-t16 : tie.Need-mul-t16
-mul-t16 c = search needs
+add-t15 : tie.Need-add-t15
+add-t15 c = search needs
 
 mul-t17 : tie.Need-mul-t17
 mul-t17 c = search needs
@@ -44,6 +41,9 @@ mul-t18 c = search needs
 
 mul-t19 : tie.Need-mul-t19
 mul-t19 c = search needs
+
+mul-t20 : tie.Need-mul-t20
+mul-t20 c = search needs
 
 returns : tie.Need-returns
 unfolding countsOf
@@ -56,12 +56,12 @@ sum-up-spec =
     table-height-requires
     mul-table-height
     table-height-requires-2
-    mul-t11
     mul-t12
+    mul-t13
     padding-requires
-    add-t14
-    mul-t16
+    add-t15
     mul-t17
     mul-t18
     mul-t19
+    mul-t20
     returns)

@@ -1,5 +1,6 @@
 -- `operation_at` meets its contract: each field is read from its place.
 use Prim.Native.Nat.{_-_}
+use native.Mathlib.Omega.{arith}
 use borrow.Author.Needs.{needs}
 use Rattle.keccak.specs.Row.{opAt}
 use Rattle.operations.proofs.operation_at.Statement.{statement}
@@ -35,6 +36,19 @@ mul-t10 c = search needs
 shared-slice-read-t12 : tie.Need-shared-slice-read-t12
 shared-slice-read-t12 c = search needs
 
+add-t13 : tie.Need-add-t13
+add-t13 c = search needs
+
+mul-t14 : tie.Need-mul-t14
+mul-t14 c = search needs
+
+shared-slice-read-t16 : tie.Need-shared-slice-read-t16
+shared-slice-read-t16 c = search needs
+
+cast-t17 : tie.Need-cast-t17
+unfolding opAt
+cast-t17 c = omega arith
+
 returns : tie.Need-returns
 unfolding opAt
 returns c = cc
@@ -53,4 +67,8 @@ operation-at-spec =
     add-t9
     mul-t10
     shared-slice-read-t12
+    add-t13
+    mul-t14
+    shared-slice-read-t16
+    cast-t17
     returns)

@@ -1,13 +1,18 @@
 -- `round_rows` is safe.
 use mathlib.Core.Path.{sym}
 use native.Mathlib.Omega.{arith}
+use Prim.Native.Nat.{_*_}
 use lib.Seq.{length-take-le}
 use borrow.Author.Needs.{needs}
+use Rattle.keccak.specs.Row.{OP-WORDS}
 use Rattle.samples.proofs.round_rows.Statement.{statement}
 use Rattle.samples.proofs.round_rows.Tie as tie
 
+mul-generate-keccak-rnd-trace : tie.Need-mul-generate-keccak-rnd-trace
+mul-generate-keccak-rnd-trace c = omega arith
+
 slice-aggregate-generate-keccak-rnd-trace : tie.Need-slice-aggregate-generate-keccak-rnd-trace
-slice-aggregate-generate-keccak-rnd-trace c = sym (length-take-le 104 (c .before .before .args .ops .now) (omega arith))
+slice-aggregate-generate-keccak-rnd-trace c = sym (length-take-le (2 * OP-WORDS) (c .before .before .args .ops .now) (omega arith))
 
 slice-aggregate-generate-keccak-rnd-trace-2 : tie.Need-slice-aggregate-generate-keccak-rnd-trace-2
 slice-aggregate-generate-keccak-rnd-trace-2 c = omega arith
@@ -28,6 +33,7 @@ pub round-rows-spec : {M : Type 1} → statement M
 round-rows-spec =
     tie.close
     (tie.spec
+    mul-generate-keccak-rnd-trace
     slice-aggregate-generate-keccak-rnd-trace
     slice-aggregate-generate-keccak-rnd-trace-2
     generate-keccak-rnd-trace-requires

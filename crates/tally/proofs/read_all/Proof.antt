@@ -8,7 +8,8 @@ use lib.ListN.{take, length}
 use lib.Seq.{length-take-le}
 use Rattle.op_file.specs.declared.Cursor.{Cursor}
 use Rattle.op_file.specs.Reader.{feedOf, fileStart, isRefused}
-use Rattle.op_file.proofs.Laws.{feed-append, bytesLeft, fewer-left}
+use Rattle.op_file.proofs.Laws.{bytesLeft, fewer-left}
+use Rattle.op_file.proofs.Steps.{feed-append}
 use native.Mathlib.Omega.{arith}
 use borrow.Author.Needs.{needs}
 use Rattle.tally.proofs.read_all.Statement.{statement}

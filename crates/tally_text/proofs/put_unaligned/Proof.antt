@@ -1,11 +1,10 @@
 -- `tally_text::put_unaligned` meets its contract: nothing of no record, else a line.
 use Prim.Native.Nat.{ℕ, zero, suc}
-use mathlib.Core.Path.{_≡_, refl, sym}
-use mathlib.Core.List.{List, []}
-use native.Mathlib.Nat.{add-zero}
+use mathlib.Core.Path.{_≡_, refl}
+use mathlib.Core.List.{[]}
 use native.Mathlib.Omega.{arith}
-use Rattle.text.specs.Text.{Puts, namedNumber}
-use Rattle.text.proofs.Laws.{puts-as}
+use Rattle.text.specs.Text.{namedNumber}
+use Rattle.text.proofs.Laws.{puts-as, puts-nothing}
 use Rattle.tally_text.specs.Output.{unaligned-name, unalignedLine}
 use borrow.Author.Needs.{needs}
 use Rattle.tally_text.proofs.put_unaligned.Statement.{statement}
@@ -21,9 +20,6 @@ line-some : (n : ℕ) → (n ≡ 0 → ⊥) → namedNumber unaligned-name n ≡
 unfolding unalignedLine
 line-some zero h = absurd (h refl)
 line-some (suc k) h = refl
-
-puts-nothing : (a : List ℕ) (at : ℕ) → Puts a at [] a at
-puts-nothing a at = record { ends = sym (add-zero at); is = refl }
 
 returns : tie.Need-returns
 returns c = (puts-as (puts-nothing _ _) (line-none _ (c .if1 .taken)), omega arith)

@@ -5,23 +5,30 @@
 use std::process::ExitCode;
 
 use compare::comparison::Comparison;
-use compare::{charge, floors, limit, lines, looked_up, refusals, rounds, rows, say, tally, tuples, values, verdicts};
+use compare::{
+    charge, floors, jobs, limit, lines, looked_up, message, month, refusals, registers, rounds, rows, say, tally,
+    tuples, values, verdicts,
+};
 
 /// An area: it compares with a seed and a number of drawn inputs.
 type Area = fn(&mut Comparison, u64, usize);
 
 /// The areas, in the order in which `all` runs them.
-const AREAS: [(&str, Area); 12] = [
+const AREAS: [(&str, Area); 16] = [
     ("rows", rows::compare),
     ("looked_up", looked_up::compare),
     ("charge", charge::compare),
+    ("registers", registers::compare),
     ("values", values::compare),
     ("tuples", tuples::compare),
     ("tally", tally::compare),
     ("verdict", verdicts::compare),
     ("line", lines::compare),
+    ("job", jobs::compare),
     ("rounds", rounds::compare),
     ("floors", floors::compare),
+    ("month", month::compare),
+    ("message", message::compare),
     ("refusals", refusals::compare),
     ("limit", limit::compare),
 ];
@@ -31,12 +38,16 @@ usage: differential all [SEED [N]]       (each of these in turn)
        differential rows [SEED [N]]      (N drawn operations)
        differential looked_up [SEED [N]] (N drawn lists of keys)
        differential charge [SEED [N]]    (N / 20 lists of 0 to 90 operations)
+       differential registers [SEED [N]] (7 and N / 50 histories of registers, each with another)
        differential values [SEED [N]]    (N drawn rows of each kind)
        differential tuples [SEED [N]]    (N drawn rows of each kind)
        differential verdict [SEED [N]]   (N changes of words, N of rows, N / 10 tables of many calls)
        differential line [SEED [N]]      (N changes of words, N of rows)
+       differential job [SEED [N]]       (N / 10 drawn jobs of 0 to 12 segments, each in eight forms)
        differential rounds [SEED [N]]    (every number of rounds; N changes of words, N of rows, N / 20 pairs of tables of many calls)
        differential floors [SEED [N]]    (every floor; 4 N runs of the kit's program tally with drawn arguments)
+       differential month [SEED [N]]     (every number of rounds and floor; N drawn months)
+       differential message [SEED [N]]   (every length to 420; N / 20 long messages, N / 10 lists of eight lengths)
        differential tally [SEED [N]]     (N drawn files)
        differential refusals [SEED [N]]  (N / 20 times the drawn lists)
        differential limit [SEED]         (files of 37 GB; N has no part in it)

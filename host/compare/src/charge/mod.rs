@@ -83,7 +83,7 @@ fn bump(counters: &mut Counters, tuples: &[Tuple], rows: usize) {
 }
 
 /// The words of a look: by kind the sum of what is added, a whole number, and the largest counter afterwards.
-fn look_words(counts: &[u64], after: &[u64]) -> [u64; LOOK_WORDS] {
+pub(crate) fn look_words(counts: &[u64], after: &[u64]) -> [u64; LOOK_WORDS] {
     let mut sums = [0u128; NUM_LOOKUP_TYPES];
     let mut largest = [0; NUM_LOOKUP_TYPES];
     for (place, (&count, &counter)) in counts.iter().zip(after).enumerate() {

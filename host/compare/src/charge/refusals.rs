@@ -4,14 +4,14 @@
 
 use keccak_tables::bitwise::NUM_COUNTERS;
 use keccak_tables::segment::{self, LOOK_WORDS, Look};
-use keccak_tables::{MAX_OPS, OP_WORDS, P, Parameters};
+use keccak_tables::{MAX_OPS, OP_WORDS, P, Parameters, SEGMENT_WORD};
 
 use crate::by_floor;
 use crate::by_rounds;
 use crate::comparison::Comparison;
 use crate::inputs::Words;
 use crate::lent::Lent;
-use crate::list_calls::{ADDRESSES, list_with, of_list};
+use crate::list_calls::{PUT, list_with, of_list};
 use crate::looked_up::refusals::{SPOILT_COUNTERS, Spoilt, first_not_element, not_element, short, spoiling};
 use crate::refusals::first;
 use crate::untouched::Untouched;
@@ -41,10 +41,10 @@ pub fn compare_by(comparison: &mut Comparison, words: &mut Words, draw: Draw) {
     long.kept(comparison);
 }
 
-/// Lists of so many operations, whole or not, with and without addresses that are refused.
+/// Lists of so many operations, whole or not, with and without words that are refused.
 fn lists(comparison: &mut Comparison, words: &mut Words, long: &mut Long, n: usize) {
-    for past in [0, 1, 51] {
-        for put in ADDRESSES {
+    for past in [0, 1, OP_WORDS - 1] {
+        for put in PUT {
             let ops = list_with(words, n, past, put);
             let mut lent = Lent::new(&ops, words);
             every_set(comparison, words, long, lent.slice());
@@ -182,16 +182,17 @@ fn accepted(comparison: &mut Comparison, words: &mut Words) {
     );
 }
 
-/// As many operations as a list may have, one more and two more, whole or not, the first address refused or not. A slice is short or the list
-/// too long, so nothing but the first address could be read.
+/// As many operations as a list may have, one more and two more, whole or not, the first operation refused or not. A slice is short or the
+/// list too long, so nothing but the first operation could be read.
 fn too_many(comparison: &mut Comparison, words: &mut Words, long: &mut Long) {
     let Some(mut untouched) = Untouched::operations(MAX_OPS + 3) else {
         return;
     };
-    for address in [0, 4100, u64::MAX] {
+    for (address, segment) in [(0, 0), (4100, 0), (u64::MAX, 0), (0, 1 << 32)] {
         untouched.words_mut()[1] = address;
+        untouched.words_mut()[SEGMENT_WORD] = segment;
         for n in [MAX_OPS, MAX_OPS + 1, MAX_OPS + 2] {
-            for past in [0, 1, 51] {
+            for past in [0, 1, OP_WORDS - 1] {
                 let ops = &untouched.words()[..n * OP_WORDS + past];
                 for spoilt in SPOILT_COUNTERS {
                     charge(comparison, words, long, ops, NUM_COUNTERS - 1, spoilt);

@@ -102,6 +102,7 @@ fn list_at(stamps: &[u64], words: &mut Words) -> Vec<u64> {
         list.extend([timestamp, words.word() & 0x0000_FFFF_7FFF_FFF8 | 1 << 32]);
         list.extend((0..25).map(|_| words.lane()));
         list.extend([0; 25]);
+        list.push(u64::from(words.segment()));
     }
     list
 }

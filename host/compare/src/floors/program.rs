@@ -14,8 +14,9 @@ use keccak_tables::{OP_WORDS, Parameters};
 use crate::by_floor::{self, FLOORS, REFUSED};
 use crate::comparison::Comparison;
 use crate::inputs::Words;
+use crate::plain_file::{file_of, first_fault};
 use crate::say;
-use crate::tally::{expected, file_of, first_fault, operations_of};
+use crate::tally::expected;
 
 /// The longest argument that Linux takes, without the zero behind it.
 const LONGEST: usize = 131_071;
@@ -156,13 +157,16 @@ fn printed(with: Parameters, file: &[u8]) -> String {
     if let Some((number, detail)) = by_floor::refusal(with.floor).or_else(|| first_fault(file)) {
         return format!("refused {number} {detail}\n");
     }
-    let numbers = expected(with, &operations_of(file));
+    let numbers = expected(with, file);
     let names = oracle::tally(&[]).map(|(name, _)| name);
     let mut lines: String = names
         .iter()
         .zip(&numbers)
         .map(|(name, number)| format!("{name} {number}\n"))
         .collect();
+    if numbers[11] > 0 {
+        lines += &format!("segments {} {}\n", numbers[12], numbers[13]);
+    }
     if numbers[10] > 0 {
         lines += &format!("unaligned {}\n", numbers[10]);
     }

@@ -1,17 +1,18 @@
 //! Floors that are none: whatever else is wrong but the rounds, that is told, and nothing is written.
 
+use keccak_tables::OP_WORDS;
 use keccak_tables::keccak::LAST_ADDRESS;
-use keccak_tables::operation_file::RECORD_BYTES;
 
 use crate::by_floor::REFUSED;
 use crate::charge;
 use crate::comparison::Comparison;
 use crate::inputs::Words;
 use crate::lent::{Lent, LentBytes};
-use crate::list_calls::{ADDRESSES, list_with};
+use crate::list_calls::{PUT, list_with};
+use crate::plain_file::{file_of, records};
 use crate::refusals::OnList;
 use crate::rows;
-use crate::tally::{drawn_mode, file_of, read};
+use crate::tally::{drawn_mode, read};
 
 /// The refusals of every call that takes a floor.
 pub fn compare(comparison: &mut Comparison, words: &mut Words) {
@@ -32,12 +33,12 @@ pub fn compare(comparison: &mut Comparison, words: &mut Words) {
     }
 }
 
-/// Lists, whole or not, with and without addresses that are refused, and slices that are short or not.
+/// Lists, whole or not, with and without words that are refused, and slices that are short or not.
 fn lists(comparison: &mut Comparison, words: &mut Words, floor: u64) {
-    for (n, past) in [(0, 0), (1, 51), (3, 0), (3, 1)] {
-        let put = ADDRESSES[words.below(ADDRESSES.len() as u64) as usize];
+    for (n, past) in [(0, 0), (1, OP_WORDS - 1), (3, 0), (3, 1)] {
+        let put = PUT[words.below(PUT.len() as u64) as usize];
         let list = list_with(words, n, past, put);
-        let what = format!("{n} operations and {past} words, {put:?} among the addresses");
+        let what = format!("{n} operations and {past} words, {put:?} among them");
         let mut lent = Lent::new(&list, words);
         for rounds in [24, 1, 0, 25, u64::MAX] {
             let on_list = OnList {
@@ -57,6 +58,7 @@ fn lists(comparison: &mut Comparison, words: &mut Words, floor: u64) {
 /// A file that is empty, whole, off the eight, high, marked wrongly or cut: none of this is told.
 fn files(comparison: &mut Comparison, words: &mut Words, floor: u64) {
     let whole = file_of(&words.operations(2));
+    let second = records(&whole)[1].0;
     let with_bytes = |at: usize, bytes: &[u8]| {
         let mut file = whole.clone();
         file[at..at + bytes.len()].copy_from_slice(bytes);
@@ -66,9 +68,9 @@ fn files(comparison: &mut Comparison, words: &mut Words, floor: u64) {
         Vec::new(),
         whole.clone(),
         with_bytes(10, &4100u64.to_le_bytes()),
-        with_bytes(RECORD_BYTES + 10, &(LAST_ADDRESS + 1).to_le_bytes()),
-        with_bytes(RECORD_BYTES, b"N"),
-        whole[..RECORD_BYTES + 1].to_vec(),
+        with_bytes(second + 10, &(LAST_ADDRESS + 1).to_le_bytes()),
+        with_bytes(second, b"N"),
+        whole[..second + 1].to_vec(),
     ];
     for file in cases {
         for rounds in [24, 0] {

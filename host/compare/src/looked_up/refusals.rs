@@ -5,7 +5,7 @@
 
 use keccak_tables::bitwise::{NUM_COLUMNS, NUM_COUNTERS, TABLE_WORDS};
 use keccak_tables::is_wh::{self, IsWhRows, MAX_KEYS};
-use keccak_tables::{OP_WORDS, P, Refusal, bitwise};
+use keccak_tables::{OP_WORDS, P, Refusal, SEGMENT_WORD, bitwise};
 
 use crate::comparison::Comparison;
 use crate::inputs::Words;
@@ -463,6 +463,14 @@ fn own_memory(comparison: &mut Comparison, words: &mut Words) {
     );
     let cut = IsWhRows::of_operations(&ops[..2 * OP_WORDS + 1]);
     refused(comparison, "operations that are not whole", cut, 2, 2);
+    ops[SEGMENT_WORD] = 1 << 32;
+    refused(
+        comparison,
+        "a segment word of 33 bits",
+        IsWhRows::of_operations(&ops),
+        11,
+        1 << 32,
+    );
     ops[1] = 4100;
     refused(
         comparison,

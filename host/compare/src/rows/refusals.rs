@@ -2,14 +2,14 @@
 //! panics there or has no such call); and every lent word as it was.
 
 use keccak_tables::keccak::LAST_ADDRESS;
-use keccak_tables::{MAX_OPS, OP_WORDS, P, Parameters, bitwise, is_wh, keccak, keccak_rc, keccak_rnd};
+use keccak_tables::{MAX_OPS, OP_WORDS, P, Parameters, SEGMENT_WORD, bitwise, is_wh, keccak, keccak_rc, keccak_rnd};
 
 use crate::by_floor::{self, FLOORS, REFUSED};
 use crate::by_rounds;
 use crate::comparison::Comparison;
 use crate::inputs::{LAST_ALIGNED, Words};
 use crate::lent::Lent;
-use crate::list_calls::{LIST_CALLS, ListCall, TOO_MANY, of_addresses};
+use crate::list_calls::{LAST_SEGMENT, LIST_CALLS, ListCall, TOO_MANY, of_operations};
 use crate::refused::{on_slice, tuple_calls};
 use crate::untouched::Untouched;
 
@@ -156,6 +156,7 @@ fn operation_calls(comparison: &mut Comparison, words: &mut Words) {
         for n in [0, 1, 3, 5] {
             lists_about_whole(comparison, words, call, n);
             refused_addresses(comparison, words, call, n);
+            refused_segments(comparison, words, call, n);
         }
     }
     indexes(comparison, words);
@@ -166,7 +167,7 @@ fn operation_calls(comparison: &mut Comparison, words: &mut Words) {
 fn lists_about_whole(comparison: &mut Comparison, words: &mut Words, call: &ListCall, n: usize) {
     let none = (call.takes_index && n == 0).then_some((1, 0));
     let needed = call.needed(n);
-    for past in [0, 1, 51] {
+    for past in [0, 1, OP_WORDS - 1] {
         let mut ops = words.operations(n);
         ops.extend(words.take(past));
         for length in [0, needed.saturating_sub(1), needed, needed + 1] {
@@ -197,7 +198,34 @@ fn refused_addresses(comparison: &mut Comparison, words: &mut Words, call: &List
                     )
                 };
                 let short = Some((3, needed as u64));
-                for (length, expected) in [(needed, of_addresses(&ops)), (needed - 1, short)] {
+                for (length, expected) in [(needed, of_operations(&ops)), (needed - 1, short)] {
+                    let what = (call.name, input);
+                    on_slice(comparison, words, what, length, expected, |out| call.at_last(&ops, out));
+                }
+            }
+        }
+    }
+}
+
+/// Each operation in turn with a segment word about the last that is accepted, the first with an address that is accepted, off the eight or
+/// high, and the last with another segment word that is refused or not; shorter slices are refused first.
+fn refused_segments(comparison: &mut Comparison, words: &mut Words, call: &ListCall, n: usize) {
+    let needed = call.needed(n);
+    for at in 0..n {
+        for segment in [0, LAST_SEGMENT, LAST_SEGMENT + 1, 1 << 40, u64::MAX] {
+            for (first, last) in [(8, 0), (8, 1 << 63), (4100, 0), (u64::MAX, 1 << 32)] {
+                let mut ops = words.operations(n);
+                ops[1] = first;
+                ops[(n - 1) * OP_WORDS + SEGMENT_WORD] = last;
+                ops[at * OP_WORDS + SEGMENT_WORD] = segment;
+                let input = || {
+                    format!(
+                        "{}, operation {at} of {n} with segment word {segment}, the last with {last}, the first at {first}",
+                        call.name
+                    )
+                };
+                let short = Some((3, needed as u64));
+                for (length, expected) in [(needed, of_operations(&ops)), (needed - 1, short)] {
                     let what = (call.name, input);
                     on_slice(comparison, words, what, length, expected, |out| call.at_last(&ops, out));
                 }

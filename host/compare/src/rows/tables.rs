@@ -1,11 +1,12 @@
 //! Core and round tables, their single rows, keys and heights.
 
-use keccak_tables::{MAX_OPS, OP_WORDS, Operation, Parameters, Refusal, keccak, keccak_rnd};
+use keccak_tables::{MAX_OPS, OP_WORDS, Operation, Parameters, Refusal, SEGMENT_WORD, keccak, keccak_rnd};
 
 use crate::by_floor;
 use crate::comparison::Comparison;
 use crate::inputs::{Words, addresses, number, operation_of_row, states};
 use crate::lent::Lent;
+use crate::list_calls::LIST_CALLS;
 
 pub fn compare(comparison: &mut Comparison, words: &mut Words, n: usize) {
     comparison.group("tables and keys of 0 to 40 drawn operations");
@@ -22,6 +23,10 @@ pub fn compare(comparison: &mut Comparison, words: &mut Words, n: usize) {
         left -= n;
     }
     at_edges(comparison, words);
+    comparison.group("lists with other segment numbers: the same words");
+    for n in [1, 2, 5, 20] {
+        segments(comparison, words, n);
+    }
     comparison.group("core tables of 1,000 to 1,200 and of 3,000 operations");
     for n in (1000..=1200).step_by(40).chain([1078, 1079, 3000]) {
         let ops = words.operations(n);
@@ -49,6 +54,32 @@ pub fn compare(comparison: &mut Comparison, words: &mut Words, n: usize) {
     comparison.group("heights and padding lookups");
     heights_of_tables(comparison);
     heights(comparison);
+}
+
+/// What each call on a list writes, the list's segment numbers being 0; and the same where they are the last, a bit and drawn.
+fn segments(comparison: &mut Comparison, words: &mut Words, n: usize) {
+    let ops = words.operations(n);
+    let with = |segment: &mut dyn FnMut() -> u32| {
+        let mut list = ops.clone();
+        for operation in list.chunks_exact_mut(OP_WORDS) {
+            operation[SEGMENT_WORD] = u64::from(segment());
+        }
+        list
+    };
+    let bit = 1 << words.below(32);
+    let lists = [with(&mut || u32::MAX), with(&mut || bit), with(&mut || words.segment())];
+    for call in &LIST_CALLS {
+        let mut expected = vec![0; call.needed(n)];
+        let none = with(&mut || 0);
+        let input = || format!("{} of {n} operations of segment 0", call.name);
+        comparison.done(input, call.at_last(&none, &mut expected));
+        for list in &lists {
+            let mut lent = Lent::drawn(expected.len(), words);
+            let input = || format!("{} of the operations {list:?}", call.name);
+            comparison.done(input, call.at_last(list, lent.slice()));
+            lent.holds(comparison, |_| input(), &expected);
+        }
+    }
 }
 
 fn at_edges(comparison: &mut Comparison, words: &mut Words) {

@@ -30,6 +30,21 @@ enum-known-self-8 c = search needs
 enum-known-self-9 : tie.Need-enum-known-self-9
 enum-known-self-9 c = search needs
 
+enum-known-self-10 : tie.Need-enum-known-self-10
+enum-known-self-10 c = search needs
+
+enum-known-self-11 : tie.Need-enum-known-self-11
+enum-known-self-11 c = search needs
+
+enum-known-self-12 : tie.Need-enum-known-self-12
+enum-known-self-12 c = search needs
+
+enum-known-self-13 : tie.Need-enum-known-self-13
+enum-known-self-13 c = search needs
+
+enum-known-self-14 : tie.Need-enum-known-self-14
+enum-known-self-14 c = search needs
+
 returns : tie.Need-returns
 returns c = rw (c .before .self .given .1)
 
@@ -57,6 +72,21 @@ returns-8 c = rw (c .before .self8 .given .1)
 returns-9 : tie.Need-returns-9
 returns-9 c = rw (c .before .self9 .given .1)
 
+returns-10 : tie.Need-returns-10
+returns-10 c = rw (c .before .self10 .given .1)
+
+returns-11 : tie.Need-returns-11
+returns-11 c = rw (c .before .self11 .given .1)
+
+returns-12 : tie.Need-returns-12
+returns-12 c = rw (c .before .self12 .given .1)
+
+returns-13 : tie.Need-returns-13
+returns-13 c = rw (c .before .self13 .given .1)
+
+returns-14 : tie.Need-returns-14
+returns-14 c = rw (c .before .self14 .given .1)
+
 pub detail-spec : {M : Type 1} → statement M
 detail-spec =
     tie.close
@@ -70,6 +100,11 @@ detail-spec =
     enum-known-self-7
     enum-known-self-8
     enum-known-self-9
+    enum-known-self-10
+    enum-known-self-11
+    enum-known-self-12
+    enum-known-self-13
+    enum-known-self-14
     returns
     returns-2
     returns-3
@@ -78,4 +113,9 @@ detail-spec =
     returns-6
     returns-7
     returns-8
-    returns-9)
+    returns-9
+    returns-10
+    returns-11
+    returns-12
+    returns-13
+    returns-14)

@@ -39,7 +39,29 @@ returns-8 c = let args = c .before .args in sym (ap (λ n. refusalOf n (args .de
 
 returns-9 : tie.Need-returns-9
 unfolding refusalOf
-returns-9 c = let r = c .match .rest in simp (ne-eqb _ _ (r .0 .0 .0 .0 .0 .0 .0 .1), ne-eqb _ _ (r .0 .0 .0 .0 .0 .0 .1), ne-eqb _ _ (r .0 .0 .0 .0 .0 .1), ne-eqb _ _ (r .0 .0 .0 .0 .1), ne-eqb _ _ (r .0 .0 .0 .1), ne-eqb _ _ (r .0 .0 .1), ne-eqb _ _ (r .0 .1), ne-eqb _ _ (r .1))
+returns-9 c = let args = c .before .args in sym (ap (λ n. refusalOf n (args .detail)) (c .match .keys9))
+
+returns-10 : tie.Need-returns-10
+unfolding refusalOf
+returns-10 c = let args = c .before .args in sym (ap (λ n. refusalOf n (args .detail)) (c .match .keys10))
+
+returns-11 : tie.Need-returns-11
+unfolding refusalOf
+returns-11 c = let args = c .before .args in sym (ap (λ n. refusalOf n (args .detail)) (c .match .keys11))
+
+returns-12 : tie.Need-returns-12
+unfolding refusalOf
+returns-12 c = let args = c .before .args in sym (ap (λ n. refusalOf n (args .detail)) (c .match .keys12))
+
+returns-13 : tie.Need-returns-13
+unfolding refusalOf
+returns-13 c = let args = c .before .args in sym (ap (λ n. refusalOf n (args .detail)) (c .match .keys13))
+
+returns-14 : tie.Need-returns-14
+unfolding refusalOf
+returns-14 c =
+    let r = c .match .rest in
+    simp (ne-eqb _ _ (r .0 .0 .0 .0 .0 .0 .0 .0 .0 .0 .0 .0 .1), ne-eqb _ _ (r .0 .0 .0 .0 .0 .0 .0 .0 .0 .0 .0 .1), ne-eqb _ _ (r .0 .0 .0 .0 .0 .0 .0 .0 .0 .0 .1), ne-eqb _ _ (r .0 .0 .0 .0 .0 .0 .0 .0 .0 .1), ne-eqb _ _ (r .0 .0 .0 .0 .0 .0 .0 .0 .1), ne-eqb _ _ (r .0 .0 .0 .0 .0 .0 .0 .1), ne-eqb _ _ (r .0 .0 .0 .0 .0 .0 .1), ne-eqb _ _ (r .0 .0 .0 .0 .0 .1), ne-eqb _ _ (r .0 .0 .0 .0 .1), ne-eqb _ _ (r .0 .0 .0 .1), ne-eqb _ _ (r .0 .0 .1), ne-eqb _ _ (r .0 .1), ne-eqb _ _ (r .1))
 
 pub refusal-of-spec : {M : Type 1} → statement M
-refusal-of-spec = tie.close (tie.spec returns returns-2 returns-3 returns-4 returns-5 returns-6 returns-7 returns-8 returns-9)
+refusal-of-spec = tie.close (tie.spec returns returns-2 returns-3 returns-4 returns-5 returns-6 returns-7 returns-8 returns-9 returns-10 returns-11 returns-12 returns-13 returns-14)

@@ -8,10 +8,10 @@ use Rattle.op_list.proofs.record.put_words.Statement.{statement}
 use Rattle.op_list.proofs.record.put_words.Tie as tie
 
 abbrev Inv-loop : tie.InvT-loop
-Inv-loop ops at bytes₀ to k₀ bytes k = Filled bytes₀ to 416 (wordByte (wordsFrom ops at)) bytes k
+Inv-loop ops at count bytes₀ to k₀ bytes k = Filled bytes₀ to count (wordByte (wordsFrom ops at)) bytes k
 
 abbrev μ-loop : tie.MeasureT-loop
-μ-loop ops at bytes₀ to k₀ bytes k = 416 - k
+μ-loop ops at count bytes₀ to k₀ bytes k = count - k
 
 loop-holds : tie.Need-loop-holds Inv-loop μ-loop
 loop-holds c = filled-none _ _ _ _

@@ -1,77 +1,69 @@
 -- `step::read_record` meets its contract: the checks of a record in their order.
-use Rattle.op_file.specs.File.{faultOf, isWhole, recordWord}
-use Rattle.answer.specs.Refusal.{refuseIf}
-use borrow.Author.Tests.{lt-leb, lt-ltb, le-ltb, eq-eqb, ne-eqb}
-use mathlib.Core.Path.{sym}
+use Rattle.op_file.specs.File.{isMark, recordSize, segmentOf, recordWord}
+use Rattle.op_file.proofs.Steps.{size-least, first-not, second-not, both-right, bad-ends, good-ends}
+use Rattle.lists.specs.Tab.{pick, word}
+use Rattle.bits.specs.Bits.{pack}
+use borrow.Author.Tests.{eq-eqb, ne-eqb, not-true, not-false}
+use lib.ListN.{length, getD}
+use Prim.Native.Nat.{_≤_}
+use mathlib.Core.Bool.{Bool, true}
+use mathlib.Core.Path.{_≡_, ap, sym, _∙_}
 use native.Mathlib.Omega.{arith}
 use borrow.Author.Needs.{needs}
 use Rattle.op_reader.proofs.step.read_record.Statement.{statement}
 use Rattle.op_reader.proofs.step.read_record.Tie as tie
 
+-- a whole record is long enough for all that is read of it
+long : (c : tie.Start) → 418 ≤ length (c .args .r .now)
+long c = omega (arith, c .pre .1, size-least (c .args .marked))
+
 shared-slice-read-if1 : tie.Need-shared-slice-read-if1
-shared-slice-read-if1 c = search needs
-
-add-t8 : tie.Need-add-t8
-add-t8 c = omega arith
-
-mul-t9 : tie.Need-mul-t9
-mul-t9 c = omega arith
+shared-slice-read-if1 c = omega (arith, long (c .before .before))
 
 returns : tie.Need-returns
-unfolding faultOf isWhole refuseIf
-returns c =
-    let a = c .before .before .before in
-    let few = a .pre .0 in
-    simp (lt-leb _ _ few, eq-eqb _ _ (a .pre .1), ne-eqb _ _ (c .if1 .taken))
+returns c = let st = c .before .before .before in bad-ends (st .args .w) (st .pre .0) (st .args .r .now) (first-not (st .args .r .now) (ne-eqb _ _ (c .if1 .taken)))
 
-shared-slice-read-if2 : tie.Need-shared-slice-read-if2
-shared-slice-read-if2 c = search needs
+shared-slice-read-is-mark : tie.Need-shared-slice-read-is-mark
+shared-slice-read-is-mark c = omega (arith, long (c .before .before .before .before))
 
-add-t12 : tie.Need-add-t12
-add-t12 c = omega arith
-
-mul-t13 : tie.Need-mul-t13
-mul-t13 c = omega arith
+is-mark-requires : tie.Need-is-mark-requires
+is-mark-requires c κs = search needs
 
 returns-2 : tie.Need-returns-2
-unfolding faultOf isWhole refuseIf
 returns-2 c =
-    let a = c .before .before .before .before .before in
-    simp (lt-leb _ _ (a .pre .0), eq-eqb _ _ (a .pre .1), eq-eqb _ _ (c .before .before .if1 .left), ne-eqb _ _ (c .if2 .taken))
+    let st = c .before .before .before .before .before .before in
+    bad-ends (st .args .w) (st .pre .0) (st .args .r .now) (second-not (st .args .r .now) (sym (c .before .is-mark .ensures) ∙ not-true _ (c .if2 .taken)))
 
 word-at-requires : tie.Need-word-at-requires
-word-at-requires c κs = search needs
+word-at-requires c κs = omega (arith, long (c .before .before .before .before .before .before))
+
+segment-at-requires : tie.Need-segment-at-requires
+segment-at-requires c κs = search needs
+
+end-record-requires : tie.Need-end-record-requires
+end-record-requires c κs = search needs
 
 returns-3 : tie.Need-returns-3
-unfolding faultOf isWhole recordWord refuseIf
+unfolding recordWord segmentOf
 returns-3 c =
-    let a = c .before .before .before .before .before .before .before in
-    simp (lt-leb _ _ (a .pre .0), eq-eqb _ _ (a .pre .1), eq-eqb _ _ (c .before .before .before .before .if1 .left), eq-eqb _ _ (c .before .before .if2 .left), sym (c .before .word-at .ensures), lt-ltb _ _ (c .if3 .taken))
-
-count-record-requires : tie.Need-count-record-requires
-count-record-requires c κs = omega arith
-
-returns-4 : tie.Need-returns-4
-unfolding faultOf isWhole recordWord refuseIf
-returns-4 c =
-    let e = c .before in
-    let a = e .before .before .before .before .before .before .before in
-    simp (lt-leb _ _ (a .pre .0), eq-eqb _ _ (a .pre .1), eq-eqb _ _ (e .before .before .before .before .if1 .left), eq-eqb _ _ (e .before .before .if2 .left), sym (e .before .word-at .ensures), le-ltb _ _ (e .if3 .left))
-    (c .count-record .ensures)
+    let st = c .before .before .before .before .before .before .before .before .before in
+    let r = st .args .r .now in
+    let marked = sym (st .pre .2) in
+    let first = eq-eqb _ _ (c .before .before .before .before .before .before .if1 .left) in
+    let second : isMark (getD r 1 0) ≡ true = sym (c .before .before .before .before .is-mark .ensures) ∙ not-false _ (c .before .before .before .if2 .left) in
+    c .end-record .ensures
+    ∙ good-ends (st .args .w) (st .pre .0) r (both-right r (st .pre .1 ∙ ap recordSize marked) first second) (c .before .before .word-at .ensures) marked (c .before .segment-at .ensures ∙ ap (λ (b : Bool). pick b (pack 4 418 (word r)) 0) marked)
 
 pub read-record-spec : {M : Type 1} → statement M
 read-record-spec =
     tie.close
     (tie.spec
     shared-slice-read-if1
-    add-t8
-    mul-t9
     returns
-    shared-slice-read-if2
-    add-t12
-    mul-t13
+    shared-slice-read-is-mark
+    is-mark-requires
     returns-2
     word-at-requires
-    returns-3
-    count-record-requires
-    returns-4)
+    segment-at-requires
+    end-record-requires
+    returns-3)

@@ -1,6 +1,6 @@
 -- `step::word_at` meets its contract: after j turns j bytes are in.
 use Rattle.bits.proofs.Bytes.{pack-part}
-use Rattle.op_file.proofs.Laws.{shifts, shifts-more, shifts-eight}
+use Rattle.op_file.proofs.Steps.{shifts, shifts-more, shifts-eight}
 use lib.Seq.{getD-drop}
 use lib.ListN.{take, drop, length, length-take, length-drop}
 use native.Mathlib.Omega.{arith}

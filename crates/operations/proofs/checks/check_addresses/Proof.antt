@@ -18,19 +18,21 @@ abbrev Ops : tie.After-i → List ℕ
 Ops k = k .before .before .before .before .args .ops .now
 
 found : (k : tie.After-i) → firstAt (highAt (Ops k)) (opCount (Ops k)) ≡ some (k .i .given .0 .0)
-found k = place-at _ (sym (k .i .given .1) ∙ k .before .before .first-high .ensures)
+unfolding highAt opAt
+found k = place-at _ (sym (k .i .given .1) ∙ k .before .before .first-above .ensures)
 
 abbrev Rest : tie.After-enum-told → List ℕ
 Rest k = k .before .before .before .before .args .ops .now
 
 low : (k : tie.After-enum-told) → firstAt (highAt (Rest k)) (opCount (Rest k)) ≡ none
-low k = place-nowhere _ (sym (k .enum-told .given .1) ∙ k .before .before .first-high .ensures)
+unfolding highAt opAt
+low k = place-nowhere _ (sym (k .enum-told .given .1) ∙ k .before .before .first-above .ensures)
 
 found-2 : (k : tie.After-i2) → let ops = Rest (k .before .before .before) in firstAt (unalignedAt ops) (opCount ops) ≡ some (k .i2 .given .0 .0)
 found-2 k = place-at _ (sym (k .i2 .given .1) ∙ k .before .before .first-unaligned .ensures)
 
-first-high-requires : tie.Need-first-high-requires
-first-high-requires c κs = search needs
+first-above-requires : tie.Need-first-above-requires
+first-above-requires c κs = search needs
 
 enum-known-i : tie.Need-enum-known-i
 enum-known-i c = search needs
@@ -96,7 +98,7 @@ pub check-addresses-spec : {M : Type 1} → statement M
 check-addresses-spec =
     tie.close
     (tie.spec
-    first-high-requires
+    first-above-requires
     enum-known-i
     mul-t7
     add-t8

@@ -22,7 +22,7 @@ first-short-requires c κs = search needs
 check-counts-requires : tie.Need-check-counts-requires
 check-counts-requires c κs =
     let s = c .before .before .before .before .before in
-    long-enough (length (s .args .counters .now)) (length (s .args .copy .now)) (length (s .args .out .now)) (c .first-short .result .room) (c .first-short .result .needed) (c .first-short .ensures)
+    long-enough 20 (length (s .args .counters .now)) (length (s .args .copy .now)) (length (s .args .out .now)) (c .first-short .result .room) (c .first-short .result .needed) (c .first-short .ensures)
 
 enum-known-refusal : tie.Need-enum-known-refusal
 enum-known-refusal c = search needs

@@ -10,7 +10,7 @@ use Rattle.answer.specs.Refusal.{accepted, tooShort, PowerFloor}
 use Rattle.answer.specs.declared.Refusal.the-variants.{NotElement}
 use Rattle.answer.proofs.Refusals.{both-go-on}
 use Rattle.answer.proofs.Laws.{is-refused, is-done, answers, accepts, at-yes, at-no}
-use Rattle.keccak.specs.Refusals.{notWhole, badAddress}
+use Rattle.keccak.specs.Refusals.{notWhole, badOperation}
 use Rattle.segment_counts.proofs.Refusals.{parameters-refused, many-refused, list-fits, list-refused, counters-decide}
 use Rattle.segment_counts.proofs.checks.check_counts.Statement.{statement}
 use Rattle.segment_counts.proofs.checks.check_counts.Tie as tie
@@ -28,7 +28,7 @@ rounds t = t .before .before .before .before
 -- the list passed
 clear : (t : tie.After-enum-told2)
     → notWhole (start (rounds t) .args .ops .now)
-    (tooShort (start (rounds t) .args .room) (start (rounds t) .args .needed) (badAddress (start (rounds t) .args .ops .now) accepted)) ≡ none
+    (tooShort (start (rounds t) .args .room) (start (rounds t) .args .needed) (badOperation (start (rounds t) .args .ops .now) accepted)) ≡ none
 clear t = is-done _ (sym (t .enum-told2 .given .1) ∙ t .before .before .check-operations .ensures)
 
 check-rounds-and-floor-requires : tie.Need-check-rounds-and-floor-requires

@@ -52,6 +52,7 @@ fn rows_of(calls: usize) -> Vec<u64> {
     for call in 1..=calls as u64 {
         list.extend([call << 2, call << 12]);
         list.extend((0..50).map(|_| words.lane()));
+        list.push(0);
     }
     let mut core = keccak_table(&list).expect("the list is accepted");
     core.truncate(calls * NUM_COLUMNS);

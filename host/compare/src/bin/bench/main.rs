@@ -1,5 +1,5 @@
 //! Times the proved calls against the published Rust's on the same inputs: `bench rows`, `bench lookups`, `bench looked_up`,
-//! `bench values`, `bench tuples`, `bench verdict`; and what has no counterpart there: `bench charge`, `bench cores`, `bench tally`,
+//! `bench values`, `bench tuples`, `bench verdict`; and what has no counterpart there: `bench charge`, `bench job`, `bench cores`, `bench tally`,
 //! `bench shuffled`, `bench descending`.
 //! `bench all` runs each in turn and ends with a table of the ratios.
 //! It prints for each call the best of several runs, ours and theirs in turn, and lines `ratio NAME X.XX`: our time over
@@ -8,6 +8,7 @@
 mod charge;
 mod cores;
 mod descending;
+mod job;
 mod looked_up;
 mod lookups;
 mod rows;
@@ -21,7 +22,8 @@ mod verdict;
 use std::process::ExitCode;
 
 const USAGE: &str = "\
-usage: bench all | bench rows | bench lookups | bench looked_up | bench charge | bench values | bench tuples | bench verdict | bench cores
+usage: bench all | bench rows | bench lookups | bench looked_up | bench charge | bench values | bench tuples | bench verdict | bench job
+       bench cores
        bench tally [BYTES]      (of the operation file; 1000000000 where none are given)
        bench shuffled [CALLS]   (100 where none are given)
        bench descending [CALLS] (1000 where none are given)
@@ -47,6 +49,7 @@ fn main() -> ExitCode {
         ("values", None) => values::run(),
         ("tuples", None) => tuples::run(),
         ("verdict", None) => verdict::run(),
+        ("job", None) => job::run(),
         ("cores", None) => cores::run(),
         ("tally", bytes) => tally::run(bytes.unwrap_or(tally::BYTES)),
         ("shuffled", calls) => shuffled::run(calls.unwrap_or(shuffled::CALLS)),
@@ -61,6 +64,7 @@ fn main() -> ExitCode {
                 values::run,
                 tuples::run,
                 verdict::run,
+                job::run,
             ] {
                 run();
             }

@@ -1,10 +1,11 @@
 //! The tally of an operation file, the archive's reader against a plain Rust one.
 //!
-//! The file, of a gigabyte unless another size is given, is a list of drawn operations over and over. It has lost its name
+//! Three files, of a gigabyte each unless another size is given: of records under 4B 4F alone, under 4B 50 alone, and of both as they are drawn.
+//! Each is a list of drawn operations over and over. It has lost its name
 //! in the temporary folder before anything is written to it, so that nothing is left of it however the run ends; it was
 //! written just before, so that it is read from memory and not from the disk. Timed is a reading from beginning to end by
 //! reads of 64 KiB: ours feeds each piece to [`Tally`] as it came; the Rust's takes each record out of a `BufReader`, checks
-//! mark and address, and counts. What the reads take alone is printed beside them. `ratio tally-program` is the built
+//! mark and address, and counts, with the least and the greatest segment number. What the reads take alone is printed beside them. `ratio tally-program` is the built
 //! program with the file as its standard input, its start included, against the same Rust; it is left out where the
 //! program was not built. The memory is the most that this process held, the making of the file included, the program not.
 
@@ -16,7 +17,8 @@ use std::process::{self, Command};
 
 use compare::inputs::Words;
 use keccak_tables::keccak::LAST_ADDRESS;
-use keccak_tables::operation_file::{RECORD_BYTES, Tally, write_operations};
+use keccak_tables::operation_file::{RECORD_BYTES, SEGMENT_RECORD_BYTES, Tally, file_bytes, write_operations};
+use keccak_tables::{OP_WORDS, SEGMENT_WORD};
 
 use crate::timing::{best, both, line, ratio, time};
 
@@ -32,13 +34,25 @@ const RUNS: usize = 5;
 /// The program, where it was built.
 const PROGRAM: &str = concat!(env!("CARGO_MANIFEST_DIR"), "/../../target/bin/tally");
 
+/// The files, by the name of their lines: which of their operations are of segment 0.
+const FILES: [(&str, fn(&mut Words) -> bool); 3] = [
+    ("tally", |_| true),
+    ("tally-numbered", |_| false),
+    ("tally-mixed", |words| words.below(2) == 0),
+];
+
 pub fn run(bytes: usize) {
-    let records = (bytes / RECORD_BYTES).max(1);
-    let file = &made(records).expect("there is room for the file in the temporary folder");
-    say!(
-        "tally, {records} records, {} bytes: time of a record",
-        records * RECORD_BYTES
-    );
+    for (name, is_plain) in FILES {
+        let (file, records) = &made(bytes, is_plain).expect("there is room for the file in the temporary folder");
+        one(name, file, *records);
+    }
+    if let Some(memory) = peak_memory() {
+        say!("peak memory {memory}");
+    }
+}
+
+fn one(name: &str, file: &File, records: usize) {
+    say!("{name}, {records} records: time of a record");
     let [ours, rust, reads] = best(
         RUNS,
         [
@@ -50,21 +64,18 @@ pub fn run(bytes: usize) {
     line("ours", ours, records);
     line("the Rust", rust, records);
     line("the reads alone", reads, records);
-    ratio("tally", ours, rust);
+    ratio(name, ours, rust);
     if fs::exists(PROGRAM).unwrap_or(false) {
-        tally_program(file, records);
-    }
-    if let Some(memory) = peak_memory() {
-        say!("peak memory {memory}");
+        tally_program(name, file, records);
     }
 }
 
-fn tally_program(file: &File, records: usize) {
-    say!("tally-program, the same file: time of a record");
+fn tally_program(name: &str, file: &File, records: usize) {
+    say!("{name}-program, the same file: time of a record");
     let ours = || counted(program(file), records);
     let rust = || counted(rust(file), records);
     both(
-        "tally-program",
+        &format!("{name}-program"),
         RUNS,
         records,
         ("the program", ours),
@@ -72,20 +83,29 @@ fn tally_program(file: &File, records: usize) {
     );
 }
 
-/// A file of so many records, without a name.
-fn made(records: usize) -> io::Result<File> {
+/// A file of so many bytes or a few less, without a name, and its records, at least one.
+fn made(bytes: usize, is_plain: fn(&mut Words) -> bool) -> io::Result<(File, usize)> {
     let path = std::env::temp_dir().join(format!("keccak-tables-bench-{}", process::id()));
     let mut file = File::options().read(true).write(true).create_new(true).open(&path)?;
     fs::remove_file(&path)?;
-    let mut drawn = vec![0; DRAWN * RECORD_BYTES];
-    write_operations(&Words::new(7).operations(DRAWN), &mut drawn).expect("drawn operations are accepted");
-    let mut left = records * RECORD_BYTES;
-    while left > 0 {
-        let piece = &drawn[..left.min(drawn.len())];
-        file.write_all(piece)?;
-        left -= piece.len();
+    let mut words = Words::new(7);
+    let mut ops = words.operations(DRAWN);
+    for operation in ops.chunks_exact_mut(OP_WORDS) {
+        operation[SEGMENT_WORD] = if is_plain(&mut words) {
+            0
+        } else {
+            1 + words.below(1 << 31)
+        };
     }
-    Ok(file)
+    let mut drawn = vec![0; file_bytes(&ops)];
+    write_operations(&ops, &mut drawn).expect("drawn operations are accepted");
+    let times = bytes / drawn.len();
+    for _ in 0..times {
+        file.write_all(&drawn)?;
+    }
+    let some = if times == 0 { 1 } else { 0 };
+    file.write_all(&drawn[..some * file_bytes(&ops[..OP_WORDS])])?;
+    Ok((file, times * DRAWN + some))
 }
 
 /// A reading that did not see every record is no reading.
@@ -114,18 +134,34 @@ fn ours(file: &File) -> io::Result<u64> {
 fn rust(mut file: &File) -> io::Result<u64> {
     file.rewind()?;
     let mut reader = BufReader::with_capacity(BUFFER, file);
-    let mut record = [0; RECORD_BYTES];
+    let mut record = [0; SEGMENT_RECORD_BYTES];
     let (mut records, mut unaligned) = (0, 0);
+    let (mut told, mut least, mut greatest) = (false, u32::MAX, 0);
     while !reader.fill_buf()?.is_empty() {
-        reader.read_exact(&mut record)?;
+        reader.read_exact(&mut record[..RECORD_BYTES])?;
         let address = u64::from_le_bytes(record[10..18].try_into().expect("eight bytes"));
-        assert!(record.starts_with(b"KO") && address <= LAST_ADDRESS);
+        let numbered = match record {
+            [b'K', b'O', ..] => false,
+            [b'K', b'P', ..] => true,
+            _ => panic!("a wrong mark"),
+        };
+        let mut segment = 0;
+        if numbered {
+            reader.read_exact(&mut record[RECORD_BYTES..])?;
+            segment = u32::from_le_bytes(record[RECORD_BYTES..].try_into().expect("four bytes"));
+        }
+        assert!(address <= LAST_ADDRESS);
         match address % 8 {
-            0 => records += 1,
+            0 => {
+                records += 1;
+                told |= numbered;
+                (least, greatest) = (segment.min(least), segment.max(greatest));
+            }
             _ => unaligned += 1,
         }
     }
     assert_eq!(unaligned, 0, "drawn operations are on the eight");
+    _ = black_box((told, least, greatest));
     Ok(records)
 }
 

@@ -1,0 +1,105 @@
+-- The checks of the call.
+--     split-odd, split-core, split-rest   the three tests of the counts, one after the other
+--     split-decides     the counts split the tables exactly where they are pairs with the tables' rows as whole sums
+--     job-accepted      the call is accepted exactly where none of the conditions is met
+--     rounds-refused, rows-refused, counts-refused, room-refused, words-refused   each refusal, after those before it
+use mathlib.Core.Path.{_≡_, refl, sym, ap, _∙_}
+use mathlib.Core.Bool.{true, false, not}
+use mathlib.Core.Logic.{_↔_}
+use mathlib.Core.Option.{Option, none, some}
+use mathlib.Core.List.{List}
+use Prim.Native.Nat.{ℕ, _+_, _*_, _%_, _≤_, _<_}
+use native.Mathlib.Omega.{arith}
+use lib.ListN.{length}
+use borrow.Author.Tests.{eq-eqb, ne-eqb, lt-ltb, le-ltb, ltb-false, not-false}
+use Rattle.lists.specs.Decides.{Decides}
+use Rattle.lists.proofs.Decides.{decides-eq, decides-and, decides-map, decides-no}
+use Rattle.lists.proofs.Then.{T-true}
+use Rattle.lists.proofs.Tests.{T-of}
+use Rattle.answer.specs.Refusal.{accepted, notRounds}
+use Rattle.answer.specs.declared.Refusal.{Refusal}
+use Rattle.answer.specs.declared.Refusal.the-variants.{NotWhole, TooShort}
+use Rattle.answer.proofs.Laws.{refuse-yes, refuse-no, passed-if}
+use Rattle.answer.proofs.Refusals.{rounds-later, rounds-passed, rounds-still}
+use Rattle.verdict.specs.Kind.{rows, Whole}
+use Rattle.verdict.specs.CoreAndRound.{coreLayout, roundLayout}
+use Rattle.judge.specs.Checks.{notRows, notWords}
+use Rattle.judge.proofs.Passed.{rows-still, rows-passed, rows-later, words-passed, words-later}
+use Rattle.job.specs.Report.{COUNT-WORDS, VERDICT-WORDS, segmentCount, addsUp, splits, Split, Checked, AcceptableJob, jobRefusal}
+
+module _ (core round counts : List ℕ) where
+  pub split-odd : (length counts % COUNT-WORDS ≡ 0 → ⊥) → splits core round counts ≡ false
+  unfolding splits
+  split-odd h = rw (ne-eqb (length counts % COUNT-WORDS) 0 h)
+
+  module _ (even : length counts % COUNT-WORDS ≡ 0) where
+    pub split-core : addsUp counts 0 (rows coreLayout core) ≡ false → splits core round counts ≡ false
+    unfolding splits
+    split-core h = rw (eq-eqb (length counts % COUNT-WORDS) 0 even, h)
+
+    pub split-rest : addsUp counts 0 (rows coreLayout core) ≡ true → splits core round counts ≡ addsUp counts 1 (rows roundLayout round)
+    unfolding splits
+    split-rest h = rw (eq-eqb (length counts % COUNT-WORDS) 0 even, h)
+
+  pub split-decides : Decides (splits core round counts) (Split core round counts)
+  unfolding splits addsUp
+  split-decides =
+      decides-map (λ h. record { pairs = h .0; core-sum = h .1 .0; round-sum = h .1 .1 }) (λ h. (h .pairs, (h .core-sum, h .round-sum)))
+      (decides-and (decides-eq _ _) (decides-and (decides-eq _ _) (decides-eq _ _)))
+
+-- ---- the checks, one after the other
+module _ (nr : ℕ) (core round counts : List ℕ) (room : ℕ) where
+  -- 8
+  pub rounds-refused : {r : Refusal} → notRounds nr accepted ≡ some r → jobRefusal nr core round counts room ≡ some r
+  unfolding jobRefusal
+  rounds-refused = rounds-still nr _
+
+  module _ (range : (1 ≤ nr) × (nr ≤ 24)) where
+    -- 2 on a table
+    pub rows-refused : {r : Refusal} → notRows core round accepted ≡ some r → jobRefusal nr core round counts room ≡ some r
+    unfolding jobRefusal
+    rows-refused e = rounds-later nr _ (range .0) (range .1) ∙ rows-still core round _ e
+
+    module _ (whole : Whole coreLayout core × Whole roundLayout round) where
+      -- 2 on the counts
+      pub counts-refused : splits core round counts ≡ false → jobRefusal nr core round counts room ≡ some (NotWhole 2)
+      unfolding jobRefusal
+      counts-refused e = rounds-later nr _ (range .0) (range .1) ∙ rows-later core round _ (whole .0) (whole .1) ∙ refuse-yes _ _ (ap not e)
+
+      module _ (split : splits core round counts ≡ true) where
+        -- 3
+        pub room-refused : room < (segmentCount counts + 1) * VERDICT-WORDS → jobRefusal nr core round counts room ≡ some (TooShort ((segmentCount counts + 1) * VERDICT-WORDS))
+        unfolding jobRefusal
+        room-refused l =
+            rounds-later nr _ (range .0) (range .1) ∙ rows-later core round _ (whole .0) (whole .1) ∙ refuse-no _ (ap not split) (refuse-yes _ _ (lt-ltb _ _ l))
+
+        -- 5
+        pub words-decide : (segmentCount counts + 1) * VERDICT-WORDS ≤ room → jobRefusal nr core round counts room ≡ notWords core round accepted
+        unfolding jobRefusal
+        words-decide l =
+            rounds-later nr _ (range .0) (range .1) ∙ rows-later core round _ (whole .0) (whole .1) ∙ refuse-no _ (ap not split) (refuse-no _ (le-ltb _ _ l) refl)
+
+  passed : jobRefusal nr core round counts room ≡ accepted → AcceptableJob nr core round counts room
+  unfolding jobRefusal
+  passed e =
+      let a = rounds-passed nr _ e in
+      let b = rows-passed core round _ (a .2) in
+      let c = passed-if _ _ _ (b .2) in
+      let d = passed-if _ _ _ (c .1) in
+      let f = words-passed core round _ (d .1) in
+      record {
+        some = a .0;
+        most = a .1;
+        tables = record { core-whole = b .0; round-whole = b .1; core-below = f .0; round-below = f .1 };
+        split = split-decides core round counts .to (T-of (splits core round counts) (not-false (splits core round counts) (c .0)));
+        long = ltb-false _ _ (d .0);
+      }
+
+  accepts : AcceptableJob nr core round counts room → jobRefusal nr core round counts room ≡ accepted
+  accepts h =
+      let t = h .tables in
+      words-decide (h .some, h .most) (t .core-whole, t .round-whole) (T-true _ (split-decides core round counts .from (h .split))) (h .long)
+      ∙ words-later core round accepted (t .core-below) (t .round-below)
+
+  pub job-accepted : (jobRefusal nr core round counts room ≡ accepted) ↔ AcceptableJob nr core round counts room
+  job-accepted = (passed, accepts)

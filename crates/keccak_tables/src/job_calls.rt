@@ -1,0 +1,22 @@
+// The report on a job: the verdicts on its segments, and then that on the job.
+use flat::FlatAnswer;
+use flat::flat_answer;
+ghost use mathlib.Core.Path.{_≡_};
+ghost use lib.ListN.{length};
+ghost use Rattle.answer.specs.Refusal.{answerOf};
+ghost use Rattle.job.specs.Report.{jobRefusal, jobAfter};
+ghost use Rattle.flat.specs.Flat.{flatAnswer};
+
+#[no_mangle]
+pub extern "C" fn keccak_tables_job(
+    nr: u64,
+    core: &[u64],
+    round: &[u64],
+    counts: &[u64],
+    report: &mut [u64],
+) -> FlatAnswer
+    ensures answer { λ r. ⌜ r ≡ flatAnswer (answerOf (jobRefusal nr (now (core .entry)) (now (round .entry)) (now (counts .entry)) (length (now (report .entry))))) ⌝ }
+    ensures words { λ _. ⌜ now (report .exit) ≡ jobAfter nr (now (core .entry)) (now (round .entry)) (now (counts .entry)) (now (report .entry)) ⌝ }
+{
+    flat_answer(job::job(nr, core, round, counts, report))
+}

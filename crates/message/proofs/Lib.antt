@@ -1,0 +1,5 @@
+pub mod Late
+pub mod Message
+pub mod Refusals
+pub mod Judging
+pub mod Digest

@@ -1,0 +1,9 @@
+pub mod Unbeaten
+pub mod Fullness
+pub mod Heights
+pub mod Totals
+pub mod Histogram
+pub mod Refusals
+pub mod Writing
+pub mod Order
+pub mod Cases

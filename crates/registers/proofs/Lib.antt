@@ -1,0 +1,10 @@
+pub mod Ledgers
+pub mod Refusals
+pub mod Accepted
+pub mod Left
+pub mod Looking
+pub mod Shown
+pub mod Steps
+pub mod Alone
+pub mod AddUp
+pub mod Needed

@@ -1,0 +1,93 @@
+//! `job CORE ROUND COUNTS`: the verdicts on the segments of a job, a line each, and then that on the job. `--rounds NR` judges tables of NR
+//! rounds.
+
+use std::ffi::OsString;
+use std::path::Path;
+
+use super::failures::in_writers_order;
+use super::judge::words;
+use super::options::Options;
+use super::progress::Waiting;
+use super::{Failure, Outcome, Streams, files, help, refused};
+use keccak_tables::job::{COUNT_WORDS, Report};
+use keccak_tables::{Lent, Parameters, Refusal, keccak, keccak_rnd};
+
+pub fn job(arguments: &[OsString], streams: &mut Streams) -> Result<Outcome, Failure> {
+    let wrong = || help::wrong("job");
+    let (options, files) = Options::read(&["--rounds"], arguments).ok_or_else(wrong)?;
+    let [core, round, counts]: &[OsString; 3] = files.try_into().map_err(|_| wrong())?;
+    let parameters = options.parameters()?;
+    let core = files::read_words(Path::new(core))?;
+    let round = files::read_words(Path::new(round))?;
+    let counts = files::read_words(Path::new(counts))?;
+    let waiting = Waiting::new(&judging(parameters, &core, &round, &counts));
+    let answer = Report::with(parameters, &core, &round, &counts);
+    drop(waiting);
+    match answer {
+        Ok(report) => print(&report, streams),
+        Err(refusal) => refused(refusal, &said(refusal, &core, &round, &counts), streams),
+    }
+}
+
+/// What is being done, for whoever waits.
+fn judging(parameters: Parameters, core: &[u64], round: &[u64], counts: &[u64]) -> String {
+    let rows = core.len() / keccak::NUM_COLUMNS + round.len() / keccak_rnd::NUM_COLUMNS;
+    let what = format!(
+        "judging {rows} rows in {} segments, and then as one job",
+        counts.len() / COUNT_WORDS
+    );
+    if each_in_writers_order(parameters, core, round, counts) {
+        what
+    } else {
+        format!("{what}; some are not in the writer's order, and that can take long")
+    }
+}
+
+/// Whether the rows of each segment are in the writer's order, as far as the counts are there for it.
+fn each_in_writers_order(parameters: Parameters, mut core: &[u64], mut round: &[u64], counts: &[u64]) -> bool {
+    let words = |rows: u64, width: usize| usize::try_from(rows).ok()?.checked_mul(width);
+    counts.as_chunks().0.iter().all(|&[core_rows, round_rows]| {
+        let ends = [
+            words(core_rows, keccak::NUM_COLUMNS),
+            words(round_rows, keccak_rnd::NUM_COLUMNS),
+        ];
+        let [Some(core_end), Some(round_end)] = ends else {
+            return true;
+        };
+        let (Some(cores), Some(rounds)) = (core.split_at_checked(core_end), round.split_at_checked(round_end)) else {
+            return true;
+        };
+        (core, round) = (cores.1, rounds.1);
+        in_writers_order(parameters, cores.0, rounds.0)
+    })
+}
+
+/// A line for each segment, and one for the job.
+fn print(report: &Report, streams: &mut Streams) -> Result<Outcome, Failure> {
+    for (segment, verdict) in report.segments().enumerate() {
+        writeln!(streams.output, "segment {segment}: {verdict}")?;
+    }
+    writeln!(streams.output, "job: {}", report.job())?;
+    Ok(Outcome::of(report.holds()))
+}
+
+/// What a refusal says of the counts, or of the two tables.
+fn said(refusal: Refusal, core: &[u64], round: &[u64], counts: &[u64]) -> String {
+    match refusal {
+        Refusal::NotWhole { which: Lent::List, .. } => {
+            let sum = |k| -> u128 { counts.iter().skip(k).step_by(COUNT_WORDS).map(|&n| u128::from(n)).sum() };
+            if counts.len() % COUNT_WORDS == 0 {
+                format!(
+                    "COUNTS has {} core rows and {} round rows, and the tables have {} and {}",
+                    sum(0),
+                    sum(1),
+                    core.len() / keccak::NUM_COLUMNS,
+                    round.len() / keccak_rnd::NUM_COLUMNS
+                )
+            } else {
+                format!("COUNTS has {} words, which are not pairs", counts.len())
+            }
+        }
+        other => words(other, core, round),
+    }
+}
