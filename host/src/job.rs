@@ -11,7 +11,7 @@
 //!
 //! // Two segments of one call each, of a single round.
 //! let one = Parameters::default().rounds(1);
-//! let mut calls = [5, 6].map(|timestamp| Operation { timestamp, address: 4096, input: [0; 25], output: [0; 25] });
+//! let mut calls = [5, 6].map(|timestamp| Operation { timestamp, address: 4096, input: [0; 25], output: [0; 25], segment: 0 });
 //! calls.iter_mut().for_each(|call| call.output[0] = 0x8000_0000_8000_8008);
 //! let (mut core, mut round) = (vec![], vec![]);
 //! for call in calls {

@@ -9,7 +9,7 @@
 //! use keccak_tables::registers::{self, LEDGER_WORDS, RegisterLook};
 //! use keccak_tables::{Operation, Refusal};
 //!
-//! let list = Operation { timestamp: 5, address: 4096, input: [0; 25], output: [0; 25] }.words();
+//! let list = Operation { timestamp: 5, address: 4096, input: [0; 25], output: [0; 25], segment: 0 }.words();
 //! let mut counters = vec![0; bitwise::NUM_COUNTERS];
 //! let mut ledgers = vec![0; 3 * LEDGER_WORDS];
 //!
@@ -17,7 +17,7 @@
 //! let look = RegisterLook::new(2, &list, &counters, &ledgers)?;
 //! registers::charge(2, &list, &mut counters, &mut ledgers)?;
 //! assert_eq!(counters, look.look().counters());
-//! assert_eq!(ledgers[20..], look.ledger());
+//! assert_eq!(ledgers[20..], *look.ledger());
 //! registers::charge(2, &list, &mut counters, &mut ledgers)?;
 //! let xor = BitwiseOperationType::ByteAluXor.number();
 //! assert_eq!(ledgers[20 + xor], 2 * 24 * 608);

@@ -751,13 +751,13 @@ static void fewer_rounds(void) {
  */
 static void job(void) {
     static uint64_t cores[2 * CORE], tables[2 * ROUND];
-    uint64_t list[52], report[13], counts[] = {4, 32, 4, 32};
+    uint64_t list[OP], report[13], counts[] = {4, 32, 4, 32};
     memcpy(list, operation, sizeof list);
     for (size_t segment = 0; segment < 2; segment++) {
         list[0] = TIMESTAMP + segment;
-        keccak_tables_answer answer = keccak_tables_generate_keccak_trace(FLOOR, list, 52, cores + segment * CORE, CORE);
+        keccak_tables_answer answer = keccak_tables_generate_keccak_trace(FLOOR, list, OP, cores + segment * CORE, CORE);
         DONE(answer);
-        answer = keccak_tables_generate_keccak_rnd_trace(ROUNDS, FLOOR, list, 52, tables + segment * ROUND, ROUND);
+        answer = keccak_tables_generate_keccak_rnd_trace(ROUNDS, FLOOR, list, OP, tables + segment * ROUND, ROUND);
         DONE(answer);
         const uint64_t *last = tables + segment * ROUND + 23 * 1480;
         memcpy(cores + segment * CORE + 210, last + 1471, 8 * sizeof *cores);

@@ -1331,11 +1331,11 @@ fn none_is_left_out() {
             }
         }
     }
-    // Those of the archive; two more that allocate a table, a verdict's `holds` and its text, a reader's fault, its sums by parameters and their
-    // lines, a counter by its kind, once or n times, a kind's number and name, a lookup's words and a list of them, the five of rows of keys,
+    // Those of the archive; two more that allocate a table, a verdict's `holds` and its text, a reader's fault, its sums by parameters, their
+    // lines and their segment numbers, the bytes of a list's file, a counter by its kind, once or n times, a kind's number and name, a lookup's words and a list of them, the five of rows of keys,
     // a charge and a look by parameters, and the four of a look of its own; and by parameters again a core row's tuple and its tuples, three of
     // the core table, five of the round table, the constants' multiplicities, a verdict, its line and its text; of registers, how many are in
     // use, both calls by parameters, and the four of a look of its own; a job by parameters and the six of a report of its own; the operations of so many
     // bytes, and the three of a digest; and a month by parameters and the three of a month by its names.
-    assert_eq!(functions, interface::exports().len() + 60);
+    assert_eq!(functions, interface::exports().len() + 62);
 }

@@ -116,7 +116,7 @@ mod tests {
         let today = Parameters::default();
         for n in [0, 1, 2, 3, 4, 5, 11, 43] {
             let ops: Vec<u64> = (0..n)
-                .flat_map(|at| [vec![at, 8 * at], vec![at; 50]].concat())
+                .flat_map(|at| [vec![at, 8 * at], vec![at; OP_WORDS - 2]].concat())
                 .collect();
             let n = n as usize;
             assert!(core_table(4, &ops) == oracle::core_table(&ops), "core table of {n}");

@@ -1,6 +1,6 @@
 //! Pairs that hold, and what is no pair of tables.
 
-use keccak_tables::P;
+use keccak_tables::{OP_WORDS, P};
 use oracle::tables::keccak::cols as core_cols;
 use oracle::tables::keccak_rnd::cols;
 
@@ -102,12 +102,12 @@ pub const HONEST: &[Named] = &[
     }),
     ("an output that is its own input, by another call", |t, words| {
         let mut list = vec![4, 64];
-        list.extend([0; 50]);
+        list.resize(OP_WORDS, 0);
         let first = Tables::of(&list);
         let output = &first.core[core_cols::OUTPUT_STATE..core_cols::STATE_PTR];
         list.extend([8, words.below(1 << 20) * 8]);
         list.extend(output.chunks_exact(8).map(number));
-        list.extend([0; 25]);
+        list.resize(2 * OP_WORDS, 0);
         *t = Tables::of(&list);
         Holds(2)
     }),

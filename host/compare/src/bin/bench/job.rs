@@ -85,7 +85,7 @@ fn calls() -> Vec<u64> {
     for call in 1..=(SEGMENTS * CALLS) as u64 {
         list.extend([call << 2, call << 12]);
         list.extend((0..25).map(|_| words.lane()));
-        list.extend([0; 25]);
+        list.extend([0; OP_WORDS - 27]);
     }
     list
 }
