@@ -2,6 +2,7 @@
 -- is the same, all sums and the files at each height are the same, and the fullest of the one is as full as that of the other, and so the
 -- emptiest.
 use mathlib.Core.Path.{_≡_, refl, sym, ap, ap₂, subst, _∙_}
+use mathlib.Core.Logic.{_↔_}
 use mathlib.Core.Bool.{Bool, true, false}
 use mathlib.Core.List.{List, [], _∷_, _++_}
 use mathlib.Core.Option.{Option}
@@ -17,15 +18,16 @@ use Rattle.lists.specs.Sum.{sumBelow}
 use Rattle.lists.proofs.Count.{sum-tests, count-find, count-hit}
 use Rattle.lists.proofs.Failure.{separates-any}
 use Rattle.lists.proofs.Laws.{tab-same}
+use Rattle.lists.proofs.OneToOne.{equally-matched, matched-equally, matched-by}
 use Rattle.lists.proofs.Sum.{sum-add, sum-same, sum-const}
-use Rattle.lists.proofs.Then.{by-le}
-use Rattle.lists.proofs.Tests.{true-not-false}
-use Rattle.sort.specs.Sorted.{insert, sorted}
+use Rattle.lists.proofs.Then.{by-le, T-true}
+use Rattle.lists.proofs.Tests.{true-not-false, T-of}
+use Rattle.sort.specs.Sorted.{insert, sorted, copies}
 use Rattle.sort.proofs.Unique.{sorted-ascends, sorted-copies, sorted-unique}
 use Rattle.answer.specs.Limits.{MAX-OPS}
 use Rattle.answer.specs.Refusal.{notRounds, notFloor}
 use Rattle.keccak_rnd.specs.Row.{roundHeight}
-use Rattle.month.specs.Month.{HEIGHTS, heightOf, usedAt, totalAt, fuller, operationsOf, usedOf, paddingOf, fullest, emptiest, filesAt, shown, monthWords, monthRefusal, Best, SameCounts}
+use Rattle.month.specs.Month.{HEIGHTS, heightOf, usedAt, totalAt, fuller, operationsOf, usedOf, paddingOf, fullest, emptiest, filesAt, shown, monthWords, monthRefusal, Best, Permuted, SameCounts}
 use Rattle.month.proofs.Fullness.{beaten, equally-full, shown-best, shown-one, shown-none}
 use Rattle.month.proofs.Refusals.{later-checks, anyPast, month-checks}
 use Rattle.month.proofs.Unbeaten.{by-test, itself}
@@ -61,6 +63,35 @@ sum-sorted : (f : ℕ → ℕ) (xs : List ℕ) → sumOf f (sorted xs) ≡ sumOf
 unfolding sorted
 sum-sorted f [] = refl
 sum-sorted f (x ∷ xs) = omega (arith, sum-insert f x (sorted xs), sum-sorted f xs, sum-front f x xs)
+
+-- ---- a permutation, and equally many of each
+copies-sum : (x : ℕ) (xs : List ℕ) → copies x xs ≡ sumOf (λ n. pick (eqb x n) 1 0) xs
+unfolding copies sumBelow
+copies-sum x [] = refl
+copies-sum x (y ∷ ys) = ap (λ (n : ℕ). pick (eqb x y) 1 0 + n) (copies-sum x ys) ∙ sym (sum-front (λ n. pick (eqb x n) 1 0) y ys)
+
+copies-count : (x : ℕ) (xs : List ℕ) → copies x xs ≡ countBelow (λ i. eqb x (word xs i)) (length xs)
+copies-count x xs = copies-sum x xs ∙ sum-tests (λ i. eqb x (word xs i)) (length xs)
+
+module _ (xs ys : List ℕ) where
+  abbrev every : ℕ → Bool
+  every k = true
+
+  permuted-same : Permuted xs ys → SameCounts xs ys
+  permuted-same h x =
+      copies-count x xs
+      ∙ matched-equally eqb (length xs) every (word xs) (length ys) every (word ys)
+      (matched-by (λ k c. c .0) (λ k l. (l, refl)) (λ j c. c .0) (λ j l. (l, refl)) (λ k j l e. e) h) x
+      ∙ sym (copies-count x ys)
+
+  same-permuted : SameCounts xs ys → Permuted xs ys
+  same-permuted same =
+      matched-by (λ k l. (l, refl)) (λ k c. c .0) (λ j l. (l, refl)) (λ j c. c .0) (λ k j c e. e)
+      (equally-matched eqb (λ a b t. eqb-true a b (T-true _ t)) (λ a. T-of _ (eq-eqb a a refl)) (length xs) every (word xs) (length ys) every (word ys)
+      (λ x. sym (copies-count x xs) ∙ same x ∙ copies-count x ys))
+
+  pub permuted-exactly : Permuted xs ys ↔ SameCounts xs ys
+  permuted-exactly = (permuted-same, same-permuted)
 
 module _ (xs ys : List ℕ) (same : SameCounts xs ys) where
   sum-order : (f : ℕ → ℕ) → sumOf f xs ≡ sumOf f ys

@@ -19,6 +19,7 @@ use lib.ListN.{length}
 use Rattle.lists.specs.Tab.{tab, word}
 use Rattle.lists.specs.First.{firstAt, anyBelow, countBelow}
 use Rattle.lists.specs.Sum.{sumBelow}
+use Rattle.lists.specs.OneToOne.{OneToOne}
 use Rattle.answer.specs.Limits.{MAX-OPS, MAX-ROUNDS}
 use Rattle.answer.specs.Refusal.{refuseIf, accepted, tooShort, notRounds, notFloor, PowerFloor, overwrite, afterwards}
 use Rattle.answer.specs.declared.Refusal.{Refusal}
@@ -130,6 +131,10 @@ pub record Best (beats : ℕ → ℕ → Bool) (n k : ℕ) : Type 0 where
   pub unbeaten : (j : ℕ) → j < n → beats j k ≡ false
   pub earlier : (j : ℕ) → j < k → beats k j ≡ true
 
--- the same counts in some order: every number is a count of both equally often
+-- the same counts in some order, in two ways that say the same (proofs/Order.antt, `permuted-exactly`): a permutation, given as a function
+-- with its inverse, takes each place of the one to a place of the other with an equal count; or every number is a count of both equally often
+abbrev pub Permuted : List ℕ → List ℕ → Type 0
+Permuted xs ys = OneToOne (λ i. i < length xs) (λ j. j < length ys) (λ i j. word xs i ≡ word ys j)
+
 abbrev pub SameCounts : List ℕ → List ℕ → Type 0
 SameCounts xs ys = (n : ℕ) → copies n xs ≡ copies n ys

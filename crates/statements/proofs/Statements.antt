@@ -219,9 +219,9 @@ use Rattle.verdict.specs.Kind.{Whole}
 use Rattle.verdict.specs.Verdict.{verdictWords}
 use Rattle.answer.specs.declared.Refusal.the-variants.{Files}
 use Rattle.keccak_rnd.specs.Refusals.{roundCountRefusal}
-use Rattle.month.specs.Month.{fuller, fullest, emptiest, monthWords, monthRefusal, Planned, Best, SameCounts}
+use Rattle.month.specs.Month.{fuller, fullest, emptiest, monthWords, monthRefusal, Planned, Best, Permuted, SameCounts}
 use Rattle.month.proofs.Refusals.{month-accepted, month-files, month-past}
-use Rattle.month.proofs.Order.{refusal-order, sums-order, heights-order, full-order, empty-order}
+use Rattle.month.proofs.Order.{permuted-exactly, refusal-order, sums-order, heights-order, full-order, empty-order}
 use Rattle.month.proofs.Fullness.{fullest-is, emptiest-is, shown-one}
 use Rattle.month.proofs.Writing.{row-words-sum, height-words-sum}
 use Rattle.month.proofs.Cases.{ties, no-files, one-refused, one-file, one-padding, one-shipped, words-most, products-most}
@@ -1175,9 +1175,16 @@ module _ (nr floor : ℕ) (counts : List ℕ) (room : ℕ) where
 pub case-by-14 : refusalNumber (Files 4097) ≡ 14
 case-by-14 = refl
 
--- "The order of the counts changes nothing but which of the tied files is shown.": of two lists that have every count equally often (`SameCounts`)
--- what is refused, the first four words and those from the ninth on are the same, and the fullest and the emptiest are equally full
-module _ (nr floor : ℕ) (xs ys : List ℕ) (same : SameCounts xs ys) where
+-- "The order of the counts changes nothing but which of the tied files is shown.": of a list and any permutation of it, given as a function with its
+-- inverse (`Permuted`), what is refused, the first four words and those from the ninth on are the same, and the fullest and the emptiest are equally
+-- full. Two lists are so exactly where they have every count equally often (`SameCounts`)
+pub month-permuted : (xs ys : List ℕ) → Permuted xs ys ↔ SameCounts xs ys
+month-permuted = permuted-exactly
+
+module _ (nr floor : ℕ) (xs ys : List ℕ) (order : Permuted xs ys) where
+  same : SameCounts xs ys
+  same = permuted-exactly xs ys .0 order
+
   pub month-refused-same : (room : ℕ) → monthRefusal nr floor xs room ≡ monthRefusal nr floor ys room
   month-refused-same = refusal-order nr floor xs ys same
 
