@@ -139,6 +139,11 @@ extern "C" {
 #define KECCAK_TABLES_TABLE_CORE 0
 #define KECCAK_TABLES_TABLE_ROUND 1
 
+/* What is said of an operation file and a core table. */
+#define KECCAK_TABLES_AGREEMENT_SAME 0
+#define KECCAK_TABLES_AGREEMENT_RECORD 1
+#define KECCAK_TABLES_AGREEMENT_ROW 2
+
 /* p = 2^64 - 2^32 + 1: a field element is a word below it. */
 #define KECCAK_TABLES_P 0xFFFFFFFF00000001
 
@@ -328,6 +333,17 @@ typedef struct keccak_tables_judgement {
     };
     uint64_t index;
 } keccak_tables_judgement;
+
+/*
+ * The answer of a file against a core table: a kind, KECCAK_TABLES_AGREEMENT_.., and the number, from 0, of the record in the file or of the
+ * row in the table. The place is 0 where both are the same; where it is refused, kind and place are 0.
+ */
+typedef struct keccak_tables_agreement {
+    uint64_t refusal;
+    uint64_t detail;
+    uint64_t kind;
+    uint64_t place;
+} keccak_tables_agreement;
 
 /*
  * Where a reader of an operation file stands: refusal and detail of the first fault, or 0 and 0 and then the whole records at
@@ -781,6 +797,20 @@ keccak_tables_answer keccak_tables_read_operations(const uint8_t *file, size_t f
  */
 KECCAK_TABLES_MUST_USE
 keccak_tables_answer keccak_tables_write_operations(const uint64_t *ops, size_t ops_length, uint8_t *file, size_t file_length);
+
+/* ---- the executor's file against the core table ---- */
+
+/*
+ * Whether the active rows of a core table and the records of a whole file are the same calls, in some order, repeats counted: timestamp,
+ * address, INPUT and OUTPUT are compared, pointers and segment numbers are not. Else the first record that has no row of its own, or failing
+ * that the first active row left; equal copies are partnered earliest first. Records at addresses that are no multiples of 8 are compared like
+ * any other. A row with a byte of 256 or more, or a timestamp word of 2^32 or more, has no record. The time grows with rows and records as
+ * far as both stand in one order, and with the square of what is left from there on. 2 the table; 5 a word of it; then 1, 6 and 4 as a reader
+ * gives them, for the first faulty record; never 7.
+ */
+KECCAK_TABLES_MUST_USE
+keccak_tables_agreement keccak_tables_same_operations(const uint64_t *core, size_t core_length, const uint8_t *file,
+                                                      size_t file_length);
 
 #ifdef __cplusplus
 }

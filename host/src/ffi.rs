@@ -5,6 +5,7 @@
 
 use crate::operation_file::Sums;
 use crate::refusal::Refusal;
+use crate::same_operations::{self, Agreement};
 
 /// The answer of a call that only writes.
 #[repr(C)]
@@ -64,6 +65,23 @@ pub struct FlatVerdict {
     pub first: u64,
     pub second: u64,
     pub third: u64,
+}
+
+/// The answer of a file against a core table.
+#[repr(C)]
+pub struct FlatAgreement {
+    number: u64,
+    detail: u64,
+    kind: u64,
+    place: u64,
+}
+
+impl FlatAgreement {
+    /// What is said of both, or the refusal.
+    pub fn named(self, name: impl FnOnce(u64, u64) -> &'static str) -> Result<Agreement, Refusal> {
+        Refusal::from_flat(self.number, self.detail, name)?;
+        Ok(same_operations::from_words(self.kind, self.place))
+    }
 }
 
 /// A key, which is never refused.
@@ -238,6 +256,8 @@ bind! {
 
     job = keccak_tables_job(
         nr: u64, core: &[u64], round: &[u64], counts: &[u64], report: &mut [u64]) -> FlatAnswer;
+
+    same_operations = keccak_tables_same_operations(core: &[u64], file: &[u8]) -> FlatAgreement;
 
     tally_start = keccak_tables_tally_start() -> FlatCursor;
     tally_feed = keccak_tables_tally_feed(cursor: FlatCursor, bytes: &[u8]) -> FlatCursor;

@@ -41,7 +41,7 @@ pub enum Lent {
 
 /// Why a call did nothing. A call's checks are made in the order of the numbers, but for 8, 9, 10 and 14, which come before all others, 7
 /// and then 11, which come between 4 and 5, and 12 and then 13, which come between 1 and 2; each over all its arguments. But a file is read before the slice that takes its words is looked at, record by
-/// record, and there 6 comes before 4.
+/// record, and there 6 comes before 4; a core table that a file is held against is looked at before the file.
 ///
 /// `argument` is the name of the argument in the call's signature; of a [`Tally`](crate::operation_file::Tally) it is that of `feed`.
 ///

@@ -1080,6 +1080,46 @@ static void file_segments(void) {
     REFUSED(cursor, 1, 89478486);
 }
 
+/* Two equal calls: both in the file, in a third copy, one of them alone; then what is refused, the table first. */
+static void file_against_a_table(void) {
+    static uint64_t table[CORE];
+    uint8_t records[3 * KECCAK_TABLES_SEGMENT_RECORD_BYTES];
+    uint64_t list[3 * OP];
+    for (size_t i = 0; i < 3; i++)
+        memcpy(list + i * OP, operation, sizeof operation);
+    list[OP + SEGMENT] = 7;
+    keccak_tables_answer answer = keccak_tables_write_operations(list, 3 * OP, records, sizeof records);
+    DONE(answer);
+    answer = keccak_tables_generate_keccak_trace(FLOOR, list, 2 * OP, table, CORE);
+    DONE(answer);
+    keccak_tables_agreement both = CALL(keccak_tables_same_operations)(table, CORE, records, 840);
+    DONE(both);
+    CHECK(both.kind == KECCAK_TABLES_AGREEMENT_SAME && both.place == 0);
+    both = keccak_tables_same_operations(table, CORE, records, 1258);
+    DONE(both);
+    CHECK(both.kind == KECCAK_TABLES_AGREEMENT_RECORD && both.place == 2);
+    both = keccak_tables_same_operations(table, CORE, records, 418);
+    DONE(both);
+    CHECK(both.kind == KECCAK_TABLES_AGREEMENT_ROW && both.place == 1);
+    table[486 + KECCAK_TABLES_CORE_ADDR] += 4;
+    records[418 + 10] += 4;
+    both = keccak_tables_same_operations(table, CORE, records, 840);
+    DONE(both);
+    CHECK(both.kind == KECCAK_TABLES_AGREEMENT_SAME);
+    both = keccak_tables_same_operations(table, CORE, records, 839);
+    REFUSED(both, 6, 418);
+    CHECK(both.kind == 0 && both.place == 0);
+    memset(records + 10, 0xFF, 8);
+    both = keccak_tables_same_operations(table, CORE, records, 839);
+    REFUSED(both, 4, UINT64_MAX);
+    table[CORE - 1] = KECCAK_TABLES_P;
+    both = keccak_tables_same_operations(table, CORE, records, 839);
+    REFUSED(both, 5, CORE - 1);
+    both = keccak_tables_same_operations(table, CORE - 1, records, 839);
+    REFUSED(both, KECCAK_TABLES_REFUSAL_NOT_WHOLE, KECCAK_TABLES_LENT_CORE);
+    CHECK(both.kind == 0 && both.place == 0);
+}
+
 int main(void) {
     operation[0] = TIMESTAMP;
     operation[1] = ((uint64_t)ADDRESS_WORD << 32) + ((uint64_t)ADDRESS_HALF << 16);
@@ -1114,5 +1154,6 @@ int main(void) {
     file_lists();
     file_sums();
     file_segments();
+    file_against_a_table();
     return 0;
 }

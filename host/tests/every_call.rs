@@ -9,12 +9,13 @@ use keccak_tables::job::Report;
 use keccak_tables::month::{Fill, Month};
 use keccak_tables::operation_file::Tally;
 use keccak_tables::registers::RegisterLook;
+use keccak_tables::same_operations::Agreement;
 use keccak_tables::segment::KindLook;
 use keccak_tables::verdict::{Table, Verdict};
 use keccak_tables::{
     Bus, BusInteraction, FLOOR, Lent, MAX_FLOOR, MAX_OPS, OP_WORDS, Operation, P, Parameters, Refusal, SEGMENT_WORD,
-    Side, bitwise, is_wh, job, keccak, keccak_rc, keccak_rnd, message, month, operation_file, registers, segment,
-    tuples, verdict,
+    Side, bitwise, is_wh, job, keccak, keccak_rc, keccak_rnd, message, month, operation_file, registers,
+    same_operations, segment, tuples, verdict,
 };
 
 const GUARD: u64 = 0xA5A5_A5A5_A5A5_A5A5;
@@ -1296,6 +1297,71 @@ fn numbered_records() {
     assert!(sums.to_string().ends_with("\nEcall 2\nsegments 0 67305985\n"), "{sums}");
 }
 
+/// Two equal calls and a third, in the file under both marks and with one off the eight: the same in any order, and what is left over; then
+/// each refusal, that of the table first.
+#[test]
+fn file_against_a_table() {
+    let (first, second) = (
+        operation(),
+        Operation {
+            timestamp: 1 << 33,
+            ..operation()
+        },
+    );
+    let numbered = Operation { segment: 7, ..first };
+    let list = Operation::list(&[first, second, first]);
+    let mut core = keccak::keccak_table(&list).expect("a table");
+    let mut file = vec![0; 2 * 418 + 422];
+    let ops = Operation::list(&[second, numbered, first]);
+    assert_eq!(operation_file::write_operations(&ops, &mut file), Ok(()));
+    let same = |core: &[u64], file: &[u8]| same_operations::same_operations(core, file);
+    let answer = same(&core, &file).expect("an answer");
+    assert!(answer.is_same() && answer.to_string() == "same");
+    assert_eq!(same(&[], &[]), Ok(Agreement::Same));
+    assert_eq!(same(&[], &file), Ok(Agreement::Record(0)));
+    assert_eq!(same(&core, &file[..840]), Ok(Agreement::Row(2)));
+    assert_eq!(same(&core, &file[418..]), Ok(Agreement::Row(1)));
+    assert_eq!(
+        same(&core, &[&file[..], &file[..418]].concat()),
+        Ok(Agreement::Record(3))
+    );
+
+    // The first active row no longer counts, or has a byte that no record has; the pointers may be anything.
+    core[keccak::cols::STATE_PTR..keccak::cols::MU].fill(7);
+    assert_eq!(same(&core, &file), Ok(Agreement::Same));
+    core[keccak::cols::MU] = 2;
+    assert_eq!(same(&core, &file), Ok(Agreement::Record(2)));
+    assert_eq!(same(&core, &file[..840]), Ok(Agreement::Same));
+    core[keccak::cols::MU] = 1;
+    core[keccak::cols::OUTPUT_STATE] = 256;
+    assert_eq!(same(&core, &file), Ok(Agreement::Record(2)));
+    assert_eq!(same(&core, &file[..840]), Ok(Agreement::Row(0)));
+    // Off the eight a record is compared all the same.
+    file[428] += 4;
+    core[keccak::cols::OUTPUT_STATE] = 0;
+    assert_eq!(same(&core, &file), Ok(Agreement::Record(1)));
+    core[keccak::cols::ADDR] += 4;
+    assert_eq!(same(&core, &file), Ok(Agreement::Same));
+
+    file[..2].fill(0);
+    core[9] = P;
+    let whole = Refusal::NotWhole {
+        argument: "core",
+        which: Lent::Core,
+    };
+    assert_eq!(same(&core[1..], &file), Err(whole));
+    assert_eq!(same(&core, &file), Err(not_element("core", 9)));
+    core[9] = 0;
+    assert_eq!(same(&core, &file), Err(Refusal::BadRecord { start: 0 }));
+    file[..2].copy_from_slice(b"KO");
+    assert_eq!(same(&core, &file[..1257]), Err(Refusal::BadRecord { start: 840 }));
+    file[10..18].fill(0xFF);
+    assert_eq!(
+        same(&core, &file[..1257]),
+        Err(Refusal::HighAddress { address: u64::MAX })
+    );
+}
+
 /// Each public function of the modules on tables stands in this file by its module's name, each method by its own.
 #[test]
 fn none_is_left_out() {
@@ -1312,6 +1378,7 @@ fn none_is_left_out() {
         "month",
         "operation_file",
         "registers",
+        "same_operations",
         "segment",
         "verdict",
     ] {
@@ -1336,6 +1403,7 @@ fn none_is_left_out() {
     // a charge and a look by parameters, and the four of a look of its own; and by parameters again a core row's tuple and its tuples, three of
     // the core table, five of the round table, the constants' multiplicities, a verdict, its line and its text; of registers, how many are in
     // use, both calls by parameters, and the four of a look of its own; a job by parameters and the six of a report of its own; the operations of so many
-    // bytes, and the three of a digest; and a month by parameters and the three of a month by its names.
-    assert_eq!(functions, interface::exports().len() + 62);
+    // bytes, and the three of a digest; a month by parameters and the three of a month by its names; and whether a file and
+    // a table are the same.
+    assert_eq!(functions, interface::exports().len() + 63);
 }

@@ -122,6 +122,7 @@ fn the_header_and_the_bindings_have_the_same_numbers() {
         ("KIND_", kinds()),
         ("VERDICT_", numbered(&VERDICTS)),
         ("TABLE_", numbered(&["CORE", "ROUND"])),
+        ("AGREEMENT_", numbered(&["SAME", "RECORD", "ROW"])),
         ("CORE_", core_columns()),
         ("ROUND_", round_columns()),
         ("MONTH_", month_words()),

@@ -4,6 +4,7 @@
 use keccak_tables::bitwise::{self, NUM_COUNTERS, TABLE_WORDS};
 use keccak_tables::job::job;
 use keccak_tables::operation_file::{read_operations, write_operations};
+use keccak_tables::same_operations::{Agreement, same_operations};
 use keccak_tables::verdict::{verdict, verdict_line_with, verdict_with};
 use keccak_tables::{Lent, OP_WORDS, P, Parameters, Refusal, is_wh, keccak, keccak_rc, keccak_rnd, registers, segment};
 
@@ -353,6 +354,27 @@ fn a_job_s_tables_before_its_counts_before_its_report() {
     assert_eq!(call(&core, &round, &[2, 1], 8), not_element("round", 7));
     round[7] = 0;
     assert_eq!(call(&core, &round, &[2, 1], 8), Ok(()));
+}
+
+#[test]
+fn a_core_table_before_a_file() {
+    let (mut core, mut file) = (vec![0; 2 * 486], [0; 418]);
+    core[486] = P;
+    let which = Lent::Core;
+    let argument = "core";
+    assert_eq!(
+        same_operations(&core[1..], &file),
+        Err(Refusal::NotWhole { argument, which })
+    );
+    assert_eq!(same_operations(&core, &file), not_element("core", 486));
+    core[486] = 0;
+    assert_eq!(same_operations(&core, &file), Err(Refusal::BadRecord { start: 0 }));
+    file[..2].copy_from_slice(b"KO");
+    assert_eq!(same_operations(&core, &file), Ok(Agreement::Record(0)));
+    assert_eq!(
+        same_operations(&core, &file[..417]),
+        Err(Refusal::BadRecord { start: 0 })
+    );
 }
 
 #[test]

@@ -10,10 +10,13 @@ use Rattle.tuple.specs.Tuple.{busNumber, sideNumber}
 use Rattle.tuple.specs.declared.TupleAnswer.{TupleAnswer}
 use Rattle.tuple.specs.declared.TupleAnswer.the-variants as tuple
 use Rattle.is_wh.specs.declared.IsWhKey.{IsWhKey}
+use Rattle.same_operations.specs.declared.Agreement.{Agreement}
+use Rattle.same_operations.specs.declared.Agreement.the-variants as agreement
 use Rattle.flat.specs.declared.FlatAnswer.{FlatAnswer}
 use Rattle.flat.specs.declared.FlatNumber.{FlatNumber}
 use Rattle.flat.specs.declared.FlatTuple.{FlatTuple}
 use Rattle.flat.specs.declared.FlatKey.{FlatKey}
+use Rattle.flat.specs.declared.FlatAgreement.{FlatAgreement}
 
 -- a call that only writes
 unfoldable pub flatAnswer : Answer → FlatAnswer
@@ -49,3 +52,10 @@ flatTuple (tuple.Refused r) =
 -- a key, which is never refused
 unfoldable pub flatKey : IsWhKey → FlatKey
 flatKey k = record { word = k .word; half = k .half }
+
+-- a file against a core table: "same", "the first file record with no partner of its own", "the first active row left"
+unfoldable pub flatAgreement : Agreement → FlatAgreement
+flatAgreement agreement.Same = record { number = 0; detail = 0; kind = 0; place = 0 }
+flatAgreement (agreement.Record i) = record { number = 0; detail = 0; kind = 1; place = i }
+flatAgreement (agreement.Row r) = record { number = 0; detail = 0; kind = 2; place = r }
+flatAgreement (agreement.Refused r) = record { number = refusalNumber r; detail = refusalDetail r; kind = 0; place = 0 }

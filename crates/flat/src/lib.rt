@@ -2,11 +2,12 @@
 use answer::Answer;
 use answer::Number;
 use is_wh::IsWhKey;
+use same_operations::Agreement;
 use tuple::TupleAnswer;
 use tuple::header::bus_number;
 use tuple::header::side_number;
 ghost use mathlib.Core.Path.{_≡_};
-ghost use Rattle.flat.specs.Flat.{flatAnswer, flatNumber, flatTuple, flatKey};
+ghost use Rattle.flat.specs.Flat.{flatAnswer, flatNumber, flatTuple, flatKey, flatAgreement};
 
 pub mod lookup;
 pub mod reader;
@@ -35,6 +36,16 @@ pub struct FlatTuple {
     pub side: u64,
     pub length: u64,
     pub multiplicity: u64,
+}
+
+// The same, and what a file and a core table say of each other: 0 both record the same calls; 1 and the number of the first record
+// without a partner; 2 and the number of the first active row left.
+#[repr(C)]
+pub struct FlatAgreement {
+    pub number: u64,
+    pub detail: u64,
+    pub kind: u64,
+    pub place: u64,
 }
 
 #[repr(C)]
@@ -161,5 +172,36 @@ pub fn flat_key(key: IsWhKey) -> FlatKey
     FlatKey {
         word: key.word,
         half: key.half,
+    }
+}
+
+pub fn flat_agreement(answer: Agreement) -> FlatAgreement
+    ensures { λ r. ⌜ r ≡ flatAgreement answer ⌝ }
+{
+    match answer {
+        Agreement::Same => FlatAgreement {
+            number: 0,
+            detail: 0,
+            kind: 0,
+            place: 0,
+        },
+        Agreement::Record(record) => FlatAgreement {
+            number: 0,
+            detail: 0,
+            kind: 1,
+            place: record as u64,
+        },
+        Agreement::Row(row) => FlatAgreement {
+            number: 0,
+            detail: 0,
+            kind: 2,
+            place: row as u64,
+        },
+        Agreement::Refused(refusal) => FlatAgreement {
+            number: refusal.number(),
+            detail: refusal.detail(),
+            kind: 0,
+            place: 0,
+        },
     }
 }

@@ -14,5 +14,6 @@ pub mod message_calls;
 pub mod month_calls;
 pub mod register_calls;
 pub mod round_calls;
+pub mod same_calls;
 pub mod segment_calls;
 pub mod tally_calls;

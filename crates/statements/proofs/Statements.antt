@@ -225,6 +225,16 @@ use Rattle.month.proofs.Order.{permuted-exactly, refusal-order, sums-order, hei
 use Rattle.month.proofs.Fullness.{fullest-is, emptiest-is, shown-one}
 use Rattle.month.proofs.Writing.{row-words-sum, height-words-sum}
 use Rattle.month.proofs.Cases.{ties, no-files, one-refused, one-file, one-padding, one-shipped, words-most, products-most}
+use Rattle.lists.specs.First.{firstAt}
+use Rattle.lists.specs.OneToOne.{OneToOne}
+use Rattle.partners.specs.Partners as partners
+use Rattle.partners.specs.Partners.{Run, copiesIn, unpartnered, left}
+use Rattle.partners.proofs.Partners.{alone-is, left-is}
+use Rattle.same_operations.specs.Same.{recordCells, rowCells, Matches, fileRun, coreRun, rowLeft, recordLeft, agreementOf, sameRefusal}
+use Rattle.same_operations.specs.declared.Agreement.the-variants.{Same}
+use Rattle.same_operations.proofs.Cells.{matches-exactly, wide-unmatched, large-unmatched}
+use Rattle.same_operations.proofs.Same.{recordAt, InFile, same-matches, same-equally, one-by-one, segments-ignored, pointers-ignored, written-same, left-same}
+use Rattle.same_operations.proofs.Refusals.{same-never-7}
 use Rattle.answer.specs.declared.Refusal.the-variants.{LongMessage, LateTimestamp}
 use Rattle.sha3.specs.Sha3.{blocks, sha3-256}
 use Rattle.sha3.specs.Sponge.{sha3-256-bits, bitsOf, OnlyBytes}
@@ -1301,6 +1311,74 @@ pub file-to-list : (file : List ℕ) → firstFault 0 0 (recordsOf file) ≡ acc
     (out : List ℕ) → readRefusal file (length out) ≡ accepted →
     fileBytes (take (length (recordsOf file) * OP-WORDS) (readAfter file out)) ≡ file
 file-to-list = file-left
+
+-- Item 12, an operation file against a core table (same_operations/specs/Same.antt). "Say 'same' exactly when the active core rows, as
+-- timestamp, address, INPUT and OUTPUT, are the file's operations in some order, repeats counted.": the records and the active rows can be
+-- matched one to one, each with one that it matches (`Matches`). "unaligned records are compared like any other": nothing is supposed of
+-- the file but that it is of bytes, and nothing of the table
+pub same-calls : (file : List ℕ) → ((k : ℕ) → word file k < 256) → (core : List ℕ) →
+    (agreementOf core file ≡ Same) ↔ OneToOne (InFile file) (Active coreLayout core) (λ i r. Matches (recordAt file i) (row coreLayout core r))
+same-calls = same-matches
+
+-- the same by counts: every list of columns stands equally often among the records and among the active rows
+pub same-counts : (core file : List ℕ) → (agreementOf core file ≡ Same) ↔ ((x : List ℕ) → copiesIn (fileRun file) x ≡ copiesIn (coreRun core) x)
+same-counts = same-equally
+
+-- what is compared of a record and a row, and what that says: the timestamp words make the record's timestamp, the bytes its address and lanes
+pub matching-row : (r x : List ℕ) → ((k : ℕ) → word r k < 256) → (recordCells r ≡ rowCells x) ↔ Matches r x
+matching-row = matches-exactly
+
+-- "Bytes not below 256 or timestamp words not below 2^32 make a row that no record matches": the timestamp's words are the first two of a row,
+-- the bytes are those from the address on and before the pointers
+module _ (r x : List ℕ) (small : (k : ℕ) → word r k < 256) where
+  pub long-timestamp : (2 ^ 32 ≤ word x 0) ⊎ (2 ^ 32 ≤ word x 1) → recordCells r ≡ rowCells x → ⊥
+  long-timestamp = wide-unmatched r x small
+
+  pub no-byte : (k : ℕ) → 2 ≤ k → k < 410 → 256 ≤ word x k → recordCells r ≡ rowCells x → ⊥
+  no-byte = large-unmatched r x small
+
+-- "Else give the first file record with no partner of its own, or failing that the first active row left .. Equal copies are partnered earliest
+-- first.": the answer, defined by counts, is what giving out partners one by one gives; for any two runs both ways agree at every index
+pub partners-given : (core file : List ℕ) →
+    agreementOf core file
+    ≡ recordLeft (firstAt (unpartnered (fileRun file) (coreRun core)) (length (recordsOf file)))
+    (rowLeft (firstAt (left (fileRun file) (coreRun core)) (rows coreLayout core)))
+partners-given = one-by-one
+
+module _ (A B : Run) where
+  pub none-given : (i : ℕ) → partners.alone A B i ≡ unpartnered A B i
+  none-given = alone-is A B
+
+  pub none-taken : (k : ℕ) → k < B .size → partners.alone B A k ≡ left A B k
+  none-taken = left-is A B
+
+-- "Segment numbers are ignored": records with the same 416 bytes behind their marks, whatever their marks and segment numbers, give one answer ..
+pub segments-not-compared : (file other : List ℕ) → length (recordsOf file) ≡ length (recordsOf other) →
+    ((i k : ℕ) → InFile file i → k < 416 → word (recordAt file i) (2 + k) ≡ word (recordAt other i) (2 + k)) →
+    (core : List ℕ) → agreementOf core file ≡ agreementOf core other
+segments-not-compared = segments-ignored
+
+-- .. and "pointers are not compared": so do rows that differ in their pointers alone
+pub pointers-not-compared : (core other : List ℕ) → rows coreLayout core ≡ rows coreLayout other →
+    ((r k : ℕ) → r < rows coreLayout core → k < 410 → word (row coreLayout core r) k ≡ word (row coreLayout other r) k) →
+    ((r : ℕ) → r < rows coreLayout core → word (row coreLayout core r) 485 ≡ word (row coreLayout other r) 485) →
+    (file : List ℕ) → agreementOf core file ≡ agreementOf other file
+pointers-not-compared = pointers-ignored
+
+-- "both claim to record the same calls": a file of bytes and the core table of its operations are the same, for every floor; and so are the
+-- table and the file that the calls leave of one list
+pub same-of-file : (file : List ℕ) → ((k : ℕ) → word file k < 256) → (floor : ℕ) →
+    agreementOf (coreTable floor (length (recordsOf file)) (opAt (fileWords file))) file ≡ Same
+same-of-file = written-same
+
+pub same-of-list : (ops : List ℕ) → ((k : ℕ) → word ops k < 2 ^ 64) → (floor : ℕ) (table file : List ℕ) →
+    coreTraceRefusal floor (length table) ops ≡ accepted → writeRefusal (length file) ops ≡ accepted →
+    agreementOf (take (height floor (opCount ops) * 486) (coreTraceAfter floor ops table)) (take (bytesFor ops (opCount ops)) (writeAfter ops file)) ≡ Same
+same-of-list = left-same
+
+-- "then the file as `tally` refuses it, never by 7"
+pub same-not-7 : (core file : List ℕ) (a : ℕ) → sameRefusal core file ≡ some (Unaligned a) → ⊥
+same-not-7 = same-never-7
 
 -- Item 13: "The last output's first 32 bytes are the digest of FIPS 202.": by FIPS 202 on bits (Algorithm 8 with pad10*1 and the
 -- suffix 01, sha3/specs/Sponge.antt), of what is written for any message of bytes

@@ -6,7 +6,8 @@
 //! of its own, on the tables of `dishonest`, `lines` its line of text, `jobs` the report on a job's segments. `tally`
 //! reads operation files, beside `plain_file`, which reads them too, `limit` the longest ones, and `refusals` has the table of what each call refuses. `rounds` has every number of
 //! rounds, by what `by_rounds` makes of the Rust's 24, and `floors` every floor, by what `by_floor` makes of the Rust's 4; `month` has the month
-//! by exact fractions, `message` what is written and judged for messages, by a SHA3-256 of its own, `plain_sha3`. A further area is a module beside them and a name in `bin/differential.rs`. `cases` has the small tables of the program `verdict_cases`.
+//! by exact fractions, `message` what is written and judged for messages, by a SHA3-256 of its own, `plain_sha3`; `same` has a
+//! core table against an operation file, by a matching over a hash map. A further area is a module beside them and a name in `bin/differential.rs`. `cases` has the small tables of the program `verdict_cases`.
 
 #![deny(unsafe_code)]
 #![warn(missing_docs)]
@@ -37,6 +38,7 @@ pub mod refused;
 pub mod registers;
 pub mod rounds;
 pub mod rows;
+pub mod same;
 pub mod say;
 pub mod tally;
 pub mod tuple_list;

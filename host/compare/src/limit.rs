@@ -1,6 +1,7 @@
 //! Operation files about the most records that one may have: 37 or 38 GB, which repeat a piece of 55 MB.
 
 use keccak_tables::operation_file::{RECORD_BYTES, SEGMENT_RECORD_BYTES, Tally, read_operations};
+use keccak_tables::same_operations::{Agreement, same_operations};
 use keccak_tables::{MAX_OPS, OP_WORDS, Parameters, SEGMENT_WORD};
 
 use crate::comparison::Comparison;
@@ -36,6 +37,8 @@ pub fn compare(comparison: &mut Comparison, seed: u64, _n: usize) {
     reader(comparison, &file.bytes()[..MOST], 0, [0; 3]);
     comparison.group("operations of the longest file into a short list, and a byte or a record more");
     into_short_lists(comparison, &mut words, file.bytes());
+    comparison.group("the longest file against an empty table, and a byte or a record more");
+    against_no_rows(comparison, file.bytes());
     drop(file);
     // What is left out has a place in the file all the same.
     for operation in ops.chunks_exact_mut(OP_WORDS) {
@@ -77,6 +80,24 @@ fn into_short_lists(comparison: &mut Comparison, words: &mut Words, file: &[u8])
         let input = || format!("a file of {length} bytes");
         comparison.answered("read_operations", input, answer, expected);
         list.kept(comparison, |_| input());
+    }
+}
+
+/// No record has a row, so the first is told; a cut table is refused before the file is read.
+fn against_no_rows(comparison: &mut Comparison, file: &[u8]) {
+    for (core, length, expected) in [
+        (&[][..], MOST, None),
+        (&[], MOST + 1, PAST_END),
+        (&[], MOST + RECORD_BYTES, PAST_END),
+        (&[0], MOST + 1, Some((2, 0))),
+    ] {
+        let answer = same_operations(core, &file[..length]);
+        let input = || format!("{} words and a file of {length} bytes", core.len());
+        comparison.answered("same_operations", input, answer, expected);
+        if let Ok(answer) = answer {
+            let first = u64::from(answer == Agreement::Record(0));
+            comparison.equal(|_| input(), &[first], &[1]);
+        }
     }
 }
 

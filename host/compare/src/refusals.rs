@@ -19,10 +19,10 @@ use crate::plain_file::{self, file_of, first_fault, operations_of};
 use crate::refused::on_slice;
 use crate::tally::read;
 use crate::untouched::Untouched;
-use crate::{charge, jobs, lines, looked_up, message, month, registers, rounds, rows, tuples, values, verdicts};
+use crate::{charge, jobs, lines, looked_up, message, month, registers, rounds, rows, same, tuples, values, verdicts};
 
 /// The numbers with which each call is tried, 0 being that it does its work. What only a file of 37 GB can cause is in
-/// `limit.rs`: 1 in `tally_feed`, `tally_finish` and `read_operations`. No file is refused by 7. The bindings' lookups have no kind past the
+/// `limit.rs`: 1 in `tally_feed`, `tally_finish`, `read_operations` and `same_operations`. No file is refused by 7. The bindings' lookups have no kind past the
 /// last; the tests of the header try it. What depends on the number of rounds is refused by 8 before all that stands here: `charge`, `look`, the
 /// multiplicities of a constant table, a round table, its rows, height and padding, the tuples of a core row, `verdict`, `verdict_line`, `job`. What
 /// depends on the floor is refused by 9 then: `charge`, `look`, a core table, its height, a round table, its height and padding, `tally_finish`.
@@ -53,7 +53,8 @@ use crate::{charge, jobs, lines, looked_up, message, month, registers, rounds, r
 /// | `job` | | core, round, counts | report | | core, round | |
 /// | a file's reader | n | | | address | | mark, cut |
 /// | `read_operations` | n | | list | address | | mark, cut |
-pub const MATRIX: [(&str, &[u64]); 58] = [
+/// | `same_operations`, 2 and 5 first | n | core | | address | core | mark, cut |
+pub const MATRIX: [(&str, &[u64]); 59] = [
     ("generate_bitwise_row", &[0, 1, 3]),
     ("bitwise_row_index", &[0, 1]),
     ("bitwise_bump", &[0, 1, 3, 5]),
@@ -107,6 +108,7 @@ pub const MATRIX: [(&str, &[u64]); 58] = [
     ("verdict", &[0, 2, 5, 8]),
     ("verdict_line", &[0, 2, 3, 5, 8]),
     ("job", &[0, 2, 3, 5, 8]),
+    ("same_operations", &[0, 2, 4, 5, 6]),
     ("tally_start", &[0]),
     ("tally_feed", &[0, 4, 6]),
     ("tally_finish", &[0, 4, 6, 9]),
@@ -130,6 +132,7 @@ pub fn compare(comparison: &mut Comparison, seed: u64, n: usize) {
     rounds::refusals::compare(comparison, &mut words);
     month::refusals(comparison, &mut words, n);
     message::refusals::compare(comparison, &mut words);
+    same::refusals::compare(comparison, &mut words);
     comparison.group("refusals: counters, every set of conditions");
     counters(comparison, &mut words);
     comparison.group("refusals: calls on lists, every set of conditions");

@@ -13,7 +13,7 @@ pub struct Command {
 }
 
 /// The commands, in the order in which they are told.
-pub const COMMANDS: [Command; 11] = [
+pub const COMMANDS: [Command; 12] = [
     Command {
         name: "demo",
         arguments: "",
@@ -75,6 +75,20 @@ is active in two of them, the job holds. It can hold where a segment does not: a
 that are not pairs, or whose sums are not the rows of the tables, are refused by 2 with detail 2. The files are held in memory.
 With --rounds NR the tables are judged as those of NR rounds, as by `judge`.
 Exit status: 0 every segment holds, and the job; 1 one does not, or refused; 2 a file can't be read.
+",
+    },
+    Command {
+        name: "same",
+        arguments: "CORE OPS",
+        short: "says whether a core table and an operation file record the same calls, or names what has no partner",
+        long: "\
+Prints `same` where the active rows of CORE, as timestamp, address, INPUT and OUTPUT, are the operations of OPS in some order,
+repeats counted. Else `record I`, the first record of OPS that has no row of its own, or failing that `row R`, the first active
+row of CORE left, both from 0; equal copies are partnered earliest first. Segment numbers and pointers are not compared, and
+records at addresses that are no multiples of 8 are compared like any other. A row with a byte of 256 or more, or a timestamp
+word of 2^32 or more, has no record. CORE is refused first, by 2 or 5, then OPS as `tally` refuses it. Both files are held in
+memory. Where rows and records are not in one order, the time grows with the square of what is left behind the first that differ.
+Exit status: 0 same; 1 not, or refused; 2 a file can't be read.
 ",
     },
     Command {

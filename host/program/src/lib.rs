@@ -20,6 +20,7 @@ mod month;
 mod options;
 mod picture;
 mod progress;
+mod same;
 mod tally;
 #[cfg(test)]
 mod tests;
@@ -146,6 +147,7 @@ fn named(name: &str, rest: &[OsString], streams: &mut Streams) -> Result<Outcome
         "write" => write::write(rest, streams),
         "judge" => judge::judge(rest, streams),
         "job" => job::job(rest, streams),
+        "same" => same::same(rest, streams),
         "tally" => tally::tally(rest, streams),
         "look" => charge::look(rest, streams),
         "charge" => charge::charge(rest, streams),

@@ -1366,6 +1366,53 @@ fn segments_and_then_the_job() {
     );
 }
 
+/// Records in the rows' order and in another, one too many, one too few; then what is refused, the table first, and what can't be read.
+#[test]
+fn a_table_and_a_file_of_the_same_calls() {
+    let folder = Folder::new("same");
+    let list = operations(3);
+    let (table, file) = (keccak::keccak_table(&list).unwrap(), records(&list));
+    let core = folder.put("core", &bytes(&table));
+    let ops = folder.put("ops", &file);
+    let same = |core: &str, ops: &str| ran(run, &["same", core, ops], &[]);
+    let told = |status, line: &str| (status, format!("{line}\n"), String::new());
+    assert_eq!(same(&core, &ops), told(0, "same"));
+    let turned: Vec<u8> = file.rchunks(RECORD_BYTES).flatten().copied().collect();
+    assert_eq!(same(&core, &folder.put("turned", &turned)), told(0, "same"));
+    let longer = folder.put("longer", &[&file[..], &file[..RECORD_BYTES]].concat());
+    assert_eq!(same(&core, &longer), told(1, "record 3"));
+    let shorter = folder.put("shorter", &file[RECORD_BYTES..]);
+    assert_eq!(same(&core, &shorter), told(1, "row 0"));
+    let none = folder.put("none", b"");
+    assert_eq!(same(&none, &none), told(0, "same"));
+    assert_eq!(same(&none, &ops), told(1, "record 0"));
+    assert_eq!(same(&core, &none), told(1, "row 0"));
+
+    let mut old = file.clone();
+    set_address(&mut old, 2, 4100);
+    assert_eq!(same(&core, &folder.put("old", &old)), told(1, "record 2"));
+    set_address(&mut old, 1, u64::MAX);
+    let cut = folder.put("cut", &old[..1253]);
+    let high = "the last of the 25 lanes from address 18446744073709551615 would start past 2^64 - 1\n";
+    assert_eq!(
+        same(&core, &cut),
+        (1, "refused 4 18446744073709551615\n".into(), high.into())
+    );
+    let cut = folder.put("cut", &file[..1253]);
+    let words = "the record that starts at byte 836 is cut or has a wrong mark\n";
+    assert_eq!(same(&core, &cut), (1, "refused 6 836\n".into(), words.into()));
+    let large = folder.put("large", &bytes(&[vec![0; 485], vec![P]].concat()));
+    let words = format!("CORE, row 0, column 485 (MU): {P} is not below p\n");
+    assert_eq!(same(&large, &cut), (1, "refused 5 485\n".into(), words));
+    let words = "CORE has 3 words, which are not whole rows of 486\n".to_string();
+    assert_eq!(same(&odd_words(&folder), &cut), (1, "refused 2 0\n".into(), words));
+    let (odd, missing) = (folder.put("odd", &[0; 9]), folder.path("missing"));
+    for [core, ops] in [[&odd, &ops], [&missing, &ops], [&odd_words(&folder), &missing]] {
+        let (status, output, errors) = same(core, ops);
+        assert_eq!((status, output.as_str(), errors.is_empty()), (2, "", false));
+    }
+}
+
 /// A file of three words, which are no row.
 fn odd_words(folder: &Folder) -> String {
     folder.put("three", &bytes(&[0; 3]))
@@ -1636,7 +1683,7 @@ fn lines_of_verdicts_are_explained() {
 
 #[test]
 fn wrong_usage_has_status_2() {
-    let cases: [&[&str]; 60] = [
+    let cases: [&[&str]; 63] = [
         &[],
         &["undo"],
         &["demo", "1"],
@@ -1647,6 +1694,9 @@ fn wrong_usage_has_status_2() {
         &["job", "core", "round", "counts", "more"],
         &["job", "--all", "core", "round", "counts"],
         &["job", "--rounds", "core", "round", "counts"],
+        &["same", "core"],
+        &["same", "core", "ops", "more"],
+        &["same", "--rounds", "12", "core", "ops"],
         &["tally", "a", "b"],
         &["tally", "a", "--shipped"],
         &["tally", "--shipped", "a", "b"],
@@ -1732,6 +1782,7 @@ fn every_command_has_its_help() {
         "write",
         "judge",
         "job",
+        "same",
         "tally",
         "look",
         "charge",

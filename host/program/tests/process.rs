@@ -161,11 +161,12 @@ fn a_table_keeps_its_links_and_rights() {
 fn a_closed_standard_output_is_an_error_in_every_command() {
     let folder = Folder::new("closed-output", 1);
     fs::write(folder.0.join("none"), b"").unwrap();
-    let commands: [&[&str]; 13] = [
+    let commands: [&[&str]; 14] = [
         &["demo"],
         &["write", "ops", "core", "round"],
         &["judge", "none", "none"],
         &["job", "none", "none", "none"],
+        &["same", "none", "ops"],
         &["tally", "ops"],
         &["look", "ops", "none"],
         &["charge", "ops", "none"],
@@ -285,6 +286,27 @@ fn a_charge_says_that_it_goes_on() {
     };
     assert_eq!(output.status.code(), Some(0));
     assert!(text(&output.stdout).contains("charging 1 operations"));
+}
+
+/// On a terminal whoever waits is told, and that rows and records are not in one order.
+#[test]
+fn a_long_comparison_says_what_it_is_about() {
+    let folder = Folder::new("comparing", 20);
+    let written = folder.program(&["write", "ops", "core", "round"]).output().unwrap();
+    assert_eq!(written.status.code(), Some(0));
+    let mut records = fs::read(folder.0.join("ops")).unwrap();
+    records.rotate_right(RECORD_BYTES);
+    fs::write(folder.0.join("turned"), records).unwrap();
+    let what = "comparing 32 rows and 8360 bytes of records";
+    for (ops, in_order) in [("ops", true), ("turned", false)] {
+        let Some(output) = folder.terminal(&format!("same core {ops}")) else {
+            return;
+        };
+        let said = text(&output.stdout);
+        assert!(output.status.success() && said.contains(what), "{said}");
+        let long = format!("{what}, which are not in one order: that can take long");
+        assert_eq!(!said.contains(&long), in_order, "{said}");
+    }
 }
 
 /// On a terminal whoever waits is told, and that the rows are not in the writer's order.

@@ -33,13 +33,14 @@ pub type Functions = BTreeMap<String, Signature>;
 pub type Structs = BTreeMap<String, Vec<(String, Passed)>>;
 
 /// The names of the structs in the header and in the archive's source.
-const STRUCTS: [(&str, &str); 8] = [
+const STRUCTS: [(&str, &str); 9] = [
     ("keccak_tables_answer", "FlatAnswer"),
     ("keccak_tables_number", "FlatNumber"),
     ("keccak_tables_tuple", "FlatTuple"),
     ("keccak_tables_key", "FlatKey"),
     ("keccak_tables_lookup", "FlatLookup"),
     ("keccak_tables_judgement", "FlatVerdict"),
+    ("keccak_tables_agreement", "FlatAgreement"),
     ("keccak_tables_cursor", "FlatCursor"),
     ("keccak_tables_sums", "FlatTally"),
 ];

@@ -6,7 +6,7 @@ use std::process::ExitCode;
 
 use compare::comparison::Comparison;
 use compare::{
-    charge, floors, jobs, limit, lines, looked_up, message, month, refusals, registers, rounds, rows, say, tally,
+    charge, floors, jobs, limit, lines, looked_up, message, month, refusals, registers, rounds, rows, same, say, tally,
     tuples, values, verdicts,
 };
 
@@ -14,7 +14,7 @@ use compare::{
 type Area = fn(&mut Comparison, u64, usize);
 
 /// The areas, in the order in which `all` runs them.
-const AREAS: [(&str, Area); 16] = [
+const AREAS: [(&str, Area); 17] = [
     ("rows", rows::compare),
     ("looked_up", looked_up::compare),
     ("charge", charge::compare),
@@ -29,6 +29,7 @@ const AREAS: [(&str, Area); 16] = [
     ("floors", floors::compare),
     ("month", month::compare),
     ("message", message::compare),
+    ("same", same::compare),
     ("refusals", refusals::compare),
     ("limit", limit::compare),
 ];
@@ -48,6 +49,7 @@ usage: differential all [SEED [N]]       (each of these in turn)
        differential floors [SEED [N]]    (every floor; 4 N runs of the kit's program tally with drawn arguments)
        differential month [SEED [N]]     (every number of rounds and floor; N drawn months)
        differential message [SEED [N]]   (every length to 420; N / 20 long messages, N / 10 lists of eight lengths)
+       differential same [SEED [N]]      (written and named tables and files; 8 N drawn ones, N / 10 long ones)
        differential tally [SEED [N]]     (N drawn files)
        differential refusals [SEED [N]]  (N / 20 times the drawn lists)
        differential limit [SEED]         (files of 37 GB; N has no part in it)

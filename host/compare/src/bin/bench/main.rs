@@ -1,7 +1,7 @@
 //! Times the proved calls against the published Rust's on the same inputs: `bench rows`, `bench lookups`, `bench looked_up`,
-//! `bench values`, `bench tuples`, `bench verdict`; and what has no counterpart there: `bench charge`, `bench job`, `bench cores`, `bench tally`,
-//! `bench shuffled`, `bench descending`.
-//! `bench all` runs each in turn and ends with a table of the ratios.
+//! `bench values`, `bench tuples`, `bench verdict`; and what has no counterpart there: `bench charge`, `bench job`, `bench same`, `bench cores`,
+//! `bench tally`, `bench shuffled`, `bench descending`.
+//! `bench all` runs each in turn, but for `same`, `shuffled` and `descending`, which can take minutes, and ends with a table of the ratios.
 //! It prints for each call the best of several runs, ours and theirs in turn, and lines `ratio NAME X.XX`: our time over
 //! theirs. The comment at the top of each area's file says what is timed.
 
@@ -12,6 +12,7 @@ mod job;
 mod looked_up;
 mod lookups;
 mod rows;
+mod same;
 mod shuffled;
 mod tally;
 mod timing;
@@ -23,7 +24,7 @@ use std::process::ExitCode;
 
 const USAGE: &str = "\
 usage: bench all | bench rows | bench lookups | bench looked_up | bench charge | bench values | bench tuples | bench verdict | bench job
-       bench cores
+       bench same | bench cores
        bench tally [BYTES]      (of the operation file; 1000000000 where none are given)
        bench shuffled [CALLS]   (100 where none are given)
        bench descending [CALLS] (1000 where none are given)
@@ -50,6 +51,7 @@ fn main() -> ExitCode {
         ("tuples", None) => tuples::run(),
         ("verdict", None) => verdict::run(),
         ("job", None) => job::run(),
+        ("same", None) => same::run(),
         ("cores", None) => cores::run(),
         ("tally", bytes) => tally::run(bytes.unwrap_or(tally::BYTES)),
         ("shuffled", calls) => shuffled::run(calls.unwrap_or(shuffled::CALLS)),

@@ -1,0 +1,7 @@
+pub mod Agree
+pub mod Cells
+pub mod Equal
+pub mod Refusals
+pub mod Rising
+pub mod Same
+pub mod Scans

@@ -1,0 +1,67 @@
+-- `compare::same_bytes` meets its contract: no byte before k differs.
+use mathlib.Core.Path.{_≡_, sym, ap}
+use mathlib.Core.Bool.{not}
+use mathlib.Core.Option.{none}
+use Prim.Native.Nat.{_≤_, _-_}
+use native.Mathlib.Omega.{arith}
+use borrow.Author.Tests.{eq-eqb, ne-eqb}
+use Rattle.lists.specs.First.{first, atIndex}
+use Rattle.lists.proofs.First.{first-start, at-more, any-hit, any-none}
+use Rattle.lists.specs.Select.{wordsDiffer}
+use Rattle.same_operations.proofs.compare.same_bytes.Statement.{statement}
+use Rattle.same_operations.proofs.compare.same_bytes.Tie as tie
+
+abbrev Inv-loop : tie.InvT-loop
+Inv-loop bytes a b n k₀ k = (k ≤ n) × (first (atIndex (wordsDiffer bytes a bytes b)) k ≡ none)
+
+abbrev μ-loop : tie.MeasureT-loop
+μ-loop bytes a b n k₀ k = n - k
+
+loop-holds : tie.Need-loop-holds Inv-loop μ-loop
+loop-holds c = (omega arith, first-start _)
+
+add-if1 : tie.Need-add-if1 Inv-loop μ-loop
+add-if1 c = omega arith
+
+shared-slice-read-if1 : tie.Need-shared-slice-read-if1 Inv-loop μ-loop
+shared-slice-read-if1 c = omega arith
+
+add-if1-2 : tie.Need-add-if1-2 Inv-loop μ-loop
+add-if1-2 c = omega arith
+
+shared-slice-read-if1-2 : tie.Need-shared-slice-read-if1-2 Inv-loop μ-loop
+shared-slice-read-if1-2 c = omega arith
+
+returns : tie.Need-returns Inv-loop μ-loop
+unfolding wordsDiffer
+returns c = sym (ap not (any-hit _ _ _ (c .before .before .before .loop-test .taken) (c .before .before .before .before .loop .inv .1) (ap not (ne-eqb _ _ (c .if1 .taken)))))
+
+add-k : tie.Need-add-k Inv-loop μ-loop
+add-k c = omega arith
+
+loop-less : tie.Need-loop-less Inv-loop μ-loop
+loop-less c = omega arith
+
+loop-again : tie.Need-loop-again Inv-loop μ-loop
+unfolding wordsDiffer
+loop-again c = (omega arith, at-more _ _ (c .before .before .before .before .loop .inv .1) (ap not (eq-eqb _ _ (c .if1 .left))))
+
+returns-2 : tie.Need-returns-2 Inv-loop μ-loop
+returns-2 c = sym (ap not (any-none _ _ _ (c .before .loop .inv .0) (c .loop-test .left) (c .before .loop .inv .1)))
+
+pub same-bytes-spec : {M : Type 1} → statement M
+same-bytes-spec =
+    tie.close
+    (tie.spec
+    Inv-loop
+    μ-loop
+    loop-holds
+    add-if1
+    shared-slice-read-if1
+    add-if1-2
+    shared-slice-read-if1-2
+    returns
+    add-k
+    loop-less
+    loop-again
+    returns-2)
