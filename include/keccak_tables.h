@@ -8,8 +8,9 @@
  * that a caller has to keep; every number and every word is allowed, and the call answers:
  *
  *   refusal 0   it did its work: the slice begins with what is asked for, and the words past that are as they were;
- *   refusal N   it is refused, and every word is as it was. Unless said below, the checks are made in the order of their
- *               numbers, those of one number in the order of the arguments, and the first that refuses is told:
+ *   refusal N   it is refused, and every word is as it was (of a line that does not fit, keccak_tables_verdict_line_within says
+ *               what becomes of its scratch). Unless said below, the checks are made in the order of their numbers, those of
+ *               one number in the order of the arguments, and the first that refuses is told:
  *
  *   N  what is wrong                                                            detail
  *   1  an index, kind, Z, round or number of operations, keys or rows past its  the least number refused
@@ -272,6 +273,9 @@ extern "C" {
 /* The words of a segment in a list of row counts, and those of a verdict in the report on a job. */
 #define KECCAK_TABLES_COUNT_WORDS 2
 #define KECCAK_TABLES_VERDICT_WORDS 4
+
+/* What a verdict is lent to work in: the words of `scratch`, and as many of `spare`, for each row of both tables. */
+#define KECCAK_TABLES_SCRATCH_WORDS 2
 
 /* The answer of a call that only writes. */
 typedef struct keccak_tables_answer {
@@ -723,7 +727,8 @@ keccak_tables_answer keccak_tables_month(uint64_t nr, uint64_t floor, const uint
 /* ---- the verdict ---- */
 
 /*
- * Judges a core table and a round table of nr rounds, either possibly empty. 8 nr; 2 core, then round, is not whole rows; 5 a word, core
+ * Judges a core table and a round table of nr rounds, either possibly empty. It has no memory of its own: for rows that stand as the writers
+ * put them the time grows with the rows, in other orders up to their square. 8 nr; 2 core, then round, is not whole rows; 5 a word, core
  * first.
  */
 KECCAK_TABLES_MUST_USE
@@ -740,6 +745,26 @@ KECCAK_TABLES_MUST_USE
 keccak_tables_number keccak_tables_verdict_line(uint64_t nr, const uint64_t *core, size_t core_length, const uint64_t *round,
                                                 size_t round_length, uint8_t *line, size_t line_length);
 
+/*
+ * The verdict in lent memory: the same answer, in a time that grows as n log n with the rows on every input, so for tables that somebody else
+ * ordered. `scratch` and `spare` each need two words for each row of both tables, KECCAK_TABLES_SCRATCH_WORDS * (core rows + round rows),
+ * together 32 bytes a row; what they hold before does not matter. Afterwards that many words of each are 0, and the words past them as they
+ * were. 8 and 2 as above; 3 scratch, then spare; 5 as above.
+ */
+KECCAK_TABLES_MUST_USE
+keccak_tables_judgement keccak_tables_verdict_within(uint64_t nr, const uint64_t *core, size_t core_length, const uint64_t *round,
+                                                     size_t round_length, uint64_t *scratch, size_t scratch_length, uint64_t *spare,
+                                                     size_t spare_length);
+
+/*
+ * The line of that verdict, likewise. 8, 2, 3 and 5 as above; then 3 line < the line's length: there the tables are judged already, and the
+ * words that were used are 0.
+ */
+KECCAK_TABLES_MUST_USE
+keccak_tables_number keccak_tables_verdict_line_within(uint64_t nr, const uint64_t *core, size_t core_length, const uint64_t *round,
+                                                       size_t round_length, uint8_t *line, size_t line_length, uint64_t *scratch,
+                                                       size_t scratch_length, uint64_t *spare, size_t spare_length);
+
 /* ---- segments, then the job ---- */
 
 /*
@@ -754,6 +779,16 @@ KECCAK_TABLES_MUST_USE
 keccak_tables_answer keccak_tables_job(uint64_t nr, const uint64_t *core, size_t core_length, const uint64_t *round,
                                        size_t round_length, const uint64_t *counts, size_t counts_length, uint64_t *report,
                                        size_t report_length);
+
+/*
+ * The same report in lent memory, as keccak_tables_verdict_within is lent it: `scratch` and `spare` each two words for each row of the job's
+ * two tables. 8 and 2 as above; 3 report, then scratch, then spare; 5 as above.
+ */
+KECCAK_TABLES_MUST_USE
+keccak_tables_answer keccak_tables_job_within(uint64_t nr, const uint64_t *core, size_t core_length, const uint64_t *round,
+                                              size_t round_length, const uint64_t *counts, size_t counts_length, uint64_t *report,
+                                              size_t report_length, uint64_t *scratch, size_t scratch_length, uint64_t *spare,
+                                              size_t spare_length);
 
 /*
  * ---- operation files: records under two marks, in any order ----

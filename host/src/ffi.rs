@@ -254,8 +254,17 @@ bind! {
     verdict_line =
         keccak_tables_verdict_line(nr: u64, core: &[u64], round: &[u64], line: &mut [u8]) -> FlatNumber;
 
+    verdict_within = keccak_tables_verdict_within(
+        nr: u64, core: &[u64], round: &[u64], scratch: &mut [u64], spare: &mut [u64]) -> FlatVerdict;
+    verdict_line_within = keccak_tables_verdict_line_within(
+        nr: u64, core: &[u64], round: &[u64], line: &mut [u8], scratch: &mut [u64], spare: &mut [u64]) -> FlatNumber;
+
     job = keccak_tables_job(
         nr: u64, core: &[u64], round: &[u64], counts: &[u64], report: &mut [u64]) -> FlatAnswer;
+    job_within = keccak_tables_job_within(
+        nr: u64, core: &[u64], round: &[u64], counts: &[u64], report: &mut [u64],
+        scratch: &mut [u64], spare: &mut [u64]
+    ) -> FlatAnswer;
 
     same_operations = keccak_tables_same_operations(core: &[u64], file: &[u8]) -> FlatAgreement;
 

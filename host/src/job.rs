@@ -36,7 +36,7 @@
 use crate::ffi;
 use crate::parameters::Parameters;
 use crate::refusal::{NOT_WHOLE, Refusal, TOO_SHORT};
-use crate::verdict::{Verdict, from_words, of_verdict};
+use crate::verdict::{Verdict, from_words, halves, of_halves, of_verdict, own_scratch};
 
 /// The words of a segment in the list of counts: its core rows, then its round rows.
 pub const COUNT_WORDS: usize = 2;
@@ -47,6 +47,8 @@ pub const VERDICT_WORDS: usize = 4;
 
 /// Judges each segment of a job, and then the job, into the lent words: [`VERDICT_WORDS`] for each segment in order, and as many for the
 /// job. Rows and indexes are those of what was judged, so a segment's rows count from its own first. [`Report`] lends the words.
+///
+/// It allocates a scratch, as [`verdict`](crate::verdict::verdict) does; [`job_within`] is lent one, and [`job_alone`] has none.
 ///
 /// # Errors
 ///
@@ -69,11 +71,82 @@ pub fn job_with(
     counts: &[u64],
     report: &mut [u64],
 ) -> Result<(), Refusal> {
-    ffi::job(parameters.rounds, core, round, counts, report).named(|number, detail| match (number, detail) {
+    job_within_with(parameters, core, round, counts, report, &mut own_scratch(core, round))
+}
+
+/// The report of [`job`] in a lent scratch of [`scratch_words`](crate::verdict::scratch_words) words or more for the job's tables, which is
+/// used as [`verdict_within`](crate::verdict::verdict_within) uses it.
+///
+/// # Errors
+///
+/// [`NotWhole`](Refusal::NotWhole) as [`job`]; [`TooShort`](Refusal::TooShort): `report` as there, then `scratch`; then
+/// [`NotElement`](Refusal::NotElement) as [`job`].
+pub fn job_within(
+    core: &[u64],
+    round: &[u64],
+    counts: &[u64],
+    report: &mut [u64],
+    scratch: &mut [u64],
+) -> Result<(), Refusal> {
+    job_within_with(Parameters::default(), core, round, counts, report, scratch)
+}
+
+/// The report of [`job_with`], likewise.
+///
+/// # Errors
+///
+/// [`Rounds`](Refusal::Rounds): the rounds are not 1 to 24; then those of [`job_within`].
+pub fn job_within_with(
+    parameters: Parameters,
+    core: &[u64],
+    round: &[u64],
+    counts: &[u64],
+    report: &mut [u64],
+    scratch: &mut [u64],
+) -> Result<(), Refusal> {
+    let has_room = report.len() >= report_words(counts);
+    let (first, second) = halves(core, round, scratch);
+    ffi::job_within(parameters.rounds, core, round, counts, report, first, second)
+        .named(|number, detail| of_job(number, detail, core, has_room))
+        .map_err(of_halves)
+}
+
+/// The report of [`job`] without memory of its own, as [`verdict_alone`](crate::verdict::verdict_alone) judges.
+///
+/// # Errors
+///
+/// Those of [`job`].
+pub fn job_alone(core: &[u64], round: &[u64], counts: &[u64], report: &mut [u64]) -> Result<(), Refusal> {
+    job_alone_with(Parameters::default(), core, round, counts, report)
+}
+
+/// The report of [`job_with`], likewise.
+///
+/// # Errors
+///
+/// Those of [`job_with`].
+pub fn job_alone_with(
+    parameters: Parameters,
+    core: &[u64],
+    round: &[u64],
+    counts: &[u64],
+    report: &mut [u64],
+) -> Result<(), Refusal> {
+    ffi::job(parameters.rounds, core, round, counts, report).named(|number, detail| of_job(number, detail, core, false))
+}
+
+/// The words of the report on a job with these counts.
+fn report_words(counts: &[u64]) -> usize {
+    (counts.len() / COUNT_WORDS + 1) * VERDICT_WORDS
+}
+
+/// The argument of a refusal: where the report has room, it is another slice that is too short.
+fn of_job(number: u64, detail: u64, core: &[u64], has_room: bool) -> &'static str {
+    match (number, detail) {
         (NOT_WHOLE, 2) => "counts",
-        (TOO_SHORT, _) => "report",
+        (TOO_SHORT, _) if !has_room => "report",
         _ => of_verdict(number, detail, core),
-    })
+    }
 }
 
 /// A report, in memory of its own.
@@ -98,7 +171,7 @@ impl Report {
     ///
     /// Those of [`job_with`], but that no slice is too short.
     pub fn with(parameters: Parameters, core: &[u64], round: &[u64], counts: &[u64]) -> Result<Self, Refusal> {
-        let mut words = vec![0; (counts.len() / COUNT_WORDS + 1) * VERDICT_WORDS];
+        let mut words = vec![0; report_words(counts)];
         job_with(parameters, core, round, counts, &mut words)?;
         Ok(Self { words })
     }

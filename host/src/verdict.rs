@@ -1,10 +1,20 @@
 //! The verdict on a core table and a round table: whether both hold together, or the first failure.
+//!
+//! Each call has three forms, which answer the same:
+//!
+//! - by its own name it allocates a scratch while it judges, 32 bytes for each row of both tables: 2.2 MB for the tables of 2,730 calls;
+//! - with `_within` behind the name the scratch is lent, of [`scratch_words`] words;
+//! - with `_alone` behind the name it has no memory of its own.
+//!
+//! With a scratch the time grows as n log n with the rows, in whatever order they stand, which whoever judges foreign tables does not choose.
+//! Alone it is as quick for rows in the writer's order, and slower in others, up to the square of the rows.
 
 use std::fmt;
 
 use crate::ffi::{self, FlatVerdict};
 use crate::parameters::Parameters;
 use crate::refusal::{NOT_WHOLE, Refusal, TOO_SHORT, is_large_at};
+use crate::{keccak, keccak_rnd};
 
 /// One of the two tables.
 #[derive(Debug, Clone, Copy, PartialEq, Eq, Hash)]
@@ -69,8 +79,8 @@ impl Verdict {
     }
 }
 
-/// Judges a core table of rows of [`keccak::NUM_COLUMNS`](crate::keccak::NUM_COLUMNS) words and a round table of rows of
-/// [`keccak_rnd::NUM_COLUMNS`](crate::keccak_rnd::NUM_COLUMNS) words. Either may be empty.
+/// Judges a core table of rows of [`keccak::NUM_COLUMNS`] words and a round table of rows of
+/// [`keccak_rnd::NUM_COLUMNS`] words. Either may be empty.
 ///
 /// ```
 /// use keccak_tables::verdict::{Table, Verdict, verdict};
@@ -116,6 +126,77 @@ pub fn verdict(core: &[u64], round: &[u64]) -> Result<Verdict, Refusal> {
 ///
 /// [`Rounds`](Refusal::Rounds): the rounds are not 1 to 24; then those of [`verdict`].
 pub fn verdict_with(parameters: Parameters, core: &[u64], round: &[u64]) -> Result<Verdict, Refusal> {
+    verdict_within_with(parameters, core, round, &mut own_scratch(core, round))
+}
+
+/// The words of a scratch for each row of both tables.
+pub const SCRATCH_WORDS: usize = 4;
+
+/// The words of the scratch that is needed to judge these two tables: [`SCRATCH_WORDS`] for each row of both.
+#[must_use]
+pub const fn scratch_words(core: &[u64], round: &[u64]) -> usize {
+    SCRATCH_WORDS * (core.len() / keccak::NUM_COLUMNS + round.len() / keccak_rnd::NUM_COLUMNS)
+}
+
+/// The verdict of [`verdict`] in a lent scratch of [`scratch_words`] words or more. What it holds before does not matter; afterwards its
+/// first `scratch_words` words are 0 and those behind as they were, and where the call is refused all are.
+///
+/// ```
+/// use keccak_tables::verdict::{Verdict, scratch_words, verdict_within};
+/// use keccak_tables::{Refusal, keccak, keccak_rnd};
+///
+/// let (core, round) = (keccak::keccak_table(&[])?, keccak_rnd::keccak_rnd_table(&[])?);
+/// let needed = scratch_words(&core, &round);
+/// assert_eq!(needed, 4 * (4 + 4));
+/// let mut scratch = vec![7; needed + 1];
+/// assert_eq!(verdict_within(&core, &round, &mut scratch)?, Verdict::Holds { active: 0 });
+/// assert_eq!(scratch, [vec![0; needed], vec![7]].concat());
+///
+/// let refused = verdict_within(&core, &round, &mut scratch[..needed - 1]);
+/// assert_eq!(refused, Err(Refusal::TooShort { argument: "scratch", needed: needed as u64 }));
+/// # Ok::<(), Refusal>(())
+/// ```
+///
+/// # Errors
+///
+/// [`NotWhole`](Refusal::NotWhole) as [`verdict`]; [`TooShort`](Refusal::TooShort): `scratch` has fewer than [`scratch_words`] words; then
+/// [`NotElement`](Refusal::NotElement) as [`verdict`].
+pub fn verdict_within(core: &[u64], round: &[u64], scratch: &mut [u64]) -> Result<Verdict, Refusal> {
+    verdict_within_with(Parameters::default(), core, round, scratch)
+}
+
+/// The verdict of [`verdict_with`], likewise.
+///
+/// # Errors
+///
+/// [`Rounds`](Refusal::Rounds): the rounds are not 1 to 24; then those of [`verdict_within`].
+pub fn verdict_within_with(
+    parameters: Parameters,
+    core: &[u64],
+    round: &[u64],
+    scratch: &mut [u64],
+) -> Result<Verdict, Refusal> {
+    let (first, second) = halves(core, round, scratch);
+    let flat = ffi::verdict_within(parameters.rounds, core, round, first, second);
+    from_flat(flat, core).map_err(of_halves)
+}
+
+/// The verdict of [`verdict`] without memory of its own: as quick for rows in the writer's order, slower in others, up to the square of
+/// the rows.
+///
+/// # Errors
+///
+/// Those of [`verdict`].
+pub fn verdict_alone(core: &[u64], round: &[u64]) -> Result<Verdict, Refusal> {
+    verdict_alone_with(Parameters::default(), core, round)
+}
+
+/// The verdict of [`verdict_with`], likewise.
+///
+/// # Errors
+///
+/// Those of [`verdict_with`].
+pub fn verdict_alone_with(parameters: Parameters, core: &[u64], round: &[u64]) -> Result<Verdict, Refusal> {
     from_flat(ffi::verdict(parameters.rounds, core, round), core)
 }
 
@@ -157,15 +238,65 @@ pub fn verdict_line_with(
     round: &[u64],
     line: &mut [u8],
 ) -> Result<usize, Refusal> {
-    let name = |number, detail| {
-        if number == TOO_SHORT {
-            "line"
-        } else {
-            of_verdict(number, detail, core)
-        }
-    };
+    verdict_line_within_with(parameters, core, round, line, &mut own_scratch(core, round))
+}
+
+/// The line of [`verdict_line`] in a lent scratch, which is used as [`verdict_within`] uses it. Where the line does not fit, the tables are
+/// judged already, and the words used are 0.
+///
+/// # Errors
+///
+/// Those of [`verdict_within`]; then [`TooShort`](Refusal::TooShort): the line does not fit into `line`.
+pub fn verdict_line_within(
+    core: &[u64],
+    round: &[u64],
+    line: &mut [u8],
+    scratch: &mut [u64],
+) -> Result<usize, Refusal> {
+    verdict_line_within_with(Parameters::default(), core, round, line, scratch)
+}
+
+/// The line of [`verdict_line_with`], likewise.
+///
+/// # Errors
+///
+/// [`Rounds`](Refusal::Rounds): the rounds are not 1 to 24; then those of [`verdict_line_within`].
+pub fn verdict_line_within_with(
+    parameters: Parameters,
+    core: &[u64],
+    round: &[u64],
+    line: &mut [u8],
+    scratch: &mut [u64],
+) -> Result<usize, Refusal> {
+    let has_room = scratch.len() >= scratch_words(core, round);
+    let (first, second) = halves(core, round, scratch);
+    let answer = ffi::verdict_line_within(parameters.rounds, core, round, line, first, second);
+    let answer = answer.named(|number, detail| of_line(number, detail, core, has_room));
+    answer.map(|length| length as usize).map_err(of_halves)
+}
+
+/// The line of [`verdict_line`] without memory of its own, as [`verdict_alone`] judges.
+///
+/// # Errors
+///
+/// Those of [`verdict_line`].
+pub fn verdict_line_alone(core: &[u64], round: &[u64], line: &mut [u8]) -> Result<usize, Refusal> {
+    verdict_line_alone_with(Parameters::default(), core, round, line)
+}
+
+/// The line of [`verdict_line_with`], likewise.
+///
+/// # Errors
+///
+/// Those of [`verdict_line_with`].
+pub fn verdict_line_alone_with(
+    parameters: Parameters,
+    core: &[u64],
+    round: &[u64],
+    line: &mut [u8],
+) -> Result<usize, Refusal> {
     ffi::verdict_line(parameters.rounds, core, round, line)
-        .named(name)
+        .named(|number, detail| of_line(number, detail, core, true))
         .map(|length| length as usize)
 }
 
@@ -233,12 +364,49 @@ pub(crate) fn from_words([kind, first, row, index]: [u64; 4]) -> Option<Verdict>
 
 /// The argument of a refusal: of what is not whole the detail says which, and the core table's words are checked first.
 pub(crate) fn of_verdict(number: u64, detail: u64, core: &[u64]) -> &'static str {
-    let is_core = if number == NOT_WHOLE {
-        detail == 0
-    } else {
-        is_large_at(detail, core)
+    let is_core = match number {
+        TOO_SHORT => return SCRATCH,
+        NOT_WHOLE => detail == 0,
+        _ => is_large_at(detail, core),
     };
     if is_core { "core" } else { "round" }
+}
+
+/// The same of a line, which alone is too short where the scratch has room.
+fn of_line(number: u64, detail: u64, core: &[u64], has_room: bool) -> &'static str {
+    if number == TOO_SHORT && has_room {
+        "line"
+    } else {
+        of_verdict(number, detail, core)
+    }
+}
+
+/// The argument that is lent as two slices.
+const SCRATCH: &str = "scratch";
+
+/// A scratch for these tables.
+pub(crate) fn own_scratch(core: &[u64], round: &[u64]) -> Vec<u64> {
+    vec![0; scratch_words(core, round)]
+}
+
+/// A scratch as the two slices that the archive is lent: half of the words that are needed, and what is behind them.
+pub(crate) fn halves<'a>(core: &[u64], round: &[u64], scratch: &'a mut [u64]) -> (&'a mut [u64], &'a mut [u64]) {
+    let half = scratch_words(core, round) / 2;
+    scratch.split_at_mut(half.min(scratch.len()))
+}
+
+/// A refusal of either slice is one of the scratch, which needs twice as many words.
+pub(crate) fn of_halves(refusal: Refusal) -> Refusal {
+    match refusal {
+        Refusal::TooShort {
+            argument: SCRATCH,
+            needed,
+        } => Refusal::TooShort {
+            argument: SCRATCH,
+            needed: 2 * needed,
+        },
+        other => other,
+    }
 }
 
 /// One line: `holds N`; or `core` or `round`, `row R`, then `value I`, `lookup I`, `timestamp 0` or `balance I`: that of

@@ -663,6 +663,77 @@ static void state_orders(void) {
     CHECK(memcmp(to, out + 3, sizeof to) == 0 && memcmp(to, from, sizeof to) != 0);
 }
 
+/* Room for the places of the tuples of one operation's tables, and a word past it. */
+enum { PLACES = KECCAK_TABLES_SCRATCH_WORDS * (4 + 32) };
+
+static void put_guards(uint64_t *words, size_t length) {
+    for (size_t word = 0; word < length; word++)
+        words[word] = GUARD;
+}
+
+/* The first words are 0, and all up to the length are as they were behind them. */
+static void check_zeros(const uint64_t *words, size_t zeros, size_t length) {
+    for (size_t word = 0; word < length; word++)
+        CHECK(words[word] == (word < zeros ? 0 : GUARD));
+}
+
+/* The verdict on the same tables, which hold, in lent memory: of just the length, longer, and either slice a word short. */
+static void verdict_within(void) {
+    uint64_t scratch[PLACES + 2], spare[PLACES + 2];
+    for (size_t more = 0; more < 2; more++) {
+        put_guards(scratch, PLACES + 2);
+        put_guards(spare, PLACES + 2);
+        keccak_tables_judgement verdict =
+            CALL(keccak_tables_verdict_within)(ROUNDS, core, CORE, rounds, ROUND, scratch, PLACES + more, spare, PLACES + 1 - more);
+        CHECK(verdict.kind == KECCAK_TABLES_VERDICT_HOLDS && verdict.active == 1 && verdict.row == 0 && verdict.index == 0);
+        check_zeros(scratch, PLACES, PLACES + 2);
+        check_zeros(spare, PLACES, PLACES + 2);
+    }
+    uint8_t line[KECCAK_TABLES_LINE_MOST];
+    memset(line, 0xA5, sizeof line);
+    put_guards(scratch, PLACES + 2);
+    put_guards(spare, PLACES + 2);
+    keccak_tables_number length = CALL(keccak_tables_verdict_line_within)(ROUNDS, core, CORE, rounds, ROUND, line, sizeof line, scratch,
+                                                                          PLACES + 1, spare, PLACES);
+    DONE(length);
+    CHECK(length.value == 7 && memcmp(line, "holds 1", 7) == 0 && line[7] == 0xA5);
+    check_zeros(scratch, PLACES, PLACES + 2);
+    check_zeros(spare, PLACES, PLACES + 2);
+    /* A line that does not fit is told when the tables are judged. */
+    put_guards(scratch, PLACES + 2);
+    put_guards(spare, PLACES + 2);
+    length = keccak_tables_verdict_line_within(ROUNDS, core, CORE, rounds, ROUND, line, 6, scratch, PLACES, spare, PLACES);
+    CHECK(length.refusal == 3 && length.detail == 7 && length.value == 0);
+    check_zeros(scratch, PLACES, PLACES + 2);
+    check_zeros(spare, PLACES, PLACES + 2);
+}
+
+/* Refused, both slices are as they were: scratch before spare, both after the rows and before the words, of which the last is none now. */
+static void verdict_within_refused(void) {
+    uint64_t scratch[PLACES], spare[PLACES];
+    uint8_t line[7];
+    put_guards(scratch, PLACES);
+    put_guards(spare, PLACES);
+    const struct {
+        size_t round, scratch, spare;
+        uint64_t refusal, detail;
+    } cases[] = {
+        {ROUND - 1, 0, 0, 2, 1},           {ROUND, PLACES - 1, PLACES, 3, PLACES}, {ROUND, PLACES, PLACES - 1, 3, PLACES},
+        {ROUND, 0, 0, 3, PLACES},          {ROUND, PLACES, PLACES, 5, ROUND - 1},  {0, 0, 7, 3, PLACES - 64},
+    };
+    for (size_t i = 0; i < sizeof cases / sizeof *cases; i++) {
+        keccak_tables_judgement verdict = keccak_tables_verdict_within(ROUNDS, core, CORE, rounds, cases[i].round, scratch,
+                                                                       cases[i].scratch, spare, cases[i].spare);
+        CHECK(verdict.kind == KECCAK_TABLES_VERDICT_REFUSED && verdict.index == 0);
+        CHECK(verdict.refusal == cases[i].refusal && verdict.detail == cases[i].detail);
+        keccak_tables_number length = keccak_tables_verdict_line_within(ROUNDS, core, CORE, rounds, cases[i].round, line, sizeof line,
+                                                                        scratch, cases[i].scratch, spare, cases[i].spare);
+        REFUSED(length, cases[i].refusal, cases[i].detail);
+    }
+    check_zeros(scratch, 0, PLACES);
+    check_zeros(spare, 0, PLACES);
+}
+
 /* The operation claims a zero output, which is wrong; then the output is put right by the last round's row. */
 static void verdict_calls(void) {
     uint64_t out[203];
@@ -690,7 +761,9 @@ static void verdict_calls(void) {
     CHECK(verdict.kind == KECCAK_TABLES_VERDICT_REFUSED && verdict.refusal == 2 && verdict.detail == 0 && verdict.index == 0);
     verdict = keccak_tables_verdict(ROUNDS, core, CORE, rounds, ROUND - 1);
     CHECK(verdict.kind == KECCAK_TABLES_VERDICT_REFUSED && verdict.refusal == 2 && verdict.detail == 1 && verdict.index == 0);
+    verdict_within();
     rounds[ROUND - 1] = UINT64_MAX;
+    verdict_within_refused();
     verdict = keccak_tables_verdict(ROUNDS, core, CORE, rounds, ROUND);
     CHECK(verdict.kind == KECCAK_TABLES_VERDICT_REFUSED && verdict.refusal == 5 && verdict.detail == ROUND - 1 && verdict.index == 0);
 }
@@ -745,6 +818,34 @@ static void fewer_rounds(void) {
     CHECK(constants[320] == GUARD);
 }
 
+/* The report on a job of two such segments in lent memory: slices that are too short, in their order, and what each holds afterwards. */
+static void job_within(const uint64_t *cores, const uint64_t *tables, const uint64_t *counts, const uint64_t *expected) {
+    uint64_t report[13], scratch[2 * PLACES + 1], spare[2 * PLACES + 1];
+    put_guards(report, 13);
+    put_guards(scratch, 2 * PLACES + 1);
+    put_guards(spare, 2 * PLACES + 1);
+    keccak_tables_answer answer =
+        keccak_tables_job_within(ROUNDS, cores, 2 * CORE, tables, 2 * ROUND, counts, 3, report, 11, scratch, 0, spare, 0);
+    REFUSED(answer, 2, 2);
+    answer = keccak_tables_job_within(ROUNDS, cores, 2 * CORE, tables, 2 * ROUND, counts, 4, report, 11, scratch, 0, spare, 0);
+    REFUSED(answer, 3, 12);
+    answer = keccak_tables_job_within(ROUNDS, cores, 2 * CORE, tables, 2 * ROUND, counts, 4, report, 12, scratch, 2 * PLACES - 1, spare,
+                                      2 * PLACES);
+    REFUSED(answer, 3, 2 * PLACES);
+    answer = keccak_tables_job_within(ROUNDS, cores, 2 * CORE, tables, 2 * ROUND, counts, 4, report, 12, scratch, 2 * PLACES, spare,
+                                      2 * PLACES - 1);
+    REFUSED(answer, 3, 2 * PLACES);
+    check_zeros(report, 0, 13);
+    check_zeros(scratch, 0, 2 * PLACES + 1);
+    check_zeros(spare, 0, 2 * PLACES + 1);
+    answer = CALL(keccak_tables_job_within)(ROUNDS, cores, 2 * CORE, tables, 2 * ROUND, counts, 4, report, 13, scratch, 2 * PLACES + 1,
+                                            spare, 2 * PLACES);
+    DONE(answer);
+    CHECK(memcmp(report, expected, 12 * sizeof *report) == 0 && report[12] == GUARD);
+    check_zeros(scratch, 2 * PLACES, 2 * PLACES + 1);
+    check_zeros(spare, 2 * PLACES, 2 * PLACES + 1);
+}
+
 /*
  * The operation twice, at two times and with its output, as a job of two segments: as written; then with the first round row of the second
  * filed with the first, where nobody sends what it receives.
@@ -775,6 +876,7 @@ static void job(void) {
     answer = CALL(keccak_tables_job)(ROUNDS, cores, 2 * CORE, tables, 2 * ROUND, counts, 2 * KECCAK_TABLES_COUNT_WORDS, report, 13);
     DONE(answer);
     CHECK(memcmp(report, each, sizeof each) == 0 && report[12] == GUARD);
+    job_within(cores, tables, counts, each);
     const uint64_t misfiled[12] = {KECCAK_TABLES_VERDICT_BALANCE, KECCAK_TABLES_TABLE_ROUND, 32, 0,
                                    KECCAK_TABLES_VERDICT_BALANCE, KECCAK_TABLES_TABLE_CORE,  0,  2, 0, 2, 0, 0};
     counts[1]++;
@@ -814,6 +916,7 @@ static void no_rounds(void) {
             keccak_tables_register_look(nr, FLOOR + 1, false, 1, operation, OP - 1, &word, 1, &word, 1, &word, 0, &word, 0),
             keccak_tables_month(nr, FLOOR + 1, &word, 1, &word, 0),
             keccak_tables_job(nr, &word, 1, &word, 1, &word, 1, &word, 0),
+            keccak_tables_job_within(nr, &word, 1, &word, 1, &word, 1, &word, 0, &word, 0, &word, 0),
         };
         for (size_t call = 0; call < sizeof answers / sizeof *answers; call++)
             REFUSED(answers[call], KECCAK_TABLES_REFUSAL_ROUNDS, nr);
@@ -821,12 +924,15 @@ static void no_rounds(void) {
             keccak_tables_keccak_rnd_height(nr, FLOOR + 1, SIZE_MAX),
             keccak_tables_padding_are_bytes(nr, FLOOR + 1, SIZE_MAX),
             keccak_tables_verdict_line(nr, &word, 1, &word, 1, &byte, 1),
+            keccak_tables_verdict_line_within(nr, &word, 1, &word, 1, &byte, 1, &word, 0, &word, 0),
         };
         for (size_t call = 0; call < sizeof given / sizeof *given; call++)
             CHECK(given[call].refusal == KECCAK_TABLES_REFUSAL_ROUNDS && given[call].detail == nr && given[call].value == 0);
         keccak_tables_tuple tuple = keccak_tables_keccak_bus_interaction(nr, &word, 1, SIZE_MAX, 0, &word, 0);
         REFUSED(tuple, KECCAK_TABLES_REFUSAL_ROUNDS, nr);
         keccak_tables_judgement verdict = keccak_tables_verdict(nr, &word, 1, &word, 1);
+        CHECK(verdict.kind == KECCAK_TABLES_VERDICT_REFUSED && verdict.refusal == 8 && verdict.detail == nr && verdict.index == 0);
+        verdict = keccak_tables_verdict_within(nr, &word, 1, &word, 1, &word, 0, &word, 0);
         CHECK(verdict.kind == KECCAK_TABLES_VERDICT_REFUSED && verdict.refusal == 8 && verdict.detail == nr && verdict.index == 0);
         CHECK(word == KECCAK_TABLES_P && byte == 0xA5);
     }

@@ -811,8 +811,10 @@ fn sent_on(row: &[u64]) -> [u64; 25] {
 #[test]
 fn no_number_of_rounds() {
     type Call = fn(Parameters, &mut [u64]) -> Result<(), Refusal>;
-    let calls: [Call; 18] = [
+    let calls: [Call; 24] = [
         |with, report| job::job_with(with, &[P], &[P], &[P], report),
+        |with, report| job::job_alone_with(with, &[P], &[P], &[P], report),
+        |with, scratch| job::job_within_with(with, &[P], &[P], &[P], &mut [], scratch),
         |with, counters| registers::charge_with(with, 9, &[P], counters, &mut []),
         |with, copy| registers::look_with(with, 9, &[P], &[P], &[], copy, &mut []),
         |with, table| keccak_rnd::generate_keccak_rnd_trace_with(with, &[P], table),
@@ -824,7 +826,11 @@ fn no_number_of_rounds() {
         |with, out| keccak::bus_interaction_with(with, &[P], usize::MAX, 0, out).map(drop),
         |with, out| keccak::bus_interactions_with(with, &[P], 0, out),
         |with, _| verdict::verdict_with(with, &[P], &[P]).map(drop),
+        |with, _| verdict::verdict_alone_with(with, &[P], &[P]).map(drop),
+        |with, scratch| verdict::verdict_within_with(with, &[P], &[P], scratch).map(drop),
         |with, _| verdict::verdict_line_with(with, &[P], &[P], &mut []).map(drop),
+        |with, _| verdict::verdict_line_alone_with(with, &[P], &[P], &mut []).map(drop),
+        |with, scratch| verdict::verdict_line_within_with(with, &[P], &[P], &mut [], scratch).map(drop),
         |with, _| verdict::verdict_text_with(with, &[P], &[P]).map(drop),
         |with, counters| segment::charge_with(with, &[P], counters),
         |with, copy| segment::look_with(with, &[P], &[P], copy, &mut []),
@@ -1112,6 +1118,48 @@ fn verdict_calls() {
     assert_eq!((words.len(), words[9]), (6 + 203, core[210].to_string().as_str()));
 }
 
+/// The verdict and its line without memory of their own, and in a scratch: what it holds afterwards, and which slice is too short.
+#[test]
+fn verdicts_in_lent_memory() {
+    let list = operation().words();
+    let mut core = keccak::keccak_table(&list).expect("a core table");
+    let round = keccak_rnd::keccak_rnd_table(&list).expect("a round table");
+    let answer = verdict::verdict(&core, &round);
+    assert_eq!(verdict::verdict_alone(&core, &round), answer);
+    let needed = verdict::scratch_words(&core, &round);
+    assert_eq!((needed, verdict::scratch_words(&core[1..], &[])), (4 * 36, 4 * 3));
+    let mut scratch = vec![GUARD; needed + 1];
+    let used = [vec![0; needed], vec![GUARD]].concat();
+    assert_eq!(verdict::verdict_within(&core, &round, &mut scratch), answer);
+    assert_eq!(scratch, used);
+
+    let text = verdict::verdict_text(&core, &round).expect("a line");
+    let mut line = [0xA5; verdict::LINE_MOST];
+    let length = verdict::verdict_line_alone(&core, &round, &mut line);
+    assert_eq!((length, &line[..text.len()]), (Ok(text.len()), text.as_bytes()));
+    let (mut line, mut scratch) = ([0xA5; verdict::LINE_MOST], vec![GUARD; needed + 1]);
+    let length = verdict::verdict_line_within(&core, &round, &mut line, &mut scratch);
+    assert_eq!((length, &line[..text.len()]), (Ok(text.len()), text.as_bytes()));
+    assert_eq!((line[text.len()], &scratch), (0xA5, &used));
+
+    // A line that does not fit is refused when the tables are judged, and a scratch before.
+    scratch.fill(GUARD);
+    let refused = verdict::verdict_line_within(&core, &round, &mut [], &mut scratch);
+    assert_eq!((refused, &scratch), (Err(too_short("line", text.len() as u64)), &used));
+    scratch.fill(GUARD);
+    core[7] = P;
+    for room in [0, 1, needed / 2 - 1, needed / 2, needed - 1] {
+        let short = Err(too_short("scratch", needed as u64));
+        let refused = verdict::verdict_within(&core, &round, &mut scratch[..room]);
+        assert_eq!(refused.map(drop), short, "{room} words");
+        let refused = verdict::verdict_line_within(&core, &round, &mut [], &mut scratch[..room]);
+        assert_eq!(refused.map(drop), short, "{room} words");
+    }
+    let refused = verdict::verdict_within(&core, &round, &mut scratch);
+    assert_eq!(refused, Err(not_element("core", 7)));
+    assert!(scratch.iter().all(|&word| word == GUARD));
+}
+
 /// Tables of twelve rounds, judged by their own number and by others.
 #[test]
 fn verdicts_by_rounds() {
@@ -1130,17 +1178,26 @@ fn verdicts_by_rounds() {
         verdict::verdict_text_with(twelve, &core, &round),
         Ok("holds 1".to_string())
     );
+    let mut scratch = vec![GUARD; verdict::scratch_words(&core, &round)];
     for rounds in [1, 11, 13, 24] {
         let parameters = Parameters::default().rounds(rounds);
         let answer = verdict::verdict_with(parameters, &core, &round);
         let (table, row, index) = (Table::Core, 0, 2);
         assert_eq!(answer, Ok(Verdict::Unbalanced { table, row, index }), "{rounds}");
+        assert_eq!(verdict::verdict_alone_with(parameters, &core, &round), answer);
+        assert_eq!(
+            verdict::verdict_within_with(parameters, &core, &round, &mut scratch),
+            answer
+        );
         let begins = format!("core row 0 balance 2 Keccak 5 0 {} 0 0 ", 24 - rounds);
         let text = verdict::verdict_text_with(parameters, &core, &round).expect("a line");
         assert!(text.starts_with(&begins), "{text}");
         let mut line = [0xA5; verdict::LINE_MOST];
         let length = verdict::verdict_line_with(parameters, &core, &round, &mut line);
         assert_eq!((length, &line[..text.len()]), (Ok(text.len()), text.as_bytes()));
+        let alone = verdict::verdict_line_alone_with(parameters, &core, &round, &mut line);
+        let within = verdict::verdict_line_within_with(parameters, &core, &round, &mut line, &mut scratch);
+        assert_eq!((alone, within), (length, length));
     }
     assert_eq!(
         verdict::verdict(&core, &round),
@@ -1170,6 +1227,11 @@ fn job_calls() {
     let counts = [4, 16, 4, 16];
     assert_eq!(job::job_with(twelve(), &core, &round, &counts, &mut report), Ok(()));
     assert_eq!(report, [0, 1, 0, 0, 0, 1, 0, 0, 0, 2, 0, 0, GUARD]);
+    let alone = |report: &mut [u64]| job::job_alone_with(twelve(), &core, &round, &counts, report);
+    let within = |report: &mut [u64], scratch: &mut [u64]| {
+        job::job_within_with(twelve(), &core, &round, &counts, report, scratch)
+    };
+    forms_of_a_job(&report, 4 * (8 + 32), alone, within);
     let own = Report::with(twelve(), &core, &round, &counts).expect("a report");
     assert_eq!(
         (own.words(), own.holds(), own.segments().len()),
@@ -1188,6 +1250,9 @@ fn job_calls() {
     // By 24 rounds nothing takes INPUT anywhere.
     assert_eq!(job::job(&core, &round, &counts, &mut report), Ok(()));
     assert_eq!(report[..12], [6, 0, 0, 2].repeat(3));
+    let alone = |report: &mut [u64]| job::job_alone(&core, &round, &counts, report);
+    let within = |report: &mut [u64], scratch: &mut [u64]| job::job_within(&core, &round, &counts, report, scratch);
+    forms_of_a_job(&report, 4 * (8 + 32), alone, within);
     assert_eq!(
         Report::new(&core, &round, &counts).map(|own| own.job()),
         Ok(unbalanced(Table::Core, 0, 2))
@@ -1207,6 +1272,27 @@ fn job_calls() {
     round[7] = P;
     let refused = job::job(&core, &round, &counts, &mut report);
     assert_eq!((refused, report), (Err(not_element("round", 7)), [GUARD; 13]));
+}
+
+/// The report of a job without memory of its own, and in a scratch of so many words: which slice is too short, and what both hold afterwards.
+fn forms_of_a_job(
+    expected: &[u64; 13],
+    needed: usize,
+    alone: impl Fn(&mut [u64]) -> Result<(), Refusal>,
+    within: impl Fn(&mut [u64], &mut [u64]) -> Result<(), Refusal>,
+) {
+    let mut report = [GUARD; 13];
+    assert_eq!((alone(&mut report), &report), (Ok(()), expected));
+    assert_eq!(alone(&mut report[..11]), Err(too_short("report", 12)));
+    let (mut report, mut scratch) = ([GUARD; 13], vec![GUARD; needed + 1]);
+    assert_eq!(within(&mut report[..11], &mut []), Err(too_short("report", 12)));
+    for room in [0, needed / 2 - 1, needed / 2, needed - 1] {
+        let refused = within(&mut report, &mut scratch[..room]);
+        assert_eq!(refused, Err(too_short("scratch", needed as u64)), "{room} words");
+    }
+    assert_eq!((report, &scratch), ([GUARD; 13], &vec![GUARD; needed + 1]));
+    assert_eq!((within(&mut report, &mut scratch), &report), (Ok(()), expected));
+    assert_eq!(scratch, [vec![0; needed], vec![GUARD]].concat());
 }
 
 #[test]
@@ -1403,7 +1489,8 @@ fn none_is_left_out() {
     // a charge and a look by parameters, and the four of a look of its own; and by parameters again a core row's tuple and its tuples, three of
     // the core table, five of the round table, the constants' multiplicities, a verdict, its line and its text; of registers, how many are in
     // use, both calls by parameters, and the four of a look of its own; a job by parameters and the six of a report of its own; the operations of so many
-    // bytes, and the three of a digest; a month by parameters and the three of a month by its names; and whether a file and
-    // a table are the same.
-    assert_eq!(functions, interface::exports().len() + 63);
+    // bytes, and the three of a digest; a month by parameters and the three of a month by its names; whether a file and
+    // a table are the same; the words of a scratch, and of a verdict, its line and a job the form without memory of its own, and by parameters
+    // that and the one in lent memory.
+    assert_eq!(functions, interface::exports().len() + 73);
 }

@@ -91,6 +91,8 @@ fn sizes() -> BTreeMap<String, u64> {
         ("LINE_MOST", verdict::LINE_MOST as u64),
         ("COUNT_WORDS", job::COUNT_WORDS as u64),
         ("VERDICT_WORDS", job::VERDICT_WORDS as u64),
+        // By C linkage a scratch is two slices.
+        ("SCRATCH_WORDS", verdict::SCRATCH_WORDS as u64 / 2),
     ];
     sizes.map(|(name, number)| (name.to_string(), number)).into()
 }

@@ -2,10 +2,13 @@
 //! is wrong.
 
 use keccak_tables::bitwise::{self, NUM_COUNTERS, TABLE_WORDS};
-use keccak_tables::job::job;
+use keccak_tables::job::{job, job_alone, job_within};
 use keccak_tables::operation_file::{read_operations, write_operations};
 use keccak_tables::same_operations::{Agreement, same_operations};
-use keccak_tables::verdict::{verdict, verdict_line_with, verdict_with};
+use keccak_tables::verdict::{
+    verdict, verdict_alone_with, verdict_line_alone, verdict_line_with, verdict_line_within, verdict_with,
+    verdict_within,
+};
 use keccak_tables::{Lent, OP_WORDS, P, Parameters, Refusal, is_wh, keccak, keccak_rc, keccak_rnd, registers, segment};
 
 fn past_end<T>(argument: &'static str, limit: u64) -> Result<T, Refusal> {
@@ -323,22 +326,62 @@ fn a_core_table_before_a_round_table() {
     assert_eq!(verdict(&[], &round), not_element("round", 1479));
     let with = Parameters::default().rounds(7);
     assert_eq!(verdict_with(with, &core, &round), not_element("core", 7));
+    assert_eq!(verdict_alone_with(with, &core, &round), not_element("core", 7));
     assert_eq!(
         verdict_line_with(with, &[], &round, &mut []),
         not_element("round", 1479)
     );
+    assert_eq!(verdict_line_alone(&[], &round, &mut []), not_element("round", 1479));
+    assert_eq!(verdict_line_alone(&[], &[], &mut []), too_short("line", 7));
 }
 
-/// The tables' rows, then the counts, then the report, then the tables' words.
+/// The tables' rows, then the scratch, whichever part of it is short, then the tables' words, then the line.
+#[test]
+fn a_scratch_before_the_words_of_tables_before_a_line() {
+    let (mut core, mut round) = (vec![0; 486], vec![0; 2 * 1480]);
+    core[9] = P;
+    round[7] = P;
+    let mut scratch = [0; 13];
+    let not_whole = |argument, which| Err(Refusal::NotWhole { argument, which });
+    let mut judge = |core: &[u64], round: &[u64], words: usize| {
+        let line = verdict_line_within(core, round, &mut [], &mut scratch[..words]).map(drop);
+        let verdict = verdict_within(core, round, &mut scratch[..words]).map(drop);
+        assert!(line == verdict || (line, verdict) == (too_short("line", 7), Ok(())));
+        line
+    };
+    assert_eq!(judge(&core[1..], &round[1..], 0), not_whole("core", Lent::Core));
+    assert_eq!(judge(&core, &round[1..], 0), not_whole("round", Lent::Round));
+    for words in [0, 5, 6, 11] {
+        assert_eq!(judge(&core, &round, words), too_short("scratch", 12), "{words} words");
+    }
+    assert_eq!(judge(&core, &round, 12), not_element("core", 9));
+    core[9] = 0;
+    assert_eq!(judge(&core, &round, 13), not_element("round", 7));
+    round[7] = 0;
+    assert_eq!(judge(&core, &round, 11), too_short("scratch", 12));
+    assert_eq!(judge(&core, &round, 12), too_short("line", 7));
+    assert_eq!(judge(&[], &[], 0), too_short("line", 7));
+}
+
+/// The tables' rows, then the counts, then the report, then a scratch, then the tables' words.
 #[test]
 fn a_job_s_tables_before_its_counts_before_its_report() {
     let (mut core, mut round) = (vec![0; 2 * 486], vec![0; 1480]);
     core[9] = P;
     round[7] = P;
-    let mut report = [0; 12];
+    let (mut report, mut scratch) = ([0; 12], [0; 12]);
     let not_whole = |argument, which| Err(Refusal::NotWhole { argument, which });
-    let mut call =
-        |core: &[u64], round: &[u64], counts: &[u64], words: usize| job(core, round, counts, &mut report[..words]);
+    let mut call = |core: &[u64], round: &[u64], counts: &[u64], words: usize| {
+        let report = &mut report[..words];
+        let answer = job(core, round, counts, report);
+        assert_eq!(job_alone(core, round, counts, report), answer);
+        assert_eq!(job_within(core, round, counts, report, &mut scratch), answer);
+        // A scratch that is too short is told before a word, and after all else.
+        let short = job_within(core, round, counts, report, &mut scratch[..11]);
+        let before = matches!(answer, Err(Refusal::NotWhole { .. } | Refusal::TooShort { .. }));
+        assert_eq!(short, if before { answer } else { too_short("scratch", 12) });
+        answer
+    };
     assert_eq!(call(&core[1..], &round[1..], &[1], 0), not_whole("core", Lent::Core));
     assert_eq!(call(&core, &round[1..], &[1], 0), not_whole("round", Lent::Round));
     for counts in [&[1][..], &[1, 1], &[2, 0], &[2, 1, 0], &[u64::MAX, 1, 3, 0]] {

@@ -5,6 +5,7 @@ use mathlib.Core.Option.{none, some}
 use mathlib.Core.List.{List}
 use Prim.Native.Nat.{ℕ, _*_, _/_, _≤_, _<_, _^_}
 use native.Mathlib.Omega.{arith}
+use lib.Dec.{ltb}
 use lib.ListN.{length, take, drop}
 use lib.Seq.{sets, take-at}
 use Rattle.lists.proofs.Laws.{sets-front}
@@ -14,7 +15,7 @@ use Rattle.answer.specs.declared.Number.the-variants as number
 use Rattle.answer.proofs.Laws.{kept, written, number-refused, number-is, sets-overwrite, new-words, old-words}
 use Rattle.sort.specs.Sorted.{sorted, Ascends}
 use Rattle.sort.proofs.Laws.{length-sorted}
-use Rattle.sort.proofs.Unique.{sorted-ascends}
+use Rattle.sort.proofs.Words.{sorted-ascends}
 use Rattle.is_wh_rows.specs.Rows.{Row, keyCode, codes, rowsOf, flat}
 use Rattle.is_wh_rows.specs.Loads.{loads, total, rowsIn}
 use Rattle.is_wh_rows.specs.Calls.{dedupRefusal, dedupAnswer, loadsAfter, rowsAfter}
@@ -36,7 +37,7 @@ module _ (keys C S R : List ℕ) where
   module _ (ok : dedupRefusal (length C) (length S) (length R) keys ≡ none) (C₁ S₁ : List ℕ) (m : ℕ)
       (em : m ≡ length (loads keys)) (ec : C₁ ≡ sets C 0 (sorted (loads keys))) (es : S₁ ≡ sets S 0 (sorted (loads keys))) where
     long : length (sorted (loads keys)) ≡ m
-    long = length-sorted (loads keys) ∙ sym em
+    long = length-sorted ltb (loads keys) ∙ sym em
 
     pub front-fits : m ≤ length C
     front-fits = omega (arith, long, loads-few keys, dedup-passed (length C) (length S) (length R) keys ok .0 .codes-long)

@@ -17,8 +17,8 @@ use Rattle.lists.proofs.Count.{count-same}
 use Rattle.lists.proofs.Tests.{true-and, false-and}
 use Rattle.lists.proofs.Then.{by-le}
 use Rattle.sort.specs.Sorted.{copies}
-use Rattle.sort.proofs.Laws.{Least, least-le}
-use Rattle.sort.proofs.Unique.{copies-below, copies-none}
+use Rattle.sort.proofs.Unique.{copies-none}
+use Rattle.sort.proofs.Words.{Least, least-le, copies-below}
 use Rattle.is_wh_rows.specs.Rows.{Row, MU-MAX, keyCode, codes, place, distinct, rowOf, rowsNeeded, muOf, keyRows, rowsFor, rowsOf}
 use Rattle.is_wh_rows.specs.Lists.{badAt}
 use Rattle.is_wh_rows.specs.Meaning.{timesSent, timesCounted}

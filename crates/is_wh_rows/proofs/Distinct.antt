@@ -5,11 +5,11 @@ use mathlib.Core.List.{List, [], _∷_, _++_}
 use Prim.Native.Nat.{ℕ, suc, _+_, _≤_, _<_}
 use native.Mathlib.Omega.{arith}
 use borrow.Author.Tests.{lt-ltb, le-ltb, eq-eqb, ne-eqb}
-use lib.Dec.{eqb, leb, ltb}
+use lib.Dec.{eqb, ltb}
 use Rattle.lists.specs.Tab.{pick}
 use Rattle.lists.proofs.Then.{by-le}
-use Rattle.sort.specs.Sorted.{insert, sorted}
-use Rattle.sort.proofs.Laws.{Least}
+use Rattle.sort.specs.Sorted.{insertBy, sortedBy, insert, sorted}
+use Rattle.sort.proofs.Words.{Least}
 use Rattle.is_wh_rows.specs.Rows.{Row, place, distinct, keyRows, rowsFor}
 
 -- x before, at or past the first word
@@ -65,16 +65,16 @@ place-comm x y l =
 -- ---- distinct
 
 distinct-insert : (x : ℕ) (l : List ℕ) → distinct (insert x l) ≡ place x (distinct l)
-unfolding insert distinct
+unfolding insertBy distinct
 distinct-insert x [] = refl
-distinct-insert x (y ∷ l) = go (leb x y) (distinct-insert x l)
+distinct-insert x (y ∷ l) = go (ltb y x) (distinct-insert x l)
   where
-    go : (b : Bool) → distinct (insert x l) ≡ place x (distinct l) → distinct (pick b (x ∷ y ∷ l) (y ∷ insert x l)) ≡ place x (place y (distinct l))
-    go true e = refl
-    go false e = ap (place y) e ∙ place-comm y x (distinct l)
+    go : (b : Bool) → distinct (insert x l) ≡ place x (distinct l) → distinct (pick b (y ∷ insert x l) (x ∷ y ∷ l)) ≡ place x (place y (distinct l))
+    go true e = ap (place y) e ∙ place-comm y x (distinct l)
+    go false e = refl
 
 pub distinct-sorted : (l : List ℕ) → distinct (sorted l) ≡ distinct l
-unfolding sorted distinct
+unfolding sortedBy distinct
 distinct-sorted [] = refl
 distinct-sorted (x ∷ l) = distinct-insert x (sorted l) ∙ ap (place x) (distinct-sorted l)
 

@@ -192,4 +192,4 @@ module _ (keys o out : List ℕ) (m : ℕ) (fits : length keys / 2 ≤ length o)
   pub loads-sorted : {s : List ℕ} → s ≡ sorted (take m out) → s ++ drop m out ≡ sets o 0 (sorted (loads keys))
   loads-sorted {s} p =
       ap₂ (λ (a b : List ℕ). a ++ b) (p ∙ ap sorted loads-front) (ap (drop m) loads-are ∙ drop-at (loads keys) (drop m o) m (sym e))
-      ∙ sym (sets-front o (sorted (loads keys)) m (length-sorted (loads keys) ∙ sym e) (omega (arith, loads-few)))
+      ∙ sym (sets-front o (sorted (loads keys)) m (length-sorted ltb (loads keys) ∙ sym e) (omega (arith, loads-few)))

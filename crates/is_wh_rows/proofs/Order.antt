@@ -7,7 +7,7 @@ use native.Mathlib.Omega.{arith}
 use lib.ListN.{length}
 use Rattle.lists.specs.Tab.{tab, tabFrom}
 use Rattle.sort.specs.Sorted.{copies}
-use Rattle.sort.proofs.Laws.{Least}
+use Rattle.sort.proofs.Words.{Least}
 use Rattle.is_wh_rows.specs.Rows.{Row, MU-MAX, distinct, rowOf, rowsNeeded, muOf, keyRows, rowsFor, rowsOf}
 use Rattle.is_wh_rows.specs.Meaning.{nth, codeOf, InOrder, InRange}
 use Rattle.is_wh_rows.proofs.Counts.{Strict, strict-distinct}

@@ -7,6 +7,7 @@ use mathlib.Core.List.{List}
 use Prim.Native.Nat.{ℕ, _*_, _/_, _%_, _≤_, _<_}
 use native.Mathlib.Omega.{arith}
 use borrow.Author.Tests.{lt-ltb, le-ltb, ltb-false}
+use lib.Dec.{ltb}
 use lib.ListN.{length}
 use Rattle.lists.specs.First.{firstAt}
 use Rattle.answer.specs.Refusal.{accepted, tooShort}
@@ -15,7 +16,7 @@ use Rattle.answer.specs.declared.Refusal.the-variants.{PastEnd, NotWhole, TooSh
 use Rattle.answer.proofs.Laws.{refuse-yes, refuse-no, at-yes, at-no, passed-if, passed-at, still-if}
 use Rattle.sort.specs.Sorted.{sorted}
 use Rattle.sort.proofs.Laws.{length-sorted}
-use Rattle.sort.proofs.Unique.{sorted-ascends}
+use Rattle.sort.proofs.Words.{sorted-ascends}
 use Rattle.is_wh_rows.specs.Rows.{keyCode, codes, rowsOf}
 use Rattle.is_wh_rows.specs.Loads.{loads, rowsIn}
 use Rattle.is_wh_rows.specs.Lists.{MAX-KEYS, badAt, tooManyIn, raggedIn, GoodList}
@@ -27,7 +28,7 @@ use Rattle.is_wh_rows.proofs.Scan.{few-rows}
 -- ---- no more rows than keys
 pub loads-few : (keys : List ℕ) → length (sorted (loads keys)) ≤ length keys / 2
 unfolding loads
-loads-few keys = omega (arith, length-sorted (loads keys), loads-long (keyCode keys) (length keys / 2))
+loads-few keys = omega (arith, length-sorted ltb (loads keys), loads-long (keyCode keys) (length keys / 2))
 
 pub sorted-rows : (keys : List ℕ) → rowsIn (sorted (loads keys)) ≡ rowsOf (codes keys)
 unfolding loads codes

@@ -10,8 +10,7 @@ use lib.ListN.{length, drop, replicate}
 use Rattle.lists.specs.Tab.{pick}
 use Rattle.lists.proofs.Then.{by-le}
 use Rattle.sort.specs.Sorted.{copies}
-use Rattle.sort.proofs.Laws.{Least, Asc, least-le}
-use Rattle.sort.proofs.Unique.{copies-below}
+use Rattle.sort.proofs.Words.{Least, Asc, least-le, copies-below}
 use Rattle.is_wh_rows.specs.Rows.{place, distinct}
 use Rattle.is_wh_rows.proofs.Distinct.{place-same, place-least, least-distinct}
 

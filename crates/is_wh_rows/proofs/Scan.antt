@@ -7,13 +7,13 @@ use native.Mathlib.Numerals.{add-one}
 use native.Mathlib.Omega.{arith}
 use lib.Dec.{eqb}
 use lib.ListN.{length, drop, length-append, length-drop, drop-of-length-le}
-use lib.Seq.{sets, length-sets, drop-cons, drop-drop}
+use lib.Seq.{sets, length-sets, getD-drop, drop-cons, drop-drop}
 use Rattle.lists.specs.Tab.{pick, word}
 use Rattle.lists.proofs.Laws.{length-tab}
 use Rattle.lists.proofs.Then.{by-le}
-use Rattle.sort.specs.Sorted.{Ascends, copies}
-use Rattle.sort.proofs.Laws.{Least, Asc, ascends-asc, asc-ascends}
-use Rattle.sort.proofs.Unique.{copies-below, copies-none}
+use Rattle.sort.specs.Sorted.{AscendsBy, Ascends, copies}
+use Rattle.sort.proofs.Unique.{copies-none}
+use Rattle.sort.proofs.Words.{Least, Asc, ascends-asc, copies-below}
 use Rattle.is_wh_rows.specs.Rows.{Row, rowOf, rowsNeeded, muOf, keyRows, rowsFor, distinct, flat}
 use Rattle.is_wh_rows.specs.Loads.{weight, total, codesIn, rowsIn}
 use Rattle.is_wh_rows.proofs.Runs.{asc-drop, copies-yes, copies-le}
@@ -21,7 +21,8 @@ use Rattle.is_wh_rows.proofs.Weights.{asc-codes, weight-yes, rows-front
 use Rattle.is_wh_rows.proofs.Flat.{stored-more}
 
 pub ascends-drop : (ws : List ℕ) (i : ℕ) → Ascends ws → Ascends (drop i ws)
-ascends-drop ws i h = asc-ascends (drop i ws) (asc-drop ws i (ascends-asc ws h))
+unfolding AscendsBy
+ascends-drop ws i h a b l m = rw (getD-drop i ws a 0, getD-drop i ws b 0) (h (i + a) (i + b) (omega arith) (omega (arith, length-drop i ws)))
 
 length-keyRows : (c n : ℕ) → length (keyRows c n) ≡ rowsNeeded n
 unfolding keyRows

@@ -7,15 +7,14 @@ use native.Mathlib.Nat.{add-assoc}
 use native.Mathlib.Numerals.{add-one}
 use native.Mathlib.Omega.{arith}
 use borrow.Author.Tests.{ltb-true, eqb-true, eq-eqb, ne-eqb}
-use lib.Dec.{eqb, leb, ltb}
+use lib.Dec.{eqb, ltb}
 use lib.ListN.{length, take, drop, set, length-append, drop-of-length-le}
 use lib.Seq.{set-split, split-at}
 use Rattle.lists.specs.Tab.{pick, tab, tabFrom}
 use Rattle.lists.proofs.Tests.{and-true}
 use Rattle.lists.proofs.Then.{by-le}
-use Rattle.sort.specs.Sorted.{insert, sorted, copies}
-use Rattle.sort.proofs.Laws.{Least, Asc}
-use Rattle.sort.proofs.Unique.{copies-below}
+use Rattle.sort.specs.Sorted.{insertBy, sortedBy, insert, sorted, copies}
+use Rattle.sort.proofs.Words.{Least, Asc, copies-below}
 use Rattle.is_wh_rows.specs.Rows.{Row, place, distinct, keyRows, rowsFor, rowsOf}
 use Rattle.is_wh_rows.specs.Loads.{lastOf, joins, joined, loadsOf, weight, total, codesIn, rowsIn}
 use Rattle.is_wh_rows.proofs.Distinct.{rowsFor-same, rows-by, distinct-snoc, place-twice, place-comm, least-distinct}
@@ -142,46 +141,46 @@ module _ (f : ℕ → ℕ) where
 -- ---- sorted
 
 weight-insert : (k x : ℕ) (l : List ℕ) → weight k (insert x l) ≡ pick (eqb k (x / 65536)) (x % 65536 + 1) 0 + weight k l
-unfolding insert weight
+unfolding insertBy weight
 weight-insert k x [] = refl
-weight-insert k x (y ∷ l) = go (leb x y) (weight-insert k x l)
+weight-insert k x (y ∷ l) = go (ltb y x) (weight-insert k x l)
   where
     go : (b : Bool) → weight k (insert x l) ≡ pick (eqb k (x / 65536)) (x % 65536 + 1) 0 + weight k l
-        → weight k (pick b (x ∷ y ∷ l) (y ∷ insert x l)) ≡ pick (eqb k (x / 65536)) (x % 65536 + 1) 0 + (pick (eqb k (y / 65536)) (y % 65536 + 1) 0 + weight k l)
-    go true e = refl
-    go false e = omega arith
+        → weight k (pick b (y ∷ insert x l) (x ∷ y ∷ l)) ≡ pick (eqb k (x / 65536)) (x % 65536 + 1) 0 + (pick (eqb k (y / 65536)) (y % 65536 + 1) 0 + weight k l)
+    go true e = omega arith
+    go false e = refl
 
 weight-sorted : (k : ℕ) (l : List ℕ) → weight k (sorted l) ≡ weight k l
-unfolding sorted weight
+unfolding sortedBy weight
 weight-sorted k [] = refl
 weight-sorted k (x ∷ l) = weight-insert k x (sorted l) ∙ ap (λ (n : ℕ). pick (eqb k (x / 65536)) (x % 65536 + 1) 0 + n) (weight-sorted k l)
 
 total-insert : (x : ℕ) (l : List ℕ) → total (insert x l) ≡ x % 65536 + 1 + total l
-unfolding insert total
+unfolding insertBy total
 total-insert x [] = refl
-total-insert x (y ∷ l) = go (leb x y) (total-insert x l)
+total-insert x (y ∷ l) = go (ltb y x) (total-insert x l)
   where
-    go : (b : Bool) → total (insert x l) ≡ x % 65536 + 1 + total l → total (pick b (x ∷ y ∷ l) (y ∷ insert x l)) ≡ x % 65536 + 1 + (y % 65536 + 1 + total l)
-    go true e = refl
-    go false e = omega arith
+    go : (b : Bool) → total (insert x l) ≡ x % 65536 + 1 + total l → total (pick b (y ∷ insert x l) (x ∷ y ∷ l)) ≡ x % 65536 + 1 + (y % 65536 + 1 + total l)
+    go true e = omega arith
+    go false e = refl
 
 pub total-sorted : (l : List ℕ) → total (sorted l) ≡ total l
-unfolding sorted total
+unfolding sortedBy total
 total-sorted [] = refl
 total-sorted (x ∷ l) = total-insert x (sorted l) ∙ ap (λ (n : ℕ). x % 65536 + 1 + n) (total-sorted l)
 
 distinct-inserted : (x : ℕ) (l : List ℕ) → distinct (codesIn (insert x l)) ≡ place (x / 65536) (distinct (codesIn l))
-unfolding insert codesIn distinct
+unfolding insertBy codesIn distinct
 distinct-inserted x [] = refl
-distinct-inserted x (y ∷ l) = go (leb x y) (distinct-inserted x l)
+distinct-inserted x (y ∷ l) = go (ltb y x) (distinct-inserted x l)
   where
     go : (b : Bool) → distinct (codesIn (insert x l)) ≡ place (x / 65536) (distinct (codesIn l))
-        → distinct (codesIn (pick b (x ∷ y ∷ l) (y ∷ insert x l))) ≡ place (x / 65536) (place (y / 65536) (distinct (codesIn l)))
-    go true e = refl
-    go false e = ap (place (y / 65536)) e ∙ place-comm (y / 65536) (x / 65536) (distinct (codesIn l))
+        → distinct (codesIn (pick b (y ∷ insert x l) (x ∷ y ∷ l))) ≡ place (x / 65536) (place (y / 65536) (distinct (codesIn l)))
+    go true e = ap (place (y / 65536)) e ∙ place-comm (y / 65536) (x / 65536) (distinct (codesIn l))
+    go false e = refl
 
 distinct-sorted-in : (l : List ℕ) → distinct (codesIn (sorted l)) ≡ distinct (codesIn l)
-unfolding sorted codesIn distinct
+unfolding sortedBy codesIn distinct
 distinct-sorted-in [] = refl
 distinct-sorted-in (x ∷ l) = distinct-inserted x (sorted l) ∙ ap (place (x / 65536)) (distinct-sorted-in l)
 

@@ -2,7 +2,9 @@ pub mod Sums
 pub mod Parts
 pub mod Words
 pub mod Refusals
+pub mod Within
 pub mod Turns
 pub mod Whole
 pub mod Together
 pub mod Tied
+pub mod TiedWithin

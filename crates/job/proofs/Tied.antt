@@ -38,9 +38,9 @@ use Rattle.job.proofs.job.Kinds as kinds
 use Rattle.job.proofs.job.Reads as reads
 
 pub record Reported (nr : ℕ) (core round counts before after : List ℕ) : Type 0 where
-  pub lifetimes : Lfts 4
+  pub lifetimes : Lfts 3
   pub lent : Dens lifetimes kinds.ps
-  pub ended : AtExit (endedOf 4 kinds.ps kinds.r) lifetimes
+  pub ended : AtExit (endedOf 3 kinds.ps kinds.r) lifetimes
   pub rounds-are : lent .0 ≡ nr
   pub core-is : lent .1 .0 .now ≡ core
   pub round-is : lent .1 .1 .0 .now ≡ round
@@ -63,7 +63,7 @@ module _ {nr : ℕ} {core round counts before after : List ℕ} (c : Reported nr
   known : AcceptableJob nr core round counts (length before)
   known = job-accepted nr core round counts (length before) .0 taken
 
-  left : after ≡ jobAfter nr core round counts before
+  pub left : after ≡ jobAfter nr core round counts before
   left = sym (c .after-is) ∙ c .says .1 ∙ λ t. jobAfter (c .rounds-are t) (c .core-is t) (c .round-is t) (c .counts-are t) (c .before-is t)
 
   abbrev n : ℕ
@@ -176,7 +176,7 @@ pub some-reported : (nr : ℕ) (core round counts before : List ℕ) → Accepta
     Reported nr core round counts before (jobAfter nr core round counts before)
 some-reported nr core round counts before h =
     record {
-      lifetimes = ([], ([], ([], ([], tt))));
+      lifetimes = ([], ([], ([], tt)));
       lent = (nr, (record { ptr = (0, 0); name = 0; now = core }, (record { ptr = (0, 0); name = 0; now = round }, (record { ptr = (0, 0); name = 0; now = counts }, (record { ptr = (0, 0); name = 0; now = before }, tt)))));
       ended = (nr, (record { ptr = (0, 0); name = 0; now = core }, (record { ptr = (0, 0); name = 0; now = round }, (record { ptr = (0, 0); name = 0; now = counts }, (record { ptr = (0, 0); name = 0; now = jobAfter nr core round counts before }, tt)))));
       rounds-are = refl;

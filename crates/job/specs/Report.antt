@@ -5,6 +5,7 @@
 --     addsUp, splits, Split     whether a list of counts splits two tables, as a test and as a statement
 --     verdictOn, jobVerdict     the verdict on segment i, and on the job
 --     reportWords               the report
+--     notJob                    the checks before those of the tables' words, which the call in lent memory shares (Within.antt)
 --     jobRefusal, jobAfter      what the call refuses, and what it leaves in the lent words
 --     Checked, AcceptableJob       two tables that are not refused, and a call that is not
 --     SegmentsHold, Apart       what is supposed of the segments of a job that holds
@@ -102,15 +103,18 @@ reportWords nr core round counts =
     ++ verdictWords (jobVerdict nr core round)
 
 -- ---- the call
--- 8; 2 on core, round, counts, "refused by 2 with detail 2"; 3 on the report; 5 on core and round
-unfoldable pub jobRefusal : ℕ → List ℕ → List ℕ → List ℕ → ℕ → Option Refusal
-jobRefusal nr core round counts room =
+-- 8; 2 on core, round, counts, "refused by 2 with detail 2"; 3 on the report
+unfoldable pub notJob : ℕ → List ℕ → List ℕ → List ℕ → ℕ → Option Refusal → Option Refusal
+notJob nr core round counts room later =
     notRounds nr
     (notRows core round
     (refuseIf (not (splits core round counts)) (NotWhole 2)
     (tooShort room ((segmentCount counts + 1) * VERDICT-WORDS)
-    (notWords core round
-    accepted))))
+    later)))
+
+-- then 5 on core and round
+unfoldable pub jobRefusal : ℕ → List ℕ → List ℕ → List ℕ → ℕ → Option Refusal
+jobRefusal nr core round counts room = notJob nr core round counts room (notWords core round accepted)
 
 abbrev pub jobAfter : ℕ → List ℕ → List ℕ → List ℕ → List ℕ → List ℕ
 jobAfter nr core round counts report =

@@ -4,12 +4,14 @@ use answer::Refusal;
 use answer::check_rounds;
 use judge::checks::check_rows;
 use judge::checks::check_words;
+use judge_within::places::place_count;
 use keccak;
 use keccak_rnd;
 ghost use mathlib.Core.Path.{_≡_};
 ghost use Prim.Native.Nat.{_<_};
-ghost use Rattle.answer.specs.Refusal.{answerOf};
-ghost use Rattle.job.specs.Report.{COUNT-WORDS, addsUp, splits, jobRefusal};
+ghost use Rattle.answer.specs.Refusal.{accepted, answerOf};
+ghost use Rattle.job.specs.Report.{COUNT-WORDS, addsUp, splits, notJob, jobRefusal};
+ghost use Rattle.job.specs.Within.{jobWithinRefusal};
 
 // The words of a segment in the list of counts, and those of a verdict in the report.
 pub const COUNT_WORDS: usize = 2;
@@ -48,9 +50,9 @@ fn are_split(core: &[u64], round: &[u64], counts: &[u64]) -> bool
     adds_up(counts, 1, round.len() / keccak_rnd::NUM_COLUMNS)
 }
 
-// The number of rounds, whole rows, the counts, the report's room, and then every word of both tables.
-pub fn check_job(nr: u64, core: &[u64], round: &[u64], counts: &[u64], room: usize) -> Answer
-    ensures { λ r. ⌜ r ≡ answerOf (jobRefusal nr (now (core .entry)) (now (round .entry)) (now (counts .entry)) room) ⌝ }
+// The number of rounds, whole rows, the counts and the report's room.
+fn check_counts(nr: u64, core: &[u64], round: &[u64], counts: &[u64], room: usize) -> Answer
+    ensures { λ r. ⌜ r ≡ answerOf (notJob nr (now (core .entry)) (now (round .entry)) (now (counts .entry)) room accepted) ⌝ }
 {
     if let Answer::Refused(refusal) = check_rounds(nr) {
         return Answer::Refused(refusal);
@@ -64,6 +66,41 @@ pub fn check_job(nr: u64, core: &[u64], round: &[u64], counts: &[u64], room: usi
     let needed = (counts.len() / COUNT_WORDS + 1) * VERDICT_WORDS;
     if room < needed {
         return Answer::Refused(Refusal::TooShort(needed as u64));
+    }
+    Answer::Done
+}
+
+// And then every word of both tables.
+pub fn check_job(nr: u64, core: &[u64], round: &[u64], counts: &[u64], room: usize) -> Answer
+    ensures { λ r. ⌜ r ≡ answerOf (jobRefusal nr (now (core .entry)) (now (round .entry)) (now (counts .entry)) room) ⌝ }
+{
+    if let Answer::Refused(refusal) = check_counts(nr, core, round, counts, room) {
+        return Answer::Refused(refusal);
+    }
+    check_words(core, round)
+}
+
+// The same with the room of two lent slices before the words.
+pub fn check_job_within(
+    nr: u64,
+    core: &[u64],
+    round: &[u64],
+    counts: &[u64],
+    room: usize,
+    scratch: usize,
+    spare: usize,
+) -> Answer
+    ensures { λ r. ⌜ r ≡ answerOf (jobWithinRefusal nr (now (core .entry)) (now (round .entry)) (now (counts .entry)) room scratch spare) ⌝ }
+{
+    if let Answer::Refused(refusal) = check_counts(nr, core, round, counts, room) {
+        return Answer::Refused(refusal);
+    }
+    let n = place_count(core, round);
+    if scratch < n {
+        return Answer::Refused(Refusal::TooShort(n as u64));
+    }
+    if spare < n {
+        return Answer::Refused(Refusal::TooShort(n as u64));
     }
     check_words(core, round)
 }

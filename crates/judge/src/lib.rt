@@ -5,7 +5,6 @@ use answer::check_rounds;
 use checks::check_rows;
 use checks::check_words;
 use judge_bus::first_unbalanced;
-use judge_chains::every_chain;
 use judge_rows::Check;
 use judge_rows::first_failure;
 use judge_scan::Spot;
@@ -18,7 +17,7 @@ use verdict::Table;
 use verdict::Verdict;
 ghost use mathlib.Core.Path.{_≡_};
 ghost use Prim.Native.Nat.{_≤_};
-ghost use Rattle.verdict.specs.Kind.{rows, DistinctTimestamps};
+ghost use Rattle.verdict.specs.Kind.{rows};
 ghost use Rattle.verdict.specs.CoreAndRound.{coreKind, roundKind, coreLayout, roundLayout, verdictAt, verdictFor};
 ghost use Rattle.verdict.specs.Kind.{Elements};
 ghost use Rattle.verdict.specs.Verdict.{fromCoreValue, fromRoundValue, fromCoreBalance, fromRoundBalance};
@@ -51,15 +50,10 @@ fn from_round_balance(nr: usize, core: &[u64], round: &[u64], walked: Walked) ->
     }
 }
 
-// From the unbalanced tuples of core rows on. Where each core row has its chain nothing is counted: the tables hold.
+// From the unbalanced tuples of core rows on. What the walk passes is even, in the writer's order every row, and is not counted.
 fn from_core_balance(nr: usize, core: &[u64], round: &[u64]) -> Verdict
-    requires { ⌜ (nr ≤ 24) × DistinctTimestamps coreLayout (now core) ⌝ }
     ensures { λ v. ⌜ v ≡ fromCoreBalance (coreKind nr) roundKind (now (core .entry)) (now (round .entry)) ⌝ }
 {
-    if every_chain(nr, core, round) {
-        let active = active_rows(core, Table::Core);
-        return Verdict::Holds { active };
-    }
     let walked = walk(nr, core, round);
     if let Spot::At { row, index } = first_unbalanced(
         nr,
@@ -81,7 +75,7 @@ fn from_core_balance(nr: usize, core: &[u64], round: &[u64]) -> Verdict
 
 // From the values of round rows on.
 fn from_round_value(nr: usize, core: &[u64], round: &[u64]) -> Verdict
-    requires { ⌜ (nr ≤ 24) × Elements (now round) × DistinctTimestamps coreLayout (now core) ⌝ }
+    requires { ⌜ Elements (now round) ⌝ }
     ensures { λ v. ⌜ v ≡ fromRoundValue (coreKind nr) roundKind (now (core .entry)) (now (round .entry)) ⌝ }
 {
     if let Spot::At { row, index } = first_failure(round, Table::Round, Check::Values) {
@@ -103,7 +97,7 @@ fn from_round_value(nr: usize, core: &[u64], round: &[u64]) -> Verdict
 
 // From the values of core rows on: the verdict on tables that pass the checks.
 pub fn from_core_value(nr: usize, core: &[u64], round: &[u64]) -> Verdict
-    requires { ⌜ (nr ≤ 24) × Elements (now core) × Elements (now round) ⌝ }
+    requires { ⌜ Elements (now core) × Elements (now round) ⌝ }
     ensures { λ v. ⌜ v ≡ fromCoreValue (coreKind nr) roundKind (now (core .entry)) (now (round .entry)) ⌝ }
 {
     if let Spot::At { row, index } = first_failure(core, Table::Core, Check::Values) {
@@ -128,7 +122,6 @@ pub fn from_core_value(nr: usize, core: &[u64], round: &[u64]) -> Verdict
 
 // The verdict for a number of rounds that is not refused: whole rows, then words, then the rows.
 fn judged(nr: usize, core: &[u64], round: &[u64]) -> Verdict
-    requires { ⌜ nr ≤ 24 ⌝ }
     ensures { λ v. ⌜ v ≡ verdictAt nr (now (core .entry)) (now (round .entry)) ⌝ }
 {
     if let Answer::Refused(refusal) = check_rows(core, round) {

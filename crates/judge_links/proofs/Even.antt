@@ -1,7 +1,7 @@
--- What the chains, the walk and the counts on the Keccak bus cite.
+-- What the walk and the counts on the Keccak bus cite.
 --     row-wide          a row is as long as its tuples need
 --     linked            what the code compares is what the rows send and receive
---     on-at, on-nowhere, on-found   what follows from the answer of a search
+--     on-at, on-nowhere   what follows from the answer of a search
 --     even-to, to-even  the tuples by port are those of the two kinds by index
 use mathlib.Core.Path.{_≡_, refl, sym, ap, subst, _∙_}
 use mathlib.Core.Bool.{Bool, true, false}
@@ -61,12 +61,6 @@ module _ {A : Type 0} (f : ℕ → A) (d : A) where
   pub on-nowhere : {p : Place} → p ≡ Nowhere → onPlace f d p ≡ d
   unfolding onPlace
   on-nowhere e = ap (onPlace f d) e
-
-  -- where the outcome is not that of a search that found nothing
-  pub on-found : (p : Place) (y : A) → onPlace f d p ≡ y → (d ≡ y → ⊥) → (k : ℕ) × (p ≡ At k) × (f k ≡ y)
-  unfolding onPlace
-  on-found Nowhere y e n = absurd (n e)
-  on-found (At k) y e n = (k, refl, e)
 
 pub not-at : {k : ℕ} → Nowhere ≡ At k → ⊥
 unfolding isAt

@@ -57,7 +57,7 @@ fn next(round: u64) -> u64
 }
 
 // The round that a tuple names.
-fn round_of(row: &[u64], port: Port) -> u64
+pub fn round_of(row: &[u64], port: Port) -> u64
     requires { ⌜ widthOf port ≤ length (now row) ⌝ }
     ensures { λ r. ⌜ r ≡ roundOf port (now (row .entry)) ⌝ }
 {

@@ -10,7 +10,7 @@ use Prim.Native.Nat.{ℕ, suc, _+_, _-_, _*_, _≤_, _<_}
 use native.Mathlib.Numerals.{one-add}
 use native.Mathlib.Omega.{arith}
 use borrow.Author.Tests.{eq-eqb, eqb-true}
-use lib.Dec.{eqb, leb, ltb}
+use lib.Dec.{eqb, ltb}
 use lib.ListN.{length, take, drop}
 use Rattle.lists.specs.Tab.{pick, word}
 use Rattle.lists.specs.First.{anyBelow, countBelow}
@@ -22,15 +22,16 @@ use Rattle.lists.proofs.OneToOne.{equally-matched, matched-equally, matched-by}
 use Rattle.lists.proofs.Sum.{sum-add, sum-same, sum-const}
 use Rattle.lists.proofs.Then.{by-le, T-true}
 use Rattle.lists.proofs.Tests.{true-not-false, T-of}
-use Rattle.sort.specs.Sorted.{insert, sorted, copies}
-use Rattle.sort.proofs.Unique.{sorted-ascends, sorted-copies, sorted-unique}
+use Rattle.sort.specs.Sorted.{insertBy, sortedBy, insert, sorted, copies}
+use Rattle.sort.proofs.Laws.{by-test}
+use Rattle.sort.proofs.Words.{sorted-ascends, sorted-copies, sorted-unique}
 use Rattle.answer.specs.Limits.{MAX-OPS}
 use Rattle.answer.specs.Refusal.{notRounds, notFloor}
 use Rattle.keccak_rnd.specs.Row.{roundHeight}
 use Rattle.month.specs.Month.{HEIGHTS, heightOf, usedAt, totalAt, fuller, operationsOf, usedOf, paddingOf, fullest, emptiest, filesAt, shown, monthWords, monthRefusal, Best, Permuted, SameCounts}
 use Rattle.month.proofs.Fullness.{beaten, equally-full, shown-best, shown-one, shown-none}
 use Rattle.month.proofs.Refusals.{later-checks, anyPast, month-checks}
-use Rattle.month.proofs.Unbeaten.{by-test, itself}
+use Rattle.month.proofs.Unbeaten.{itself}
 
 -- ---- a sum over the counts of a list, whatever is taken of each
 abbrev sumOf : (ℕ → ℕ) → List ℕ → ℕ
@@ -51,16 +52,16 @@ sum-front f x xs =
     rest = omega (arith, tail)
 
 sum-insert : (f : ℕ → ℕ) (x : ℕ) (ys : List ℕ) → sumOf f (insert x ys) ≡ f x + sumOf f ys
-unfolding insert
+unfolding insertBy
 sum-insert f x [] = sum-front f x []
-sum-insert f x (y ∷ ys) = go (leb x y) (sum-insert f x ys)
+sum-insert f x (y ∷ ys) = go (ltb y x) (sum-insert f x ys)
   where
-    go : (b : Bool) → sumOf f (insert x ys) ≡ f x + sumOf f ys → sumOf f (pick b (x ∷ y ∷ ys) (y ∷ insert x ys)) ≡ f x + sumOf f (y ∷ ys)
-    go true e = sum-front f x (y ∷ ys)
-    go false e = omega (arith, e, sum-front f y (insert x ys), sum-front f y ys)
+    go : (b : Bool) → sumOf f (insert x ys) ≡ f x + sumOf f ys → sumOf f (pick b (y ∷ insert x ys) (x ∷ y ∷ ys)) ≡ f x + sumOf f (y ∷ ys)
+    go true e = omega (arith, e, sum-front f y (insert x ys), sum-front f y ys)
+    go false e = sum-front f x (y ∷ ys)
 
 sum-sorted : (f : ℕ → ℕ) (xs : List ℕ) → sumOf f (sorted xs) ≡ sumOf f xs
-unfolding sorted
+unfolding sortedBy
 sum-sorted f [] = refl
 sum-sorted f (x ∷ xs) = omega (arith, sum-insert f x (sorted xs), sum-sorted f xs, sum-front f x xs)
 

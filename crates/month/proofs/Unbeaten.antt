@@ -12,12 +12,8 @@ use Rattle.lists.proofs.Failure.{at-some-iff, separates-any}
 use Rattle.lists.proofs.First.{at-nothing}
 use Rattle.lists.proofs.Kept.{by-eq}
 use Rattle.lists.proofs.Tests.{true-not-false}
+use Rattle.sort.proofs.Laws.{by-test}
 use Rattle.month.specs.Month.{unbeaten, firstUnbeaten, Best}
-
--- by the value of a test
-pub by-test : {P : Type 0} (b : Bool) → (b ≡ true → P) → (b ≡ false → P) → P
-by-test true f g = f refl
-by-test false f g = g refl
 
 pub itself : (b : Bool) → Separates b (b ≡ true) (b ≡ false)
 itself b = record { fails = λ e. e; holds = λ e. e; is-true = λ e. e; is-false = λ e. e }

@@ -3,7 +3,7 @@
 --     agree-more, agree-skip         a common part that grows
 --     used-is                        of the copies of an element those are given away before which fewer stand than have had their turn
 --     alone-is, left-is              by counts and one by one is the same
---     all-partnered, rest-partnered  where both have equally many and none of the one is alone, none of the other is
+--     all-partnered                  where both have equally many and none of the one is alone, none of the other is
 --     alone-of-same, alone-in-same   runs that are equal below their size have the same first ones alone
 --     none-alone, none-alone-matched none of either is alone: every element stands equally often in both; they can be matched one to one
 use mathlib.Core.Path.{_≡_, refl, sym, ap, _∙_}
@@ -307,15 +307,6 @@ module _ (A B : Run) where
   pub none-alone-matched : ((firstAlone A B ≡ none) × (firstAlone B A ≡ none)) ↔ Matched (A .size) (B .size)
   none-alone-matched =
       let e = equally-one (A .size) (B .size) in (λ h. e .0 (none-alone .0 h), λ m. none-alone .1 (e .1 m))
-
-  -- behind a common part it is enough to count what follows
-  module _ (a b : ℕ) (same : EquallyOften A B a b) where
-    pub rest-partnered : a ≤ A .size → b ≤ B .size → firstAlone A B ≡ none →
-        countBetween (A .chosen) a (A .size) ≡ countBetween (B .chosen) b (B .size) → firstAlone B A ≡ none
-    rest-partnered la lb n e =
-        let c = count-matched a b (A .chosen) (B .chosen) (equally-one a b .0 same) in
-        let all : countBelow (A .chosen) (A .size) ≡ countBelow (B .chosen) (B .size) = omega (arith, c, e, between-is (A .chosen) a (A .size) la, between-is (B .chosen) b (B .size) lb) in
-        all-partnered A B n all
 
 -- ---- another run with the same elements at the same indices
 module _ (A C : Run) (size : A .size ≡ C .size) (chosen : (k : ℕ) → k < A .size → A .chosen k ≡ C .chosen k)

@@ -19,7 +19,7 @@ use native.Mathlib.Nat.{zero-div}
 use native.Mathlib.Omega.{arith}
 use lib.Dec.{eqb, ltb}
 use lib.ListN.{length, take, drop, getD, replicate}
-use Rattle.lists.specs.Tab.{pick, word, rowAt, followedBy}
+use Rattle.lists.specs.Tab.{pick, word, tab, rowAt, followedBy}
 use Rattle.lists.specs.First.{countBelow}
 use Rattle.lists.proofs.Reading.{Alike}
 use Rattle.field.specs.Field.{p, INV-SHIFT-32}
@@ -27,7 +27,7 @@ use Rattle.field.proofs.Field.{inv-shift-32}
 use Rattle.answer.specs.Limits.{MAX-OPS}
 use Rattle.answer.specs.Refusal.{accepted, refusalNumber, notRounds, notFloor, PowerFloor, afterwards}
 use Rattle.answer.specs.declared.Refusal.{Refusal}
-use Rattle.answer.specs.declared.Refusal.the-variants.{HighAddress, PastEnd, Unaligned, Rounds, Floor, Register, NotElement, BadRecord}
+use Rattle.answer.specs.declared.Refusal.the-variants.{TooShort, HighAddress, PastEnd, Unaligned, Rounds, Floor, Register, NotElement, BadRecord}
 use Rattle.answer.proofs.Refusals.{rounds-later, no-rounds-refused, many-rounds-refused, floor-refused, floor-most, both-later}
 use Rattle.answer.specs.declared.Number.the-variants.{Is}
 use Rattle.fips202.specs.Fips.{Agree, offset, walk, MetOnce, RHO, rnd, keccakF, keccakP}
@@ -91,6 +91,7 @@ use Rattle.verdict.specs.Failures.{ToRepeat, ToCoreBalance, RepeatsAt, Says, No
 use Rattle.verdict.specs.Honest.{witness, lastWitness, oneCore, oneRound, exchangedCore, exchangedRound, lateRound}
 use Rattle.verdict.specs.declared.Table.the-variants.{Core, Round}
 use Rattle.verdict.specs.declared.Verdict.{Verdict}
+use Rattle.verdict.specs.declared.Verdict.the-variants as judge
 use Rattle.verdict.specs.declared.Verdict.the-variants.{Holds, Repeated, Unbalanced}
 use Rattle.verdict.proofs.Demand3.{demand3, demand3-at, lane-below}
 use Rattle.verdict.proofs.AnyRounds.{verdict-24, any-rounds}
@@ -138,7 +139,15 @@ use Rattle.text.specs.Text.{decimalOf}
 use Rattle.tally_arguments.specs.Arguments.{shipped-word, isShipped, digitsOnly, floorIn, argumentsOf}
 use Rattle.tally_arguments.proofs.Cases.{leading, floor-back, floor-over, digits-are, floor-other, floor-none}
 use Rattle.tally_arguments.proofs.Cases.{AllShipped, NoneShipped, absent-floor, last-floor, shipped-anywhere, never-shipped}
-use Rattle.verdict_line.specs.Line.{Judged, shownAt, lineAt, lineRefusal}
+use Rattle.sort.specs.Compared.{mostCompared}
+use Rattle.sort.proofs.Compared.{most-compared, halved-enough}
+use Rattle.sort_places.specs.Places.{placeCount}
+use Rattle.judge_within.specs.Within.{withinRefusal, withinFor, withinAfter}
+use Rattle.judge_within.proofs.Within.{Passed, within-same, after-refused}
+use Rattle.verdict_line.specs.Lent.{SaysLent}
+use Rattle.verdict_line.proofs.Lent.{lent-passed, lent-says, lent-left, judged-same, lines-same, line-lent-accepted, line-lent-says}
+use Rattle.verdict_line.specs.Line.{Judged, shownAt, lineAt, lineRefusal, lineAnswer, lineAfter}
+use Rattle.verdict_line.specs.Line.{withinLineRefusal, withinLineAnswer, withinLineAfter}
 use Rattle.verdict_line.proofs.Tells.{lines-tell}
 use Rattle.verdict_line.proofs.Most.{line-most}
 use Rattle.verdict_line.proofs.Refusals.{line-accepted}
@@ -210,8 +219,15 @@ use Rattle.segment_counts.proofs.SegmentNumbers as charge-free
 use Rattle.segment_counts.proofs.Accepted.{charge-list}
 use Rattle.lists.specs.Sum.{sumBelow}
 use Rattle.verdict.specs.Job.{jobCore, jobRound}
-use Rattle.job.specs.Report.{segmentCount, coreRows, jobSegment, segments, verdictOn, Split, AcceptableJob, jobRefusal, Apart}
+use Rattle.job.specs.Report.{segmentCount, coreRows, jobSegment, segments, verdictOn, Split, AcceptableJob, notJob, jobRefusal, Apart}
+use Rattle.lists.specs.Tab.{tab}
+use Rattle.answer.specs.declared.Refusal.the-variants.{TooShort}
+use Rattle.judge.specs.Checks.{notWords}
+use Rattle.sort_places.specs.Places.{placeCount}
+use Rattle.job.specs.Within.{jobWithinRefusal, jobWithinAfter, jobScratchAfter}
 use Rattle.job.proofs.Refusals.{job-accepted}
+use Rattle.job.proofs.Within.{within-accepted, first-refused, scratch-refused, spare-refused, words-last, report-kept, scratch-kept}
+use Rattle.job.proofs.TiedWithin.{ReportedWithin, as-reported, reported-same, scratch-left, spare-left}
 use Rattle.job.proofs.Whole.{core-joined, round-joined}
 use Rattle.job.proofs.Tied.{Reported, segment-words, job-words, words-past, reported-together, reported-shared}
 use Rattle.job.proofs.Tied.{reported-apart, reported-computed, reported-balance, reported-refiled, reported-places}
@@ -298,6 +314,72 @@ line-taken = line-accepted
 pub enough-for-a-line : (nr : ℕ) (core round : List ℕ) → length core < 18446744073709551616 → length round < 18446744073709551616 →
     length (lineAt nr core round) ≤ 4335
 enough-for-a-line = line-most
+
+-- ---- the verdict in lent memory (judge_within/specs/Within.antt), and its line
+-- "beside it comes one that is lent a scratch and answers the same": slices of `scratch` and of `spare` words, each of
+-- "a small fixed number of words for each row of both tables"
+pub lent-words : (core round : List ℕ) → placeCount core round ≡ 2 * (rows coreLayout core + rows roundLayout round)
+unfolding placeCount
+lent-words core round = refl
+
+module _ (nr : ℕ) (core round : List ℕ) (scratch spare : ℕ) where
+  -- the same on every input, refused or not, where both slices have room ..
+  pub lent-same : placeCount core round ≤ scratch → placeCount core round ≤ spare →
+      withinFor nr core round scratch spare ≡ verdictFor nr core round
+  lent-same = within-same nr core round scratch spare
+
+  -- .. and so are the lines' lengths, or refusals, and the bytes left
+  pub lent-same-line : placeCount core round ≤ scratch → placeCount core round ≤ spare → (bytes : List ℕ) →
+      (withinLineAnswer nr core round scratch spare bytes ≡ lineAnswer nr core round bytes)
+      × (withinLineAfter nr core round scratch spare bytes ≡ lineAfter nr core round bytes)
+  lent-same-line = lines-same nr core round scratch spare
+
+  -- so where it is no refusal it is the verdict of `verdict`, whatever was lent
+  pub lent-judged-same : Judged (withinFor nr core round scratch spare) → withinFor nr core round scratch spare ≡ verdictFor nr core round
+  lent-judged-same = judged-same nr core round scratch spare
+
+  -- "refusals 8 2 3 5": accepted exactly where nr is from 1 to 24, both tables are whole rows of words below p, and both slices have room
+  -- (`Passed`, judge_within/proofs/Within.antt); the line exactly where it fits too
+  pub lent-taken : (withinRefusal nr core round scratch spare ≡ accepted) ↔ Passed nr core round scratch spare
+  lent-taken = lent-passed nr core round scratch spare
+
+  pub lent-line-taken : (room : ℕ) →
+      (withinLineRefusal nr core round scratch spare room ≡ accepted)
+      ↔ (Passed nr core round scratch spare × (length (lineAt nr core round) ≤ room))
+  lent-line-taken = line-lent-accepted nr core round scratch spare
+
+  -- every answer, and each refusal with its detail (`SaysLent`, verdict_line/specs/Lent.antt): after 8 and 2 and before 5, 3 with the length
+  -- needed where a slice is shorter; else as `each-answer-for` has it
+  pub lent-answers : (v : Verdict) → (withinFor nr core round scratch spare ≡ v) ↔ SaysLent nr core round scratch spare v
+  lent-answers = lent-says nr core round scratch spare
+
+  -- the line is refused as the verdict is, then by 3 with its length
+  pub lent-line-refusals : (room : ℕ) (r : Refusal) →
+      (withinLineRefusal nr core round scratch spare room ≡ some r)
+      ↔ ((withinFor nr core round scratch spare ≡ judge.Refused r)
+      ⊎ (Passed nr core round scratch spare × (room < length (lineAt nr core round)) × (r ≡ TooShort (length (lineAt nr core round)))))
+  lent-line-refusals = line-lent-says nr core round scratch spare
+
+  -- "what the scratch holds at exit: zeros where it was used, untouched where refused"; the words past them stay, and a line that is too short
+  -- changes nothing in it
+  pub lent-zeros : Passed nr core round scratch spare → (old : List ℕ) →
+      (take (placeCount core round) (withinAfter nr core round scratch spare old) ≡ tab (placeCount core round) (λ k. 0))
+      × (drop (placeCount core round) (withinAfter nr core round scratch spare old) ≡ drop (placeCount core round) old)
+  lent-zeros = lent-left nr core round scratch spare
+
+  pub lent-untouched : {r : Refusal} → withinRefusal nr core round scratch spare ≡ some r → (old : List ℕ) →
+      withinAfter nr core round scratch spare old ≡ old
+  lent-untouched e old = sym (after-refused nr core round old scratch spare e)
+
+-- ".. in n log n on every input": places are sorted by a merge sort, and one of n places, n at most 2^k, compares two of them at most 2 k n
+-- times. That is said of `mostCompared` (sort/specs/Compared.antt), whatever the places are, a definition whose shape is that of `merge_sort` in
+-- sort_places/src/lib.rt as in sort/src/lib.rt; no contract ties the code to it, and runs show the rest. Where n is at most 2^k more halvings
+-- compare none
+pub sort-compares : (k n : ℕ) → n ≤ 2 ^ k → mostCompared k n ≤ 2 * k * n
+sort-compares = most-compared
+
+pub sort-halves : (k n : ℕ) → n ≤ 2 ^ k → mostCompared (suc k) n ≡ mostCompared k n
+sort-halves = halved-enough
 
 -- ---- demand 2
 -- "a written round row takes START through that round of FIPS 202": the lanes that it was written for are its START,
@@ -1747,6 +1829,58 @@ module _ {nr : ℕ} {core round counts before after : List ℕ} (call : Reported
 pub job-refiled : {nr : ℕ} {core round counts before after counts′ before′ after′ : List ℕ} → Reported nr core round counts before after →
     Reported nr core round counts′ before′ after′ → rowAt 4 after (segmentCount counts) ≡ rowAt 4 after′ (segmentCount counts′)
 job-refiled = reported-refiled
+
+-- The same report in lent memory (job/specs/Within.antt): "The same for `verdict_line` and `job`, so that the host never needs the slow one."
+-- What is checked of `job` before the tables' words is checked first, then 3 on scratch and 3 on spare, whose detail is 2 words a row of both
+-- tables (`placeCount`), then 5; accepted exactly where `job` is and both slices have room
+module _ (nr : ℕ) (core round counts : List ℕ) (room scratch spare : ℕ) where
+  pub job-within-taken : (jobWithinRefusal nr core round counts room scratch spare ≡ accepted)
+      ↔ (AcceptableJob nr core round counts room × (placeCount core round ≤ scratch) × (placeCount core round ≤ spare))
+  job-within-taken =
+      let e = within-accepted nr core round counts room scratch spare in
+      ((λ r. let h = e .0 r in (h .job, h .scratch-long, h .spare-long)), λ h. e .1 record { job = h .0; scratch-long = h .1; spare-long = h .2 })
+
+  pub job-within-first : {r : Refusal} → notJob nr core round counts room accepted ≡ some r → jobWithinRefusal nr core round counts room scratch spare ≡ some r
+  job-within-first = first-refused nr core round counts room scratch spare
+
+  module _ (first : notJob nr core round counts room accepted ≡ accepted) where
+    pub job-within-scratch : scratch < placeCount core round → jobWithinRefusal nr core round counts room scratch spare ≡ some (TooShort (placeCount core round))
+    job-within-scratch = scratch-refused nr core round counts room scratch spare first
+
+    pub job-within-spare : placeCount core round ≤ scratch → spare < placeCount core round →
+        jobWithinRefusal nr core round counts room scratch spare ≡ some (TooShort (placeCount core round))
+    job-within-spare = spare-refused nr core round counts room scratch spare first
+
+    pub job-within-words : placeCount core round ≤ scratch → placeCount core round ≤ spare →
+        jobWithinRefusal nr core round counts room scratch spare ≡ notWords core round accepted
+    job-within-words l g = sym (words-last nr core round counts room scratch spare first l g)
+
+-- a refused call leaves the three slices as they were
+module _ (nr : ℕ) (core round counts report scratch spare : List ℕ) where
+  pub job-within-kept : {r : Refusal} → jobWithinRefusal nr core round counts (length report) (length scratch) (length spare) ≡ some r →
+      (jobWithinAfter nr core round counts (length scratch) (length spare) report ≡ report)
+      × (jobScratchAfter nr core round counts (length report) (length scratch) (length spare) scratch ≡ scratch)
+      × (jobScratchAfter nr core round counts (length report) (length scratch) (length spare) spare ≡ spare)
+  job-within-kept e = (
+    sym (report-kept nr core round counts (length scratch) (length spare) report e),
+    sym (scratch-kept nr core round counts (length report) (length scratch) (length spare) scratch e),
+    sym (scratch-kept nr core round counts (length report) (length scratch) (length spare) spare e),
+  )
+
+-- `ReportedWithin` (job/proofs/TiedWithin.antt) is a call that was not refused, and what the slices hold when it ends: where neither call is
+-- refused both leave the same report, so that all that is said of the report of `job` is said of this one; of scratch and spare the words that
+-- were used are zeros, and the words behind them stay
+module _ {nr : ℕ} {core round counts before after scratch scratch′ spare spare′ : List ℕ}
+    (call : ReportedWithin nr core round counts before after scratch scratch′ spare spare′) where
+  pub job-within-same : {other : List ℕ} → Reported nr core round counts before other → after ≡ other
+  job-within-same = reported-same call
+
+  pub job-within-reports : Reported nr core round counts before after
+  job-within-reports = as-reported call
+
+  pub job-within-left :
+      (scratch′ ≡ overwrite (tab (placeCount core round) (λ k. 0)) scratch) × (spare′ ≡ overwrite (tab (placeCount core round) (λ k. 0)) spare)
+  job-within-left = (scratch-left call, spare-left call)
 
 -- Item 11 of what the two calls answer and write: where `verdict` answers 'holds', the active rows of the round table that it was
 -- lent are those that `generate_keccak_rnd_trace` writes for the active core rows, in some order, for every floor that it accepts

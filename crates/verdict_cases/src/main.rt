@@ -238,7 +238,7 @@ fn print_refused(name: &[u8], number: u64, detail: u64) {
     io::write_all(STDOUT_FILENO, b"\n");
 }
 
-fn print_job(name: &[u8], core: &[u64], round: &[u64], counts: [u64; 4]) {
+fn print_job<'a>(name: &[u8], core: &'a [u64], round: &'a [u64], counts: [u64; 4]) {
     let mut report = [0u64; 12];
     match job(ROUNDS, core, round, &counts, &mut report) {
         Answer::Done => print_report(name, report),

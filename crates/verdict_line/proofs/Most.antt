@@ -27,7 +27,7 @@ use Rattle.verdict.specs.declared.Verdict.the-variants.{Refused, Value, Lookup,
 use Rattle.judge_scan.proofs.Scan.{row-ends}
 use Rattle.verdict_line.specs.Line.{LINE-MOST, Shown, tableName, row-name, value-name, timestamp-name, lookup-name}
 use Rattle.verdict_line.specs.Line.{balance-name, holds-name, tupleAt, shownOf, shownBy, placeWords, wordsOf, shownWords}
-use Rattle.verdict_line.specs.Line.{lineOf, shownAt, lineAt}
+use Rattle.verdict_line.specs.Line.{lineOf, lineAt}
 use Rattle.verdict_line.specs.Named.{Named}
 use Rattle.verdict_line.proofs.InRange.{judged-says}
 use Rattle.verdict_line.proofs.Tuples.{Small, Fits, core-fits, round-fits}
@@ -167,5 +167,4 @@ module _ (nr : ℕ) (core round : List ℕ) (core-fits : Small (length core)) (r
 
   -- for tables that fit in memory
   pub line-most : length (lineAt nr core round) ≤ LINE-MOST
-  unfolding lineAt shownAt
   line-most = verdict-most (verdictFor nr core round) refl

@@ -20,7 +20,7 @@ use Rattle.verdict.specs.Failures.{NoRounds}
 use Rattle.verdict.specs.declared.Verdict.{Verdict}
 use Rattle.verdict.specs.declared.Verdict.the-variants.{Refused, Value, Lookup, Repeated, Unbalanced, Holds}
 use Rattle.verdict.proofs.AnyRounds.{verdict-no-rounds}
-use Rattle.verdict_line.specs.Line.{LINE-MOST, Judged, refusedBy, lineAt, lineRefusal, lineAfter}
+use Rattle.verdict_line.specs.Line.{LINE-MOST, Judged, refusedBy, lineBy, refusalBy, lineAt, lineRefusal, lineAfter}
 use Rattle.verdict_line.proofs.InRange.{judged-range}
 use Rattle.verdict_line.proofs.Tuples.{Small}
 use Rattle.verdict_line.proofs.Most.{line-most}
@@ -48,19 +48,33 @@ passed-judged (Unbalanced t r i) later e = (tt, e)
 passed-judged (Holds n) later e = (tt, e)
 passed-judged (Refused r) later e = absurd (subst (λ (o : Option Refusal). T (isSome o)) e tt)
 
+-- ---- a call that has a verdict
+module _ (nr : ℕ) (core round : List ℕ) (v : Verdict) (room : ℕ) where
+  pub by-accepted : (refusalBy nr core round v room ≡ accepted) ↔ (Judged v × (length (lineBy nr core round v) ≤ room))
+  unfolding refusalBy
+  by-accepted = (
+    (λ e. let q = passed-judged v _ e in (q .0, room-accepted room (length (lineBy nr core round v)) .0 (q .1))),
+    λ h. judged-later v _ (h .0) ∙ room-accepted room (length (lineBy nr core round v)) .1 (h .1),
+  )
+
+  -- as the verdict, whatever is lent
+  pub by-refused : (r : Refusal) → v ≡ Refused r → refusalBy nr core round v room ≡ some r
+  unfolding refusalBy
+  by-refused r e = refused-first v _ r e
+
+  -- 3 after that, detail the line's length
+  pub by-short : Judged v → room < length (lineBy nr core round v) → refusalBy nr core round v room ≡ some (TooShort (length (lineBy nr core round v)))
+  unfolding refusalBy
+  by-short j l = judged-later v _ j ∙ room-refused room (length (lineBy nr core round v)) accepted l
+
 -- ---- the call
 module _ (nr : ℕ) (core round : List ℕ) (room : ℕ) where
   pub line-accepted : (lineRefusal nr core round room ≡ accepted) ↔ (Judged (verdictFor nr core round) × (length (lineAt nr core round) ≤ room))
-  unfolding lineRefusal
-  line-accepted = (
-    (λ e. let q = passed-judged (verdictFor nr core round) _ e in (q .0, room-accepted room (length (lineAt nr core round)) .0 (q .1))),
-    λ h. judged-later (verdictFor nr core round) _ (h .0) ∙ room-accepted room (length (lineAt nr core round)) .1 (h .1),
-  )
+  line-accepted = by-accepted nr core round (verdictFor nr core round) room
 
   -- 8, 2 and 5, whatever is lent
   pub line-refused : (r : Refusal) → verdictFor nr core round ≡ Refused r → lineRefusal nr core round room ≡ some r
-  unfolding lineRefusal
-  line-refused r e = refused-first (verdictFor nr core round) _ r e
+  line-refused = by-refused nr core round (verdictFor nr core round) room
 
   -- 8 first of all, detail the number
   pub line-no-rounds : NoRounds nr → lineRefusal nr core round room ≡ some (Rounds nr)
@@ -72,8 +86,7 @@ module _ (nr : ℕ) (core round : List ℕ) (room : ℕ) where
   -- 3 after them, detail the line's length
   pub line-short : Judged (verdictFor nr core round) → room < length (lineAt nr core round) →
       lineRefusal nr core round room ≡ some (TooShort (length (lineAt nr core round)))
-  unfolding lineRefusal
-  line-short j l = judged-later (verdictFor nr core round) _ j ∙ room-refused room (length (lineAt nr core round)) accepted l
+  line-short = by-short nr core round (verdictFor nr core round) room
 
   -- "a caller who lends that many bytes is never refused by 3": of tables that fit in memory
   pub line-fits : Small (length core) → Small (length round) → LINE-MOST ≤ room → Judged (verdictFor nr core round) →

@@ -16,14 +16,13 @@ use Rattle.answer.specs.declared.Number.{Number}
 use Rattle.answer.specs.declared.Number.the-variants as number
 use Rattle.answer.proofs.Laws.{number-refused, number-is, kept}
 use Rattle.text.specs.Text.{joined, Puts}
-use Rattle.verdict.specs.CoreAndRound.{verdictFor}
 use Rattle.verdict.specs.declared.Table.{Table}
 use Rattle.verdict.specs.declared.Table.the-variants.{Core}
 use Rattle.verdict.specs.declared.Verdict.{Verdict}
 use Rattle.verdict.specs.declared.Verdict.the-variants.{Refused, Value, Lookup, Repeated, Unbalanced, Holds}
 use Rattle.verdict_line.specs.Line.{LINE-MOST, shownOf, shownBy, tupleAt, value-name, timestamp-name, lookup-name}
-use Rattle.verdict_line.specs.Line.{balance-name, placeWords, wordsOf, shownWords, lineOf, shownAt, lineAt, Judged}
-use Rattle.verdict_line.specs.Line.{refusedBy, lineRefusal, lineAnswer, lineAfter}
+use Rattle.verdict_line.specs.Line.{balance-name, placeWords, wordsOf, shownWords, lineOf, lineBy, Judged}
+use Rattle.verdict_line.specs.Line.{refusedBy, refusalBy, answerBy, afterBy}
 use Rattle.verdict_line.proofs.Refusals.{judged-later, refused-first}
 
 -- words stored over others, of which the first are read
@@ -35,48 +34,44 @@ taken vs old {n} {ws} e q = (
 )
 
 module _ (nr : ℕ) (core round : List ℕ) where
-  -- the line of a verdict on these tables
-  abbrev of : Verdict → List ℕ
-  of v = lineOf v (shownBy nr core round v)
-
   module _ (t : Table) (r i : ℕ) where
-    pub value-line : joined (placeWords t r value-name i) ≡ of (Value t r i)
+    pub value-line : joined (placeWords t r value-name i) ≡ lineBy nr core round (Value t r i)
     unfolding lineOf wordsOf shownBy shownWords placeWords
     value-line = refl
 
-    pub lookup-line : joined (placeWords t r lookup-name i ++ shownWords (some (shownOf (tupleAt nr core round t r i)))) ≡ of (Lookup t r i)
+    pub lookup-line : joined (placeWords t r lookup-name i ++ shownWords (some (shownOf (tupleAt nr core round t r i)))) ≡ lineBy nr core round (Lookup t r i)
     unfolding lineOf wordsOf shownBy
     lookup-line = refl
 
-    pub balance-line : joined (placeWords t r balance-name i ++ shownWords (some (shownOf (tupleAt nr core round t r i)))) ≡ of (Unbalanced t r i)
+    pub balance-line : joined (placeWords t r balance-name i ++ shownWords (some (shownOf (tupleAt nr core round t r i)))) ≡ lineBy nr core round (Unbalanced t r i)
     unfolding lineOf wordsOf shownBy
     balance-line = refl
 
-  pub repeated-line : (r : ℕ) → joined (placeWords Core r timestamp-name 0) ≡ of (Repeated r)
+  pub repeated-line : (r : ℕ) → joined (placeWords Core r timestamp-name 0) ≡ lineBy nr core round (Repeated r)
   unfolding lineOf wordsOf shownBy shownWords placeWords
   repeated-line r = refl
 
-  pub holds-line : (n : ℕ) → joined (wordsOf (Holds n)) ≡ of (Holds n)
+  pub holds-line : (n : ℕ) → joined (wordsOf (Holds n)) ≡ lineBy nr core round (Holds n)
   unfolding lineOf wordsOf shownBy shownWords
   holds-line n = refl
 
-  no-line : (r : Refusal) → of (Refused r) ≡ []
+  no-line : (r : Refusal) → lineBy nr core round (Refused r) ≡ []
   unfolding lineOf wordsOf shownBy shownWords joined
   no-line r = refl
 
   -- what `put_line` says of a verdict v: its answer a, and out, which is b afterwards
   abbrev Put : Verdict → Number → List ℕ → List ℕ → Type 0
-  Put v a out b = (a ≡ numberOf (length (of v)) (refusedBy v accepted)) × ((b ≡ sets out 0 (of v)) × (length (of v) ≤ LINE-MOST))
+  Put v a out b = (a ≡ numberOf (length (lineBy nr core round v)) (refusedBy v accepted)) × ((b ≡ sets out 0 (lineBy nr core round v)) × (length (lineBy nr core round v) ≤ LINE-MOST))
 
-  pub shows : (v w : Verdict) (out b s : List ℕ) (r : ℕ) → v ≡ w → Judged w → s ≡ of w → Puts out 0 s b r → r ≤ LINE-MOST → Put v (number.Is r) out b
+  pub shows : (v w : Verdict) (out b s : List ℕ) (r : ℕ) → v ≡ w → Judged w → s ≡ lineBy nr core round w → Puts out 0 s b r → r ≤ LINE-MOST → Put v (number.Is r) out b
   shows v w out b s r told j e p m =
-      let q : s ≡ of v = e ∙ sym (ap of told) in
-      let l : r ≡ length (of v) = omega (arith, p .ends, ap length q) in
+      let q : s ≡ lineBy nr core round v = e ∙ sym (ap (lineBy nr core round) told) in
+      let l : r ≡ length (lineBy nr core round v) = omega (arith, p .ends, ap length q) in
       (number-is (judged-later v accepted (subst Judged (sym told) j)) l, (p .is ∙ ap (sets out 0) q, omega (arith, l, m)))
 
   pub shows-refused : (v : Verdict) (x : Refusal) (out : List ℕ) → v ≡ Refused x → Put v (number.Refused x) out out
   shows-refused v x out told =
-      let q : of v ≡ [] = ap of told ∙ no-line x in
+      let q : lineBy nr core round v ≡ [] = ap (lineBy nr core round) told ∙ no-line x in
       (number-refused _ (refused-first v accepted x told), (sym (ap (sets out 0) q), omega (arith, ap length q)))
 
 -- ---- from `put_line` to the call
@@ -108,41 +103,40 @@ passed-later (Repeated r) later e = refl
 passed-later (Unbalanced t r i) later e = refl
 passed-later (Holds n) later e = refl
 
-module _ (nr : ℕ) (core round line old text : List ℕ) (v : Verdict) (a : Number) (judged : v ≡ verdictFor nr core round) (put : Put nr core round v a old text) where
-  the-line : of nr core round v ≡ lineAt nr core round
-  unfolding lineAt shownAt
-  the-line = ap (of nr core round) judged
-
+module _ (nr : ℕ) (core round line old text : List ℕ) (v : Verdict) (a : Number) (put : Put nr core round v a old text) where
   pub answers-refused : {x : Refusal} → a ≡ number.Refused x →
-      (number.Refused x ≡ lineAnswer nr core round line) × (line ≡ lineAfter nr core round line)
-  unfolding lineRefusal
+      (number.Refused x ≡ answerBy nr core round v line) × (line ≡ afterBy nr core round v line)
+  unfolding refusalBy
   answers-refused {x} told =
-      let e = refused-later v (tooShort (length line) (length (lineAt nr core round)) accepted) x (is-refusal _ x _ (sym told ∙ put .0)) in
-      let q : lineRefusal nr core round (length line) ≡ some x = ap (λ (w : Verdict). refusedBy w (tooShort (length line) (length (lineAt nr core round)) accepted)) (sym judged) ∙ e in
+      let q = refused-later v (tooShort (length line) (length (lineBy nr core round v)) accepted) x (is-refusal _ x _ (sym told ∙ put .0)) in
       (number-refused _ q, kept _ _ q)
 
   module _ {n : ℕ} (told : a ≡ number.Is n) where
-    says : (refusedBy v none ≡ none) × (n ≡ length (of nr core round v))
+    says : (refusedBy v none ≡ none) × (n ≡ length (lineBy nr core round v))
     says = is-number _ n _ (sym told ∙ put .0)
 
     pub fits : LINE-MOST ≤ length old → n ≤ length text
-    fits l = omega (arith, says .1, put .1 .1, ap length (put .1 .0 ∙ sets-front old (of nr core round v) _ refl (omega (arith, put .1 .1))), length-append (of nr core round v) (drop (length (of nr core round v)) old))
+    fits l = omega (arith, says .1, put .1 .1, ap length (put .1 .0 ∙ sets-front old (lineBy nr core round v) _ refl (omega (arith, put .1 .1))), length-append (lineBy nr core round v) (drop (length (lineBy nr core round v)) old))
 
-    text-taken : LINE-MOST ≤ length old → take n text ≡ lineAt nr core round
+    text-taken : LINE-MOST ≤ length old → take n text ≡ lineBy nr core round v
     text-taken l =
-        (λ t. take (says .1 t) ((put .1 .0 ∙ sets-front old (of nr core round v) _ refl (omega (arith, put .1 .1))) t))
-        ∙ take-append-seam (of nr core round v) (drop (length (of nr core round v)) old)
-        ∙ the-line
+        (λ t. take (says .1 t) ((put .1 .0 ∙ sets-front old (lineBy nr core round v) _ refl (omega (arith, put .1 .1))) t))
+        ∙ take-append-seam (lineBy nr core round v) (drop (length (lineBy nr core round v)) old)
 
     pub answers-line : LINE-MOST ≤ length old → {b : Number} {after : List ℕ} →
         b ≡ numberOf n (tooShort (length line) n accepted) →
         after ≡ afterwards (tooShort (length line) n accepted) (overwrite (take n text) line) line →
-        (b ≡ lineAnswer nr core round line) × (after ≡ lineAfter nr core round line)
-    unfolding lineRefusal
+        (b ≡ answerBy nr core round v line) × (after ≡ afterBy nr core round v line)
+    unfolding refusalBy
     answers-line l e f =
-        let m : n ≡ length (lineAt nr core round) = says .1 ∙ ap length the-line in
-        let later : Option Refusal = tooShort (length line) (length (lineAt nr core round)) accepted in
-        let q : tooShort (length line) n accepted ≡ lineRefusal nr core round (length line) =
-        ap (λ (k : ℕ). tooShort (length line) k accepted) m ∙ sym (ap (λ (w : Verdict). refusedBy w later) (sym judged) ∙ passed-later v later (says .0)) in
+        let m : n ≡ length (lineBy nr core round v) = says .1 in
+        let q : tooShort (length line) n accepted ≡ refusalBy nr core round v (length line) =
+        ap (λ (k : ℕ). tooShort (length line) k accepted) m ∙ sym (passed-later v _ (says .0)) in
         let t = text-taken l in
         (e ∙ (λ j. numberOf (m j) (q j)), f ∙ (λ j. afterwards (q j) (overwrite (t j) line) line))
+
+-- and of the call where the verdict is known
+pub same-line : (nr : ℕ) (core round line : List ℕ) {v w : Verdict} {b : Number} {after : List ℕ} → v ≡ w →
+    (b ≡ answerBy nr core round v line) × (after ≡ afterBy nr core round v line) →
+    (b ≡ answerBy nr core round w line) × (after ≡ afterBy nr core round w line)
+same-line nr core round line e h = (h .0 ∙ (λ t. answerBy nr core round (e t) line), h .1 ∙ (λ t. afterBy nr core round (e t) line))

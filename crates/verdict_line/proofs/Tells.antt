@@ -175,7 +175,7 @@ module _ (nr mr : ℕ) (core round core′ round′ : List ℕ) where
   pub lines-tell : Judged (verdictFor nr core round) → Judged (verdictFor mr core′ round′) →
       (lineAt nr core round ≡ lineAt mr core′ round′)
       ↔ ((verdictFor nr core round ≡ verdictFor mr core′ round′) × (shownAt nr core round ≡ shownAt mr core′ round′))
-  unfolding lineAt
+  unfolding shownAt
   lines-tell j k = (
     line-tells _ _ _ _ j k,
     λ e. λ t. lineOf (e .0 t) (e .1 t),

@@ -4,8 +4,10 @@
 --     shownBy         the tuple that a verdict on two tables shows: that of its lookup or balance
 --     wordsOf         the words of a verdict, `shownWords` those of the tuple
 --     lineOf          all of them, joined by single spaces
---     lineAt          the line of the verdict on two tables
---     lineRefusal, lineAnswer, lineAfter   what the call refuses, answers and leaves in the lent bytes
+--     lineBy, refusalBy, answerBy, afterBy   of a verdict on two tables: its line, and what a call that has it refuses,
+--                     answers and leaves in the lent bytes
+--     lineAt, lineRefusal, lineAnswer, lineAfter   the same of the verdict of `verdict`
+--     withinLineRefusal, withinLineAnswer, withinLineAfter   and of that in lent memory
 use Prim.Native.Nat.{ℕ}
 use mathlib.Core.Option.{Option, none, some}
 use mathlib.Core.List.{List, [], _∷_, _++_, map}
@@ -23,6 +25,7 @@ use Rattle.verdict.specs.declared.Table.{Table}
 use Rattle.verdict.specs.declared.Table.the-variants.{Core, Round}
 use Rattle.verdict.specs.declared.Verdict.{Verdict}
 use Rattle.verdict.specs.declared.Verdict.the-variants.{Refused, Value, Lookup, Repeated, Unbalanced, Holds}
+use Rattle.judge_within.specs.Within.{withinFor}
 
 -- ---- the tuple that is shown
 -- tuple i of row r of a table, for nr rounds, which the tuple that a core row sends names
@@ -98,12 +101,16 @@ shownWords (some s) = busName (s .bus) ∷ map decimalOf (s .values)
 unfoldable pub lineOf : Verdict → Option Shown → List ℕ
 lineOf v s = joined (wordsOf v ++ shownWords s)
 
--- of the verdict on two tables, for nr rounds
+-- of a verdict on two tables, for nr rounds
+abbrev pub lineBy : ℕ → List ℕ → List ℕ → Verdict → List ℕ
+lineBy nr core round v = lineOf v (shownBy nr core round v)
+
+-- of the verdict of `verdict`
 unfoldable pub shownAt : ℕ → List ℕ → List ℕ → Option Shown
 shownAt nr core round = shownBy nr core round (verdictFor nr core round)
 
-unfoldable pub lineAt : ℕ → List ℕ → List ℕ → List ℕ
-lineAt nr core round = lineOf (verdictFor nr core round) (shownAt nr core round)
+abbrev pub lineAt : ℕ → List ℕ → List ℕ → List ℕ
+lineAt nr core round = lineBy nr core round (verdictFor nr core round)
 
 -- The most bytes of a line: 5 of the table, 4 of `row`, 21 of its number, 10 of what failed, 21 of its index, 11 of the
 -- bus, and 21 of each of 203 values, spaces included.
@@ -120,7 +127,7 @@ Judged (Repeated r) = Unit {0}
 Judged (Unbalanced t r i) = Unit {0}
 Judged (Holds n) = Unit {0}
 
--- refused as the verdict is, by 8, 2 or 5, else what the later checks say
+-- refused as the verdict is, else what the later checks say
 unfoldable pub refusedBy : Verdict → Option Refusal → Option Refusal
 refusedBy (Refused r) later = some r
 refusedBy (Value t r i) later = later
@@ -130,14 +137,33 @@ refusedBy (Unbalanced t r i) later = later
 refusedBy (Holds n) later = later
 
 -- "A line that doesn't fit the lent bytes is a short slice, refused after 5."
-unfoldable pub lineRefusal : ℕ → List ℕ → List ℕ → ℕ → Option Refusal
-lineRefusal nr core round room =
-    refusedBy (verdictFor nr core round) (tooShort room (length (lineAt nr core round)) accepted)
+unfoldable pub refusalBy : ℕ → List ℕ → List ℕ → Verdict → ℕ → Option Refusal
+refusalBy nr core round v room = refusedBy v (tooShort room (length (lineBy nr core round v)) accepted)
 
 -- it "answers the line's length"
+abbrev pub answerBy : ℕ → List ℕ → List ℕ → Verdict → List ℕ → Number
+answerBy nr core round v bytes = numberOf (length (lineBy nr core round v)) (refusalBy nr core round v (length bytes))
+
+abbrev pub afterBy : ℕ → List ℕ → List ℕ → Verdict → List ℕ → List ℕ
+afterBy nr core round v bytes =
+    afterwards (refusalBy nr core round v (length bytes)) (overwrite (lineBy nr core round v) bytes) bytes
+
+-- by the verdict of `verdict`: 8, 2, 5, then 3
+abbrev pub lineRefusal : ℕ → List ℕ → List ℕ → ℕ → Option Refusal
+lineRefusal nr core round room = refusalBy nr core round (verdictFor nr core round) room
+
 abbrev pub lineAnswer : ℕ → List ℕ → List ℕ → List ℕ → Number
-lineAnswer nr core round bytes = numberOf (length (lineAt nr core round)) (lineRefusal nr core round (length bytes))
+lineAnswer nr core round bytes = answerBy nr core round (verdictFor nr core round) bytes
 
 abbrev pub lineAfter : ℕ → List ℕ → List ℕ → List ℕ → List ℕ
-lineAfter nr core round bytes =
-    afterwards (lineRefusal nr core round (length bytes)) (overwrite (lineAt nr core round) bytes) bytes
+lineAfter nr core round bytes = afterBy nr core round (verdictFor nr core round) bytes
+
+-- by the verdict in lent memory, slices of `scratch` and of `spare` words: 8, 2, 3 of them, 5, then 3 of the line
+abbrev pub withinLineRefusal : ℕ → List ℕ → List ℕ → ℕ → ℕ → ℕ → Option Refusal
+withinLineRefusal nr core round scratch spare room = refusalBy nr core round (withinFor nr core round scratch spare) room
+
+abbrev pub withinLineAnswer : ℕ → List ℕ → List ℕ → ℕ → ℕ → List ℕ → Number
+withinLineAnswer nr core round scratch spare bytes = answerBy nr core round (withinFor nr core round scratch spare) bytes
+
+abbrev pub withinLineAfter : ℕ → List ℕ → List ℕ → ℕ → ℕ → List ℕ → List ℕ
+withinLineAfter nr core round scratch spare bytes = afterBy nr core round (withinFor nr core round scratch spare) bytes

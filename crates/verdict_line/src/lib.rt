@@ -3,6 +3,7 @@ use answer::Number;
 use answer::Refusal;
 use judge::verdict;
 use judge_scan::row_at;
+use judge_within::verdict_within;
 use keccak_rnd_tuples;
 use keccak_tuples;
 use text::put;
@@ -24,8 +25,10 @@ ghost use Rattle.text.specs.Text.{Puts, spaced, joined};
 ghost use Rattle.tuple.specs.Call.{interactionOf};
 ghost use Rattle.verdict.specs.CoreAndRound.{verdictFor};
 ghost use Rattle.verdict.specs.declared.Verdict.the-variants.{Holds};
-ghost use Rattle.verdict_line.specs.Line.{LINE-MOST, tupleAt, shownOf, shownBy, placeWords, wordsOf, shownWords};
-ghost use Rattle.verdict_line.specs.Line.{lineOf, refusedBy, lineAnswer, lineAfter};
+ghost use Rattle.judge_within.specs.Within.{withinAfter};
+ghost use Rattle.verdict_line.specs.Line.{LINE-MOST, tupleAt, shownOf, placeWords, wordsOf, shownWords};
+ghost use Rattle.verdict_line.specs.Line.{Judged, lineBy, refusedBy, answerBy, afterBy, lineAnswer, lineAfter};
+ghost use Rattle.verdict_line.specs.Line.{withinLineAnswer, withinLineAfter};
 ghost use Rattle.verdict_line.specs.Named.{Named};
 
 pub mod words;
@@ -114,10 +117,10 @@ fn put_holds(out: &mut [u8], active: usize) -> usize
 
 // The line of a verdict; answers its length, or the verdict's refusal, which has no line.
 fn put_line(nr: usize, verdict: Verdict, core: &[u64], round: &[u64], out: &mut [u8]) -> Number
-    requires { ⌜ (verdict ≡ verdictFor nr (now core) (now round)) × (LINE-MOST ≤ length (now out)) ⌝ }
-    ensures answer { λ r. ⌜ r ≡ numberOf (length (lineOf verdict (shownBy nr (now (core .entry)) (now (round .entry)) verdict))) (refusedBy verdict accepted) ⌝ }
-    ensures bytes { λ _. ⌜ now (out .exit) ≡ sets (now (out .entry)) 0 (lineOf verdict (shownBy nr (now (core .entry)) (now (round .entry)) verdict)) ⌝ }
-    ensures most { λ _. ⌜ length (lineOf verdict (shownBy nr (now (core .entry)) (now (round .entry)) verdict)) ≤ LINE-MOST ⌝ }
+    requires { ⌜ (Judged verdict → verdict ≡ verdictFor nr (now core) (now round)) × (LINE-MOST ≤ length (now out)) ⌝ }
+    ensures answer { λ r. ⌜ r ≡ numberOf (length (lineBy nr (now (core .entry)) (now (round .entry)) verdict)) (refusedBy verdict accepted) ⌝ }
+    ensures bytes { λ _. ⌜ now (out .exit) ≡ sets (now (out .entry)) 0 (lineBy nr (now (core .entry)) (now (round .entry)) verdict) ⌝ }
+    ensures most { λ _. ⌜ length (lineBy nr (now (core .entry)) (now (round .entry)) verdict) ≤ LINE-MOST ⌝ }
 {
     match verdict {
         Verdict::Value { table, row, index } => {
@@ -150,15 +153,42 @@ fn copy_line(text: &[u8], n: usize, line: &mut [u8]) -> Number
     Number::Is(n as u64)
 }
 
+// The line of a verdict on a core table and a round table for nr rounds, into the lent bytes; answers its length.
+fn write_line(nr: usize, judged: Verdict, core: &[u64], round: &[u64], line: &mut [u8]) -> Number
+    requires { ⌜ (Judged judged → judged ≡ verdictFor nr (now core) (now round)) ⌝ }
+    ensures answer { λ r. ⌜ r ≡ answerBy nr (now (core .entry)) (now (round .entry)) judged (now (line .entry)) ⌝ }
+    ensures bytes { λ _. ⌜ now (line .exit) ≡ afterBy nr (now (core .entry)) (now (round .entry)) judged (now (line .entry)) ⌝ }
+{
+    let mut text = [0u8; LINE_MOST];
+    match put_line(nr, judged, core, round, &mut text) {
+        Number::Refused(refusal) => Number::Refused(refusal),
+        Number::Is(n) => copy_line(&text, n as usize, line),
+    }
+}
+
 // The line of the verdict on a core table and a round table for nr rounds, into the lent bytes; answers its length.
 pub fn verdict_line(nr: u64, core: &[u64], round: &[u64], line: &mut [u8]) -> Number
     ensures answer { λ r. ⌜ r ≡ lineAnswer nr (now (core .entry)) (now (round .entry)) (now (line .entry)) ⌝ }
     ensures bytes { λ _. ⌜ now (line .exit) ≡ lineAfter nr (now (core .entry)) (now (round .entry)) (now (line .entry)) ⌝ }
 {
     let judged = verdict(nr, core, round);
-    let mut text = [0u8; LINE_MOST];
-    match put_line(nr as usize, judged, core, round, &mut text) {
-        Number::Refused(refusal) => Number::Refused(refusal),
-        Number::Is(n) => copy_line(&text, n as usize, line),
-    }
+    write_line(nr as usize, judged, core, round, line)
+}
+
+// The same of the verdict in lent memory, which leaves `scratch` and `spare` as `verdict_within` does.
+pub fn verdict_line_within<'a>(
+    nr: u64,
+    core: &'a [u64],
+    round: &'a [u64],
+    line: &mut [u8],
+    scratch: &mut [u64],
+    spare: &mut [u64],
+) -> Number
+    ensures answer { λ r. ⌜ r ≡ withinLineAnswer nr (now (core .entry)) (now (round .entry)) (length (now (scratch .entry))) (length (now (spare .entry))) (now (line .entry)) ⌝ }
+    ensures bytes { λ _. ⌜ now (line .exit) ≡ withinLineAfter nr (now (core .entry)) (now (round .entry)) (length (now (scratch .entry))) (length (now (spare .entry))) (now (line .entry)) ⌝ }
+    ensures scratch { λ _. ⌜ now (scratch .exit) ≡ withinAfter nr (now (core .entry)) (now (round .entry)) (length (now (scratch .entry))) (length (now (spare .entry))) (now (scratch .entry)) ⌝ }
+    ensures spare { λ _. ⌜ now (spare .exit) ≡ withinAfter nr (now (core .entry)) (now (round .entry)) (length (now (scratch .entry))) (length (now (spare .entry))) (now (spare .entry)) ⌝ }
+{
+    let judged = verdict_within(nr, core, round, scratch, spare);
+    write_line(nr as usize, judged, core, round, line)
 }

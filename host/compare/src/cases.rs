@@ -7,18 +7,13 @@ use oracle::tables::keccak_rnd::cols;
 use oracle::{CORE_COLUMNS, OPERATION_WORDS, P, ROUND_COLUMNS, core_table, round_table};
 
 use crate::by_rounds::ALL;
+use crate::dishonest::Tables;
 use crate::jobs::{Job, report};
 use crate::judge::verdict;
 
 /// The first timestamp, and the address of the second operation.
 const STAMP: u64 = 7 << 32 | 5;
 const ADDRESS: u64 = 0x7FFF_FFFF_FF40;
-
-/// A core table and a round table.
-struct Tables {
-    core: Vec<u64>,
-    round: Vec<u64>,
-}
 
 /// The operation of a timestamp, an address, an input and an output; its segment number is the lower half of the timestamp.
 fn operation(timestamp: u64, address: u64, input: [u64; 25], output: [u64; 25]) -> Vec<u64> {
@@ -107,22 +102,19 @@ fn job_lines(name: &str, job: &Job) -> Vec<String> {
     }
 }
 
-/// The lines of the jobs.
-fn jobs() -> Vec<String> {
+/// The jobs by name.
+pub fn jobs() -> [(&'static str, Job); 4] {
     [
         ("two segments", segments(STAMP + 1, [4, 32, 4, 32])),
         ("misfiled", segments(STAMP + 1, [4, 33, 4, 31])),
         ("shared timestamp", segments(STAMP, [4, 32, 4, 32])),
         ("sums that wrap", segments(STAMP + 1, [12, 64, u64::MAX - 3, 0])),
     ]
-    .iter()
-    .flat_map(|(name, job)| job_lines(name, job))
-    .collect()
 }
 
-/// A line for each case: its name, then the four words of the verdict; then those of the jobs.
-pub fn lines() -> Vec<String> {
-    let cases = [
+/// The tables by name.
+pub fn tables() -> [(&'static str, Tables); 13] {
+    [
         ("as written", damaged(|_| ())),
         (
             "no rows",
@@ -167,10 +159,16 @@ pub fn lines() -> Vec<String> {
             damaged(|t| *t.round.last_mut().expect("there are rows") = P),
         ),
     ]
-    .into_iter()
-    .map(|(name, Tables { core, round })| {
+}
+
+/// A line for each case: its name, then the four words of the verdict; then those of the jobs.
+pub fn lines() -> Vec<String> {
+    let cases = tables().into_iter().map(|(name, Tables { core, round })| {
         let [a, b, c, d] = verdict(&core, &round).words();
         format!("{name} {a} {b} {c} {d}")
     });
-    cases.chain(jobs()).collect()
+    let jobs = jobs();
+    cases
+        .chain(jobs.iter().flat_map(|(name, job)| job_lines(name, job)))
+        .collect()
 }

@@ -3,7 +3,7 @@
 //! `rows` compares rows, tables, keys, counters and refusals, `values` the constraint values of core and round rows and
 //! `tuples` their tuples. `looked_up` has the two tables that are looked up, whole, `charge` what a segment charges to the counters of one
 //! of them (`plain_charge` is a plain charge to time it against), `registers` what several registers do. `verdicts` holds the verdict against `judge`, a judge
-//! of its own, on the tables of `dishonest`, `lines` its line of text, `jobs` the report on a job's segments. `tally`
+//! of its own, on the tables of `dishonest` and in the `orders` of their rows, in the `scratch` that it is lent, `lines` its line of text, `jobs` the report on a job's segments. `tally`
 //! reads operation files, beside `plain_file`, which reads them too, `limit` the longest ones, and `refusals` has the table of what each call refuses. `rounds` has every number of
 //! rounds, by what `by_rounds` makes of the Rust's 24, and `floors` every floor, by what `by_floor` makes of the Rust's 4; `month` has the month
 //! by exact fractions, `message` what is written and judged for messages, by a SHA3-256 of its own, `plain_sha3`; `same` has a
@@ -30,6 +30,7 @@ pub mod list_calls;
 pub mod looked_up;
 pub mod message;
 pub mod month;
+pub mod orders;
 pub mod plain_charge;
 pub mod plain_file;
 pub mod plain_sha3;
@@ -40,6 +41,7 @@ pub mod rounds;
 pub mod rows;
 pub mod same;
 pub mod say;
+pub mod scratch;
 pub mod tally;
 pub mod tuple_list;
 pub mod tuples;

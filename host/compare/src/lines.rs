@@ -1,9 +1,12 @@
 //! The line of a verdict against one made in plain Rust, from the independent judge's verdict and the published tuples: on every named
-//! pair of tables and on drawn ones; and lent slices that are too short for it.
+//! pair of tables and on drawn ones, in memory that is lent and without any; and lent slices that are too short for it.
 
 use std::collections::HashSet;
 
-use keccak_tables::verdict::{LINE_MOST, verdict_line, verdict_line_with, verdict_text, verdict_text_with};
+use keccak_tables::verdict::{
+    LINE_MOST, verdict_line, verdict_line_alone, verdict_line_alone_with, verdict_line_with, verdict_line_within,
+    verdict_line_within_with, verdict_text, verdict_text_with,
+};
 use keccak_tables::{Parameters, Refusal};
 use oracle::{CORE_COLUMNS, ROUND_COLUMNS};
 
@@ -13,6 +16,7 @@ use crate::dishonest::{Tables, pairs};
 use crate::inputs::Words;
 use crate::judge::{self, Table, Verdict};
 use crate::lent::LentBytes;
+use crate::scratch::Scratch;
 use crate::verdicts::{changed, moved_and_changed};
 
 /// The whole area: the named pairs, `n` drawn changes of words and as many of rows, and every short slice of a few lines.
@@ -64,14 +68,6 @@ fn kind(line: &str) -> (String, String) {
     (word(0), word(2))
 }
 
-/// Our line of two tables by nr rounds: where they are all 24, by the call that takes no parameters.
-fn ours(nr: u64, Tables { core, round }: &Tables, line: &mut [u8]) -> Result<usize, Refusal> {
-    match nr {
-        ALL => verdict_line(core, round, line),
-        nr => verdict_line_with(Parameters::default().rounds(nr), core, round, line),
-    }
-}
-
 /// The line in plain Rust of a verdict by nr rounds; one that is a refusal has none.
 pub fn line(nr: u64, core: &[u64], round: &[u64], verdict: Verdict) -> Option<String> {
     let shown = match verdict {
@@ -110,10 +106,8 @@ pub(crate) fn line_of(
         let Verdict::Refused(number, detail) = answer else {
             unreachable!("every other verdict has a line")
         };
-        let mut lent = LentBytes::drawn(words.below(60) as usize, words);
-        let ours = ours(nr, tables, lent.slice());
-        comparison.answered("verdict_line", input, ours, Some((number, detail)));
-        lent.holds(comparison, input, &[]);
+        let room = words.below(60) as usize;
+        every_call(comparison, words, input, (nr, tables), room, Err((number, detail)));
         return;
     };
     let needed = line.len();
@@ -122,11 +116,8 @@ pub(crate) fn line_of(
         &[u64::from(needed <= LINE_MOST)],
         &[1],
     );
-    let mut lent = LentBytes::drawn(needed + words.below(3) as usize, words);
-    let ours = ours(nr, tables, lent.slice());
-    comparison.answered("verdict_line", input, ours, None);
-    comparison.equal(|_| input(), &[ours.unwrap_or(0) as u64], &[needed as u64]);
-    lent.holds(comparison, input, line.as_bytes());
+    let room = needed + words.below(3) as usize;
+    every_call(comparison, words, input, (nr, tables), room, Ok(&line));
     let text = match nr {
         ALL => verdict_text(core, round),
         nr => verdict_text_with(Parameters::default().rounds(nr), core, round),
@@ -143,14 +134,70 @@ fn short(
     comparison: &mut Comparison,
     words: &mut Words,
     input: &dyn Fn() -> String,
-    (nr, tables): (u64, &Tables),
+    on: (u64, &Tables),
     room: usize,
     needed: usize,
 ) {
+    every_call(comparison, words, input, on, room, Err((3, needed as u64)));
+}
+
+/// Every call that writes a line, into `room` bytes: with memory of its own, without, and in every scratch. Where the rounds are all 24, by
+/// the calls that take no parameters.
+fn every_call(
+    comparison: &mut Comparison,
+    words: &mut Words,
+    input: &dyn Fn() -> String,
+    (nr, Tables { core, round }): (u64, &Tables),
+    room: usize,
+    expected: Result<&str, (u64, u64)>,
+) {
+    let with = Parameters::default().rounds(nr);
     let mut lent = LentBytes::drawn(room, words);
-    let ours = ours(nr, tables, lent.slice());
-    comparison.answered("verdict_line", input, ours, Some((3, needed as u64)));
-    lent.holds(comparison, input, &[]);
+    let own = match nr {
+        ALL => verdict_line(core, round, lent.slice()),
+        _ => verdict_line_with(with, core, round, lent.slice()),
+    };
+    one_call(comparison, "verdict_line_within", input, &lent, own, expected);
+    let mut lent = LentBytes::drawn(room, words);
+    let alone = match nr {
+        ALL => verdict_line_alone(core, round, lent.slice()),
+        _ => verdict_line_alone_with(with, core, round, lent.slice()),
+    };
+    one_call(comparison, "verdict_line", input, &lent, alone, expected);
+    for mut scratch in Scratch::each(core, round, words) {
+        let mut lent = LentBytes::drawn(room, words);
+        let ours = match nr {
+            ALL => verdict_line_within(core, round, lent.slice(), scratch.slice()),
+            _ => verdict_line_within_with(with, core, round, lent.slice(), scratch.slice()),
+        };
+        let (expected, was_used) = in_scratch(&scratch, expected);
+        one_call(comparison, "verdict_line_within", input, &lent, ours, expected);
+        scratch.left(comparison, input, was_used);
+    }
+}
+
+/// What is answered in a scratch, and whether it is used. A line is refused for its own slice when the tables are judged.
+fn in_scratch<'a>(scratch: &Scratch, with_room: Result<&'a str, (u64, u64)>) -> (Result<&'a str, (u64, u64)>, bool) {
+    let judged = with_room.err().filter(|&(number, _)| number != 3);
+    match scratch.refusal(judged) {
+        Some(refusal) => (Err(refusal), false),
+        None => (with_room, true),
+    }
+}
+
+/// One answer, and what the slice of the line holds.
+fn one_call(
+    comparison: &mut Comparison,
+    call: &'static str,
+    input: &dyn Fn() -> String,
+    lent: &LentBytes,
+    ours: Result<usize, Refusal>,
+    expected: Result<&str, (u64, u64)>,
+) {
+    comparison.answered(call, input, ours, expected.err());
+    let line = expected.unwrap_or_default();
+    comparison.equal(|_| input(), &[ours.unwrap_or(0) as u64], &[line.len() as u64]);
+    lent.holds(comparison, input, line.as_bytes());
 }
 
 fn bytes(text: &str) -> Vec<u64> {

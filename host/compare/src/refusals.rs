@@ -5,7 +5,10 @@
 use keccak_tables::is_wh::IsWhKey;
 use keccak_tables::keccak::LAST_ADDRESS;
 use keccak_tables::operation_file::{Tally, read_operations, write_operations};
-use keccak_tables::verdict::{verdict_line_with, verdict_text_with, verdict_with};
+use keccak_tables::verdict::{
+    LINE_MOST, verdict_alone_with, verdict_line_alone_with, verdict_line_with, verdict_line_within_with,
+    verdict_text_with, verdict_with, verdict_within_with,
+};
 use keccak_tables::{MAX_OPS, OP_WORDS, P, Parameters, Refusal, SEGMENT_WORD, bitwise, keccak, keccak_rnd};
 
 use crate::by_floor;
@@ -17,6 +20,7 @@ use crate::lent::{Lent, LentBytes};
 use crate::list_calls::{LIST_CALLS, PUT, list_with, of_list};
 use crate::plain_file::{self, file_of, first_fault, operations_of};
 use crate::refused::on_slice;
+use crate::scratch::Scratch;
 use crate::tally::read;
 use crate::untouched::Untouched;
 use crate::{charge, jobs, lines, looked_up, message, month, registers, rounds, rows, same, tuples, values, verdicts};
@@ -24,7 +28,7 @@ use crate::{charge, jobs, lines, looked_up, message, month, registers, rounds, r
 /// The numbers with which each call is tried, 0 being that it does its work. What only a file of 37 GB can cause is in
 /// `limit.rs`: 1 in `tally_feed`, `tally_finish`, `read_operations` and `same_operations`. No file is refused by 7. The bindings' lookups have no kind past the
 /// last; the tests of the header try it. What depends on the number of rounds is refused by 8 before all that stands here: `charge`, `look`, the
-/// multiplicities of a constant table, a round table, its rows, height and padding, the tuples of a core row, `verdict`, `verdict_line`, `job`. What
+/// multiplicities of a constant table, a round table, its rows, height and padding, the tuples of a core row, `verdict`, `verdict_line`, `job` and these three in lent memory. What
 /// depends on the floor is refused by 9 then: `charge`, `look`, a core table, its height, a round table, its height and padding, `tally_finish`.
 /// What goes through a register, `register_charge` and `register_look`, is refused by 8, 9 and 10.
 /// `month` is refused by 8, by 9 and then by 14.
@@ -51,10 +55,13 @@ use crate::{charge, jobs, lines, looked_up, message, month, registers, rounds, r
 /// | `verdict` | | core, round | | | core, round | |
 /// | `verdict_line` | | core, round | line | | core, round | |
 /// | `job` | | core, round, counts | report | | core, round | |
+/// | `verdict_within` | | core, round | scratch, spare | | core, round | |
+/// | `verdict_line_within` | | core, round | scratch, spare; behind 5 line | | core, round | |
+/// | `job_within` | | core, round, counts | report, scratch, spare | | core, round | |
 /// | a file's reader | n | | | address | | mark, cut |
 /// | `read_operations` | n | | list | address | | mark, cut |
 /// | `same_operations`, 2 and 5 first | n | core | | address | core | mark, cut |
-pub const MATRIX: [(&str, &[u64]); 59] = [
+pub const MATRIX: [(&str, &[u64]); 62] = [
     ("generate_bitwise_row", &[0, 1, 3]),
     ("bitwise_row_index", &[0, 1]),
     ("bitwise_bump", &[0, 1, 3, 5]),
@@ -107,7 +114,10 @@ pub const MATRIX: [(&str, &[u64]); 59] = [
     ("judge_message", &[0, 1, 2, 4, 7, 11, 12]),
     ("verdict", &[0, 2, 5, 8]),
     ("verdict_line", &[0, 2, 3, 5, 8]),
+    ("verdict_within", &[0, 2, 3, 5, 8]),
+    ("verdict_line_within", &[0, 2, 3, 5, 8]),
     ("job", &[0, 2, 3, 5, 8]),
+    ("job_within", &[0, 2, 3, 5, 8]),
     ("same_operations", &[0, 2, 4, 5, 6]),
     ("tally_start", &[0]),
     ("tally_feed", &[0, 4, 6]),
@@ -448,27 +458,66 @@ fn spoilt_table(words: &mut Words, length: usize, spoilt: usize) -> Vec<u64> {
     table
 }
 
+/// The calls that judge two tables, each with memory of its own, without, and in every scratch.
 fn one_verdict(comparison: &mut Comparison, words: &mut Words, core: &[u64], round: &[u64]) {
     let nr = words.any_rounds();
-    let parameters = Parameters::default().rounds(nr);
+    let with = Parameters::default().rounds(nr);
     let expected = judge::verdict_by(nr, core, round);
     let refused = match expected {
         judge::Verdict::Refused(number, detail) => Some((number, detail)),
         _ => None,
     };
-    let [mut lent_core, mut lent_round] = [core, round].map(|table| Lent::new(table, words));
-    let answer = verdict_with(parameters, lent_core.slice(), lent_round.slice());
+    let mut lent = [core, round].map(|table| Lent::new(table, words));
+    let [core_lent, round_lent] = lent.each_mut().map(|table| &*table.slice());
     let input = || format!("{nr} rounds, core {core:?}, round {round:?}");
-    comparison.answered("verdict", input, answer, refused);
-    comparison.equal(|_| input(), &verdicts::words(answer), &expected.words());
+    let own = verdict_with(with, core_lent, round_lent);
+    let alone = verdict_alone_with(with, core_lent, round_lent);
+    for (call, answer) in [("verdict_within", own), ("verdict", alone)] {
+        comparison.answered(call, input, answer, refused);
+        comparison.equal(|_| input(), &verdicts::words(answer), &expected.words());
+    }
     // Lent no byte, the line is refused as the verdict is, and else by its length.
     let line = lines::line(nr, core, round, expected).map(|line| (3, line.len() as u64));
-    let short = verdict_line_with(parameters, lent_core.slice(), lent_round.slice(), &mut []);
-    comparison.answered("verdict_line", input, short, refused.or(line));
-    let whole = verdict_text_with(parameters, lent_core.slice(), lent_round.slice());
+    let own = verdict_line_with(with, core_lent, round_lent, &mut []);
+    comparison.answered("verdict_line_within", input, own, refused.or(line));
+    let alone = verdict_line_alone_with(with, core_lent, round_lent, &mut []);
+    comparison.answered("verdict_line", input, alone, refused.or(line));
+    let whole = verdict_text_with(with, core_lent, round_lent);
+    comparison.answered("verdict_line_within", input, whole, refused);
+    let whole = verdict_line_alone_with(with, core_lent, round_lent, &mut [0; LINE_MOST]);
     comparison.answered("verdict_line", input, whole, refused);
-    lent_core.kept(comparison, |_| input());
-    lent_round.kept(comparison, |_| input());
+    in_each_scratch(
+        comparison,
+        words,
+        (with, [core_lent, round_lent]),
+        (refused, line),
+        &input,
+    );
+    for table in lent {
+        table.kept(comparison, |_| input());
+    }
+}
+
+/// The verdict and a line of no byte in every scratch: what is refused of the tables, and of a line that could be written.
+fn in_each_scratch(
+    comparison: &mut Comparison,
+    words: &mut Words,
+    (with, [core, round]): (Parameters, [&[u64]; 2]),
+    (refused, line): (Option<(u64, u64)>, Option<(u64, u64)>),
+    input: &dyn Fn() -> String,
+) {
+    for mut scratch in Scratch::each(core, round, words) {
+        let refused = scratch.refusal(refused);
+        let answer = verdict_within_with(with, core, round, scratch.slice());
+        comparison.answered("verdict_within", input, answer, refused);
+        scratch.left(comparison, input, refused.is_none());
+    }
+    for mut scratch in Scratch::each(core, round, words) {
+        let refused = scratch.refusal(refused);
+        let short = verdict_line_within_with(with, core, round, &mut [], scratch.slice());
+        comparison.answered("verdict_line_within", input, short, refused.or(line));
+        scratch.left(comparison, input, refused.is_none());
+    }
 }
 
 #[cfg(test)]

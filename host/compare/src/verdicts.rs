@@ -1,28 +1,34 @@
-//! The proved verdict against the independent judge's: on every named pair of tables, and on written tables of which one or
-//! two words were changed or rows exchanged, copied, dropped and shuffled.
+//! The proved verdict against the independent judge's, in memory that is lent and without any: on every named pair of tables, on those of
+//! `verdict_cases`, on the same calls in several orders, and on written tables of which one or two words were changed or rows exchanged,
+//! copied, dropped and shuffled.
 
-use keccak_tables::verdict::{Table, Verdict, verdict, verdict_with};
+use keccak_tables::verdict::{
+    Table, Verdict, verdict, verdict_alone, verdict_alone_with, verdict_with, verdict_within, verdict_within_with,
+};
 use keccak_tables::{P, Parameters, Refusal, keccak, keccak_rnd};
 
 use crate::by_rounds::ALL;
 use crate::comparison::Comparison;
 use crate::dishonest::{Tables, exchange, pairs, shuffle};
 use crate::inputs::Words;
-use crate::judge;
+use crate::orders::{self, ORDERS};
+use crate::scratch::Scratch;
+use crate::{cases, judge};
 
 /// The calls of the tables of many calls.
 const CALLS: usize = 30;
 
 /// The whole area: the named pairs, `n` drawn changes of words, as many of rows, and a tenth as many tables of many calls.
 pub fn compare(comparison: &mut Comparison, seed: u64, n: usize) {
+    let mut words = Words::new(seed);
     comparison.group("named pairs of tables, against the judge and against thought");
     for pair in pairs(seed) {
         let input = |_| format!("the pair '{}' of seed {seed}", pair.name);
-        let theirs = judged(comparison, &input, ALL, &pair.tables);
+        let theirs = judged(comparison, &mut words, &input, ALL, &pair.tables);
         comparison.equal(input, &theirs.words(), &pair.expected.words());
     }
+    small_and_ordered(comparison, &mut words, seed);
 
-    let mut words = Words::new(seed);
     let written: Vec<Tables> = (0..5).map(|calls| Tables::written(calls, &mut words)).collect();
     comparison.group("written tables with one or two words changed");
     for change in 0..n {
@@ -32,7 +38,7 @@ pub fn compare(comparison: &mut Comparison, seed: u64, n: usize) {
             changes += &changed(&mut tables, &mut words);
         }
         let input = |_| format!("change {change} of seed {seed}:{changes}");
-        judged(comparison, &input, ALL, &tables);
+        judged(comparison, &mut words, &input, ALL, &tables);
     }
     comparison
         .group("written tables with rows exchanged, copied, dropped or shuffled, and now and then a word changed");
@@ -40,10 +46,27 @@ pub fn compare(comparison: &mut Comparison, seed: u64, n: usize) {
         let mut tables = written[words.below(5) as usize].clone();
         let changes = moved_and_changed(&mut tables, &mut words);
         let input = |_| format!("move {change} of seed {seed}:{changes}");
-        judged(comparison, &input, ALL, &tables);
+        judged(comparison, &mut words, &input, ALL, &tables);
     }
     comparison.group("tables of 30 calls in a drawn order, of rows or of calls, with up to two rows moved");
     many_calls(comparison, &mut words, ALL, seed, n.div_ceil(10));
+}
+
+/// The tables of `verdict_cases`, and tables of 0 to 3 and of many calls in every order.
+fn small_and_ordered(comparison: &mut Comparison, words: &mut Words, seed: u64) {
+    comparison.group("the tables of verdict_cases, and tables of the same calls in every order");
+    for (name, tables) in cases::tables() {
+        judged(comparison, words, &|_| format!("the case '{name}'"), ALL, &tables);
+    }
+    for calls in [1, 2, 3, CALLS] {
+        let written = orders::written(calls, words);
+        for (name, order) in ORDERS {
+            let mut tables = written.clone();
+            order(&mut tables, calls, words);
+            let input = |_| format!("{calls} calls of seed {seed} in the order '{name}'");
+            judged(comparison, words, &input, ALL, &tables);
+        }
+    }
 }
 
 /// Moves rows, one to four times, and now and then changes a word; says what was done.
@@ -72,26 +95,55 @@ pub(crate) fn many_calls(comparison: &mut Comparison, words: &mut Words, nr: u64
             changes += &moved(&mut tables, words);
         }
         let input = |_| format!("table {table} of many calls of {nr} rounds of seed {seed}:{changes}");
-        judged(comparison, &input, nr, &tables);
+        judged(comparison, words, &input, nr, &tables);
     }
 }
 
-/// The judge's verdict on two tables by nr rounds, against which ours is held.
+/// The judge's verdict on two tables by nr rounds, against which ours is held: with memory of its own, without, and in every scratch. Where
+/// the rounds are all 24, by the calls that take no parameters.
 pub(crate) fn judged(
     comparison: &mut Comparison,
+    words: &mut Words,
     input: &dyn Fn(usize) -> String,
     nr: u64,
     tables: &Tables,
 ) -> judge::Verdict {
     let Tables { core, round } = tables;
-    let ours = words(match nr {
-        ALL => verdict(core, round),
-        nr => verdict_with(Parameters::default().rounds(nr), core, round),
-    });
+    let with = Parameters::default().rounds(nr);
     let theirs = judge::verdict_by(nr, core, round);
-    comparison.called();
-    comparison.equal(input, &ours, &theirs.words());
+    let [own, alone] = match nr {
+        ALL => [verdict(core, round), verdict_alone(core, round)],
+        _ => [verdict_with(with, core, round), verdict_alone_with(with, core, round)],
+    };
+    answered(comparison, "verdict_within", input, own, theirs);
+    answered(comparison, "verdict", input, alone, theirs);
+    for mut scratch in Scratch::each(core, round, words) {
+        let ours = match nr {
+            ALL => verdict_within(core, round, scratch.slice()),
+            _ => verdict_within_with(with, core, round, scratch.slice()),
+        };
+        let theirs = scratch.verdict(theirs);
+        answered(comparison, "verdict_within", input, ours, theirs);
+        let was_used = !matches!(theirs, judge::Verdict::Refused(..));
+        scratch.left(comparison, || input(0), was_used);
+    }
     theirs
+}
+
+/// Our answer is to be this verdict; the number is noted by the archive's call.
+fn answered(
+    comparison: &mut Comparison,
+    call: &'static str,
+    input: &dyn Fn(usize) -> String,
+    ours: Result<Verdict, Refusal>,
+    theirs: judge::Verdict,
+) {
+    let refusal = match theirs {
+        judge::Verdict::Refused(number, detail) => Some((number, detail)),
+        _ => None,
+    };
+    comparison.answered(call, || input(0), ours, refusal);
+    comparison.equal(input, &words(ours), &theirs.words());
 }
 
 /// A verdict's four words.

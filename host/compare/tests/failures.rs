@@ -3,9 +3,9 @@
 use compare::dishonest::{Tables, pairs};
 use compare::inputs::Words;
 use compare::rounds::pairs::NAMED;
+use keccak_tables::Parameters;
 use keccak_tables::verdict::verdict_with;
-use keccak_tables::{Parameters, keccak, keccak_rnd};
-use program::failures::{failures, in_writers_order};
+use program::failures::failures;
 
 fn by(rounds: u64) -> Parameters {
     Parameters::default().rounds(rounds)
@@ -80,24 +80,4 @@ fn every_failure_is_named_in_order() {
         "round row 95 balance 1",
     ];
     assert_eq!(found, expected);
-}
-
-#[test]
-fn the_writers_order_is_seen() {
-    let order = |rounds, tables: &Tables| in_writers_order(by(rounds), &tables.core, &tables.round);
-    for rounds in 1..=24 {
-        let written = Tables::written_by(rounds, 3, &mut Words::new(1));
-        assert!(
-            (1..=24).all(|by| order(by, &written) == (by == rounds)),
-            "{rounds} rounds"
-        );
-        assert!(in_writers_order(by(rounds), &[], &[]));
-    }
-    let written = Tables::written(3, &mut Words::new(1));
-    let mut changes: [Tables; 4] = std::array::from_fn(|_| written.clone());
-    changes[0].round.rotate_right(keccak_rnd::NUM_COLUMNS);
-    changes[1].core.rotate_right(keccak::NUM_COLUMNS);
-    changes[2].round.truncate(71 * keccak_rnd::NUM_COLUMNS);
-    changes[3].round_row(30)[0] += 1;
-    assert!(changes.iter().all(|tables| !order(24, tables)));
 }

@@ -34,21 +34,6 @@ fn first_round(parameters: Parameters) -> u64 {
     keccak_rnd::ROUNDS as u64 - parameters.rounds
 }
 
-/// Whether the active rows are as the writers put them: those of the core table first, and a row for each round to each, in its order.
-pub fn in_writers_order(parameters: Parameters, core: &[u64], round: &[u64]) -> bool {
-    let (core, round) = (Rows::new(Table::Core, core), Rows::new(Table::Round, round));
-    let calls = core.active().count();
-    let stamp = |row: &[u64]| [row[0], row[1]];
-    let (rounds, first) = (parameters.rounds as usize, first_round(parameters));
-    core.active().eq(0..calls)
-        && round.active().eq(0..calls * rounds)
-        && round.active().all(|at| {
-            let (call, step) = (at / rounds, at % rounds);
-            let row = round.row(at);
-            stamp(row) == stamp(core.row(call)) && row[keccak_rnd::cols::ROUND] == first + step as u64
-        })
-}
-
 /// The rows of one table.
 struct Rows<'a> {
     table: Table,

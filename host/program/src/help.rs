@@ -55,8 +55,9 @@ Exit status: 0 the tables are there; 1 refused; 2 a file can't be read or writte
 Prints one line: `holds N`, N the active core rows; or `core` or `round`, `row R`, and `value I`, `lookup I`, `timestamp 0`
 or `balance I`, all from 0; behind a lookup or a balance the bus's name and the tuple's values. `keccak-tables explain TABLE
 value I` says what a value is, `explain TABLE tuple I` what the tuple of a lookup or a balance is. Both files are held in
-memory. With --all every failing value, lookup, timestamp and tuple has a line, without values, the first being the
-verdict's; with --most N the first N of them. A failure can bring others with it.
+memory, and 32 bytes beside them for each of their rows, which may stand in any order. With --all every failing value, lookup,
+timestamp and tuple has a line, without values, the first being the verdict's; with --most N the first N of them. A failure
+can bring others with it.
 With --rounds NR the tables are judged as those of NR rounds, 1 to 24: a core row hands its INPUT to round 24 - NR, and what
 holds has an OUTPUT that is Keccak-p[1600, NR] of its INPUT. Without it NR is 24, Keccak-f[1600]. Another number is refused
 by 8, before any file is read.
@@ -72,7 +73,8 @@ CORE and ROUND have all rows of a job's segments, one segment after the other; C
 core rows and its round rows. Prints for each segment, from 0, `segment I: VERDICT`, and then `job: VERDICT`, a verdict as
 `judge` prints it, without the tuple; rows count from the first of what was judged. Where every segment holds and no timestamp
 is active in two of them, the job holds. It can hold where a segment does not: a round row stands with another segment. Counts
-that are not pairs, or whose sums are not the rows of the tables, are refused by 2 with detail 2. The files are held in memory.
+that are not pairs, or whose sums are not the rows of the tables, are refused by 2 with detail 2. The files are held in memory,
+and 32 bytes beside them for each row of both tables.
 With --rounds NR the tables are judged as those of NR rounds, as by `judge`.
 Exit status: 0 every segment holds, and the job; 1 one does not, or refused; 2 a file can't be read.
 ",

@@ -4,13 +4,12 @@
 use std::ffi::OsString;
 use std::path::Path;
 
-use super::failures::in_writers_order;
-use super::judge::words;
+use super::judge::{rows, words};
 use super::options::Options;
 use super::progress::Waiting;
 use super::{Failure, Outcome, Streams, files, help, refused};
 use keccak_tables::job::{COUNT_WORDS, Report};
-use keccak_tables::{Lent, Parameters, Refusal, keccak, keccak_rnd};
+use keccak_tables::{Lent, Refusal, keccak, keccak_rnd};
 
 pub fn job(arguments: &[OsString], streams: &mut Streams) -> Result<Outcome, Failure> {
     let wrong = || help::wrong("job");
@@ -20,46 +19,17 @@ pub fn job(arguments: &[OsString], streams: &mut Streams) -> Result<Outcome, Fai
     let core = files::read_words(Path::new(core))?;
     let round = files::read_words(Path::new(round))?;
     let counts = files::read_words(Path::new(counts))?;
-    let waiting = Waiting::new(&judging(parameters, &core, &round, &counts));
+    let waiting = Waiting::new(&format!(
+        "judging {} rows in {} segments, and then as one job",
+        rows(&core, &round),
+        counts.len() / COUNT_WORDS
+    ));
     let answer = Report::with(parameters, &core, &round, &counts);
     drop(waiting);
     match answer {
         Ok(report) => print(&report, streams),
         Err(refusal) => refused(refusal, &said(refusal, &core, &round, &counts), streams),
     }
-}
-
-/// What is being done, for whoever waits.
-fn judging(parameters: Parameters, core: &[u64], round: &[u64], counts: &[u64]) -> String {
-    let rows = core.len() / keccak::NUM_COLUMNS + round.len() / keccak_rnd::NUM_COLUMNS;
-    let what = format!(
-        "judging {rows} rows in {} segments, and then as one job",
-        counts.len() / COUNT_WORDS
-    );
-    if each_in_writers_order(parameters, core, round, counts) {
-        what
-    } else {
-        format!("{what}; some are not in the writer's order, and that can take long")
-    }
-}
-
-/// Whether the rows of each segment are in the writer's order, as far as the counts are there for it.
-fn each_in_writers_order(parameters: Parameters, mut core: &[u64], mut round: &[u64], counts: &[u64]) -> bool {
-    let words = |rows: u64, width: usize| usize::try_from(rows).ok()?.checked_mul(width);
-    counts.as_chunks().0.iter().all(|&[core_rows, round_rows]| {
-        let ends = [
-            words(core_rows, keccak::NUM_COLUMNS),
-            words(round_rows, keccak_rnd::NUM_COLUMNS),
-        ];
-        let [Some(core_end), Some(round_end)] = ends else {
-            return true;
-        };
-        let (Some(cores), Some(rounds)) = (core.split_at_checked(core_end), round.split_at_checked(round_end)) else {
-            return true;
-        };
-        (core, round) = (cores.1, rounds.1);
-        in_writers_order(parameters, cores.0, rounds.0)
-    })
 }
 
 /// A line for each segment, and one for the job.

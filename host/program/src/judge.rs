@@ -3,7 +3,7 @@
 use std::ffi::OsString;
 use std::path::Path;
 
-use super::failures::{failures, in_writers_order};
+use super::failures::failures;
 use super::options::Options;
 use super::progress::{Progress, Waiting};
 use super::{Failure, Outcome, Streams, files, help, refused};
@@ -15,7 +15,7 @@ pub fn judge(arguments: &[OsString], streams: &mut Streams) -> Result<Outcome, F
     let parameters = options.parameters()?;
     let core = files::read_words(Path::new(core))?;
     let round = files::read_words(Path::new(round))?;
-    let waiting = Waiting::new(&judging(parameters, &core, &round));
+    let waiting = Waiting::new(&format!("judging {} rows", rows(&core, &round)));
     let answer = verdict_text_with(parameters, &core, &round);
     drop(waiting);
     let holds = |line: &str| line.starts_with("holds ");
@@ -44,14 +44,9 @@ fn options(arguments: &[OsString]) -> Option<(Options<'_>, Option<usize>, &[OsSt
     Some((options, most, files.try_into().ok()?))
 }
 
-/// What is being done, for whoever waits.
-fn judging(parameters: Parameters, core: &[u64], round: &[u64]) -> String {
-    let rows = core.len() / keccak::NUM_COLUMNS + round.len() / keccak_rnd::NUM_COLUMNS;
-    if in_writers_order(parameters, core, round) {
-        format!("judging {rows} rows")
-    } else {
-        format!("judging {rows} rows, which are not in the writer's order: that can take long")
-    }
+/// The rows of both tables.
+pub fn rows(core: &[u64], round: &[u64]) -> usize {
+    core.len() / keccak::NUM_COLUMNS + round.len() / keccak_rnd::NUM_COLUMNS
 }
 
 /// Prints every failure, or the first of them, and says how many more there are.
@@ -62,8 +57,7 @@ fn list(
     most: usize,
     streams: &mut Streams,
 ) -> Result<(), Failure> {
-    let rows = core.len() / keccak::NUM_COLUMNS + round.len() / keccak_rnd::NUM_COLUMNS;
-    let mut progress = Progress::new("rows, values and then lookups", 2 * rows as u64);
+    let mut progress = Progress::new("rows, values and then lookups", 2 * rows(core, round) as u64);
     let found = failures(parameters, core, round, &mut |more| progress.add(more)).expect("the verdict refused nothing");
     drop(progress);
     let shown = most.min(found.len());

@@ -1306,6 +1306,23 @@ fn judged_files() {
     assert_eq!(words(&honest, &round), format!("{place}: {} is not below p\n", P + 5));
 }
 
+/// The rows of both tables in the other order: `judge` and `job` say the same.
+#[test]
+fn rows_in_the_other_order_are_judged_alike() {
+    let (folder, list) = (Folder::new("other-order"), honest(24));
+    let turned =
+        |table: Vec<u64>, width: usize| -> Vec<u64> { table.rchunks_exact(width).flatten().copied().collect() };
+    let core = turned(keccak::keccak_table(&list).unwrap(), keccak::NUM_COLUMNS);
+    let round = turned(keccak_rnd::keccak_rnd_table(&list).unwrap(), keccak_rnd::NUM_COLUMNS);
+    let [core_rows, round_rows] = [core.len() / keccak::NUM_COLUMNS, round.len() / keccak_rnd::NUM_COLUMNS];
+    let counts = folder.put("counts", &bytes(&[core_rows as u64, round_rows as u64]));
+    let (core, round) = (folder.put("core", &bytes(&core)), folder.put("round", &bytes(&round)));
+    let fine = |line: &str| (0, line.to_string(), String::new());
+    assert_eq!(ran(run, &["judge", &core, &round], &[]), fine("holds 3\n"));
+    let answer = ran(run, &["job", &core, &round, &counts], &[]);
+    assert_eq!(answer, fine("segment 0: holds 3\njob: holds 3\n"));
+}
+
 /// Two segments of twelve rounds, of two calls and of one: as they are, with a round row filed with the wrong one, and refused.
 #[test]
 fn segments_and_then_the_job() {

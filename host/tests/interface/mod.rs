@@ -80,7 +80,9 @@ fn export_sources() -> String {
         .map(|f| f.path())
         .collect();
     files.retain(|file| file.extension().is_some_and(|extension| extension == "rt"));
-    files.iter().map(|file| without_strokes(&text(file))).collect()
+    let sources: String = files.iter().map(|file| without_strokes(&text(file))).collect();
+    // How long a slice is lent is nothing that C linkage tells.
+    sources.replace("<'a>", "").replace("&'a ", "&")
 }
 
 fn without_strokes(text: &str) -> String {

@@ -1,13 +1,11 @@
--- `job::job` meets its contract: the checks, the verdicts on the segments, and then that on the job.
+-- `job::job` meets its contract: the checks, and then the report.
 use mathlib.Core.Path.{_≡_, sym, _∙_}
 use mathlib.Core.Option.{none}
-use native.Mathlib.Omega.{arith}
 use lib.ListN.{length}
 use borrow.Author.Needs.{needs}
 use Rattle.answer.proofs.Laws.{is-refused, is-done, refused, done}
 use Rattle.job.specs.Report.{jobRefusal, AcceptableJob}
 use Rattle.job.proofs.Refusals.{job-accepted}
-use Rattle.job.proofs.Turns.{report-stored}
 use Rattle.job.proofs.job.Statement.{statement}
 use Rattle.job.proofs.job.Tie as tie
 
@@ -35,24 +33,20 @@ returns c = refused _ _ (is-refused _ (sym (c .before .refusal .given .1) ∙ c 
 enum-told : tie.Need-enum-told
 enum-told c = search needs
 
-put-segments-requires : tie.Need-put-segments-requires
-put-segments-requires c κs = let h = known (c .before) in (h .most, h .tables, h .split, omega (arith, h .long))
+slice-aggregate-put-report : tie.Need-slice-aggregate-put-report
+slice-aggregate-put-report c = search needs
 
-mul-put-verdict : tie.Need-mul-put-verdict
-mul-put-verdict c = search needs
+slice-aggregate-put-report-2 : tie.Need-slice-aggregate-put-report-2
+slice-aggregate-put-report-2 c = search needs
 
-put-verdict-requires : tie.Need-put-verdict-requires
-put-verdict-requires c κs = let h = known (c .before .before .before .before .before) in (h .most, h .tables, omega (arith, h .long))
+put-report-requires : tie.Need-put-report-requires
+put-report-requires c κs = let h = known (c .before .before .before) in (h .most, h .tables, h .split, h .long)
 
 same-length : tie.Need-same-length
 same-length c = search needs
 
 returns-2 : tie.Need-returns-2
-returns-2 c =
-    let put = c .before .before in
-    let segments = put .before .before .before .before in
-    let t = segments .before .before in
-    done _ (passed t) (report-stored _ _ _ _ _ (known t .long) (segments .put-segments .ensures) (put .put-verdict .ensures))
+returns-2 c = let put = c .before .before .before .before in done _ (passed (put .before .before .before .before)) (put .put-report .ensures)
 
 pub job-spec : {M : Type 1} → statement M
 job-spec =
@@ -62,8 +56,8 @@ job-spec =
     enum-known-refusal
     returns
     enum-told
-    put-segments-requires
-    mul-put-verdict
-    put-verdict-requires
+    slice-aggregate-put-report
+    slice-aggregate-put-report-2
+    put-report-requires
     same-length
     returns-2)

@@ -3,7 +3,6 @@ use mathlib.Core.Path.{sym, _∙_}
 use borrow.Author.Needs.{needs}
 use Rattle.lists.proofs.First.{place-at, place-nowhere}
 use Rattle.verdict.specs.Verdict.{fromCoreValue, fromCoreLookup, fromRepeat}
-use Rattle.verdict.proofs.Failures.{no-repeat}
 use Rattle.verdict.proofs.Stages.{passes, answers}
 use Rattle.judge_scan.specs.Tables.{kindOf}
 use Rattle.judge_rows.specs.Checks.{firstFailure}
@@ -12,7 +11,7 @@ use Rattle.judge.proofs.from_core_value.Statement.{statement}
 use Rattle.judge.proofs.from_core_value.Tie as tie
 
 first-failure-requires : tie.Need-first-failure-requires
-first-failure-requires c κs = c .before .before .pre .1
+first-failure-requires c κs = c .before .before .pre .0
 
 enum-known-row : tie.Need-enum-known-row
 enum-known-row c = search needs
@@ -25,7 +24,7 @@ enum-told : tie.Need-enum-told
 enum-told c = search needs
 
 first-failure-requires-2 : tie.Need-first-failure-requires-2
-first-failure-requires-2 c κs = c .before .before .before .before .before .pre .1
+first-failure-requires-2 c κs = c .before .before .before .before .before .pre .0
 
 enum-known-row-2 : tie.Need-enum-known-row-2
 enum-known-row-2 c = search needs
@@ -54,11 +53,7 @@ enum-told-3 : tie.Need-enum-told-3
 enum-told-3 c = search needs
 
 from-round-value-requires : tie.Need-from-round-value-requires
-from-round-value-requires c κs = (
-  c .before .before .before .before .before .before .before .before .before .before .before .pre .0,
-  c .before .before .before .before .before .before .before .before .before .before .before .pre .2,
-  no-repeat _ _ .0 (place-nowhere _ (sym (c .enum-told3 .given .1) ∙ c .before .before .first-repeat .ensures)),
-)
+from-round-value-requires c κs = c .before .before .before .before .before .before .before .before .before .before .before .pre .1
 
 returns-4 : tie.Need-returns-4
 unfolding fromCoreValue fromCoreLookup fromRepeat kindOf firstFailure

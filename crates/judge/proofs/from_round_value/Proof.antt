@@ -10,7 +10,7 @@ use Rattle.judge.proofs.from_round_value.Statement.{statement}
 use Rattle.judge.proofs.from_round_value.Tie as tie
 
 first-failure-requires : tie.Need-first-failure-requires
-first-failure-requires c κs = c .before .before .pre .1
+first-failure-requires c κs = c .before .before .pre
 
 enum-known-row : tie.Need-enum-known-row
 enum-known-row c = search needs
@@ -23,7 +23,7 @@ enum-told : tie.Need-enum-told
 enum-told c = search needs
 
 first-failure-requires-2 : tie.Need-first-failure-requires-2
-first-failure-requires-2 c κs = c .before .before .before .before .before .pre .1
+first-failure-requires-2 c κs = c .before .before .before .before .before .pre
 
 enum-known-row-2 : tie.Need-enum-known-row-2
 enum-known-row-2 c = search needs
@@ -36,7 +36,7 @@ enum-told-2 : tie.Need-enum-told-2
 enum-told-2 c = search needs
 
 from-core-balance-requires : tie.Need-from-core-balance-requires
-from-core-balance-requires c κs = let h = c .before .before .before .before .before .before .before .before .pre in (h .0, h .2)
+from-core-balance-requires c κs = search needs
 
 returns-3 : tie.Need-returns-3
 unfolding fromRoundValue fromRoundLookup kindOf firstFailure

@@ -1,7 +1,6 @@
 -- `judge::judged` meets its contract: whole rows, then field elements, then the stages on rows.
 use mathlib.Core.Path.{_≡_, sym, _∙_}
 use mathlib.Core.Option.{none}
-use native.Mathlib.Omega.{arith}
 use borrow.Author.Needs.{needs}
 use Rattle.answer.specs.Refusal.{accepted}
 use Rattle.answer.proofs.Laws.{is-refused, is-done}
@@ -54,7 +53,7 @@ enum-told-2 : tie.Need-enum-told-2
 enum-told-2 c = search needs
 
 from-core-value-requires : tie.Need-from-core-value-requires
-from-core-value-requires c κs = let e = words-passed _ _ _ (words-are c) in (omega arith, e .0, e .1)
+from-core-value-requires c κs = let e = words-passed _ _ _ (words-are c) in (e .0, e .1)
 
 returns-3 : tie.Need-returns-3
 returns-3 c =

@@ -2,7 +2,6 @@
 use mathlib.Core.Path.{sym, _∙_}
 use borrow.Author.Needs.{needs}
 use Rattle.answer.proofs.Laws.{is-refused, is-done}
-use Rattle.answer.proofs.Refusals.{rounds-accepted}
 use Rattle.verdict.specs.CoreAndRound.{verdictFor}
 use Rattle.verdict.proofs.Stages.{passes, answers}
 use Rattle.judge.proofs.verdict.Statement.{statement}
@@ -22,7 +21,7 @@ enum-told : tie.Need-enum-told
 enum-told c = search needs
 
 judged-requires : tie.Need-judged-requires
-judged-requires c κs = rounds-accepted _ .0 (is-done _ (sym (c .enum-told .given .1) ∙ c .before .before .check-rounds .ensures)) .1
+judged-requires c κs = search needs
 
 returns-2 : tie.Need-returns-2
 unfolding verdictFor

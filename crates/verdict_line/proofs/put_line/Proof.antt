@@ -1,6 +1,7 @@
 -- `put_line` meets its contract: one case after the other.
-use mathlib.Core.Path.{sym, _∙_}
+use mathlib.Core.Path.{sym, subst, _∙_}
 use native.Mathlib.Omega.{arith}
+use Rattle.verdict_line.specs.Line.{Judged}
 use Rattle.verdict_line.proofs.Most.{lookup-named, unbalanced-named}
 use Rattle.verdict_line.proofs.Shows.{value-line, repeated-line, lookup-line, balance-line, holds-line, shows, shows-refused}
 use borrow.Author.Needs.{needs}
@@ -32,7 +33,7 @@ slice-aggregate-put-failure : tie.Need-slice-aggregate-put-failure
 slice-aggregate-put-failure c = search needs
 
 put-failure-requires : tie.Need-put-failure-requires
-put-failure-requires c κs = let s = c .before .before .before .before .before .before .before .before in (lookup-named _ _ _ _ _ _ (sym (s .pre .0) ∙ c .before .before .before .verdict3 .given .1), omega arith, s .pre .1)
+put-failure-requires c κs = let s = c .before .before .before .before .before .before .before .before in let e = c .before .before .before .verdict3 .given .1 in (lookup-named _ _ _ _ _ _ (sym (s .pre .0 (subst Judged (sym e) tt)) ∙ e), omega arith, s .pre .1)
 
 enum-known-verdict-4 : tie.Need-enum-known-verdict-4
 enum-known-verdict-4 c = search needs
@@ -41,7 +42,7 @@ slice-aggregate-put-failure-2 : tie.Need-slice-aggregate-put-failure-2
 slice-aggregate-put-failure-2 c = search needs
 
 put-failure-requires-2 : tie.Need-put-failure-requires-2
-put-failure-requires-2 c κs = let s = c .before .before .before .before .before .before .before .before in (unbalanced-named _ _ _ _ _ _ (sym (s .pre .0) ∙ c .before .before .before .verdict4 .given .1), omega arith, s .pre .1)
+put-failure-requires-2 c κs = let s = c .before .before .before .before .before .before .before .before in let e = c .before .before .before .verdict4 .given .1 in (unbalanced-named _ _ _ _ _ _ (sym (s .pre .0 (subst Judged (sym e) tt)) ∙ e), omega arith, s .pre .1)
 
 enum-known-verdict-5 : tie.Need-enum-known-verdict-5
 enum-known-verdict-5 c = search needs

@@ -7,27 +7,37 @@ pub mod refusals;
 
 pub use drawn::Job;
 
-use keccak_tables::job::{COUNT_WORDS, Report, VERDICT_WORDS, job, job_with};
+use keccak_tables::job::{
+    COUNT_WORDS, Report, VERDICT_WORDS, job, job_alone, job_alone_with, job_with, job_within, job_within_with,
+};
 use keccak_tables::{P, Parameters, Refusal};
 use oracle::{CORE_COLUMNS, ROUND_COLUMNS};
 
 use crate::by_rounds::{self, ALL};
 use crate::comparison::Comparison;
 use crate::inputs::Words;
-use crate::judge;
 use crate::lent::Lent;
-use crate::verdicts;
+use crate::scratch::Scratch;
+use crate::{cases, judge, verdicts};
 
 /// The whole area: the named jobs; `n` / 10 drawn jobs of 0 to 12 segments, each as it was written, with rows moved between segments or in
 /// their tables, with timestamps shared, and with counts that do not add up; and refusals.
 pub fn compare(comparison: &mut Comparison, seed: u64, n: usize) {
     let mut words = Words::new(seed);
-    comparison.group("named jobs, against thought");
+    comparison.group("named jobs, against thought, and those of verdict_cases");
     for (name, make) in named::NAMED {
         let (job, expected) = make(&mut words);
         let input = || format!("the job '{name}' of seed {seed}");
         let theirs = reported(comparison, &mut words, &input, &job);
         comparison.equal(|_| input(), &theirs.unwrap_or_default(), &expected.concat());
+    }
+    for (name, job) in cases::jobs() {
+        reported(
+            comparison,
+            &mut words,
+            &|| format!("the job '{name}' of verdict_cases"),
+            &job,
+        );
     }
     comparison
         .group("drawn jobs of 0 to 12 segments, as written, and with rows moved, timestamps shared and words changed");
@@ -99,7 +109,7 @@ fn reported(
     let parameters = Parameters::default().rounds(given.nr);
     let ours = Report::with(parameters, &given.core, &given.round, &given.counts);
     comparison.answered(
-        "job",
+        "job_within",
         input,
         ours.as_ref().map_err(|&refusal| refusal),
         expected.as_ref().err().copied(),
@@ -123,7 +133,7 @@ fn reported(
     Some(expected)
 }
 
-/// One call with so many words for the report.
+/// Every call with so many words for the report: with memory of its own, without, and in every scratch.
 fn one_call(
     comparison: &mut Comparison,
     words: &mut Words,
@@ -132,28 +142,75 @@ fn one_call(
     room: usize,
 ) -> Result<Vec<u64>, (u64, u64)> {
     let expected = report(given, room);
-    let mut read = [&given.core, &given.round, &given.counts].map(|slice| Lent::new(slice, words));
-    let mut lent = Lent::drawn(room, words);
-    let answer = called(given.nr, &mut read, lent.slice());
-    comparison.answered("job", input, answer, expected.as_ref().err().copied());
-    lent.holds(comparison, |_| input(), expected.as_deref().unwrap_or(&[]));
-    for slice in read {
-        slice.kept(comparison, |_| format!("what is only read, {}", input()));
+    called(
+        comparison,
+        words,
+        "job_within",
+        input,
+        (given, room),
+        expected.as_deref(),
+        own,
+    );
+    called(
+        comparison,
+        words,
+        "job",
+        input,
+        (given, room),
+        expected.as_deref(),
+        alone,
+    );
+    for mut scratch in Scratch::each(&given.core, &given.round, words) {
+        let refusal = scratch.refusal(expected.as_ref().err().copied());
+        let expected = refusal.as_ref().map_or(expected.as_deref(), Err);
+        let within = |nr, slices: [&[u64]; 3], out: &mut [u64]| within(nr, slices, out, scratch.slice());
+        called(comparison, words, "job_within", input, (given, room), expected, within);
+        scratch.left(comparison, input, refusal.is_none());
     }
     expected
 }
 
-/// The call: where the rounds are all 24, that which takes no parameters.
-fn called(nr: u64, [core, round, counts]: &mut [Lent; 3], out: &mut [u64]) -> Result<(), Refusal> {
+/// One call, with guards about every slice.
+fn called(
+    comparison: &mut Comparison,
+    words: &mut Words,
+    name: &'static str,
+    input: &dyn Fn() -> String,
+    (given, room): (&Job, usize),
+    expected: Result<&[u64], &(u64, u64)>,
+    call: impl FnOnce(u64, [&[u64]; 3], &mut [u64]) -> Result<(), Refusal>,
+) {
+    let mut read = [&given.core, &given.round, &given.counts].map(|slice| Lent::new(slice, words));
+    let mut lent = Lent::drawn(room, words);
+    let answer = call(given.nr, read.each_mut().map(|slice| &*slice.slice()), lent.slice());
+    comparison.answered(name, input, answer, expected.err().copied());
+    lent.holds(comparison, |_| input(), expected.unwrap_or(&[]));
+    for slice in read {
+        slice.kept(comparison, |_| format!("what is only read, {}", input()));
+    }
+}
+
+/// The call with memory of its own; where the rounds are all 24, that which takes no parameters.
+fn own(nr: u64, [core, round, counts]: [&[u64]; 3], out: &mut [u64]) -> Result<(), Refusal> {
     match nr {
-        ALL => job(core.slice(), round.slice(), counts.slice(), out),
-        nr => job_with(
-            Parameters::default().rounds(nr),
-            core.slice(),
-            round.slice(),
-            counts.slice(),
-            out,
-        ),
+        ALL => job(core, round, counts, out),
+        nr => job_with(Parameters::default().rounds(nr), core, round, counts, out),
+    }
+}
+
+/// That without memory of its own, likewise.
+fn alone(nr: u64, [core, round, counts]: [&[u64]; 3], out: &mut [u64]) -> Result<(), Refusal> {
+    match nr {
+        ALL => job_alone(core, round, counts, out),
+        nr => job_alone_with(Parameters::default().rounds(nr), core, round, counts, out),
+    }
+}
+
+/// That in a scratch, likewise.
+fn within(nr: u64, [core, round, counts]: [&[u64]; 3], out: &mut [u64], scratch: &mut [u64]) -> Result<(), Refusal> {
+    match nr {
+        ALL => job_within(core, round, counts, out, scratch),
+        nr => job_within_with(Parameters::default().rounds(nr), core, round, counts, out, scratch),
     }
 }
 

@@ -143,7 +143,7 @@ fn judge_all(comparison: &mut Comparison, words: &mut Words, seed: u64, n: usize
         let tables = Tables::written_by(nr, 1, words);
         for by in (0..=ALL + 1).chain([u64::MAX]) {
             let input = |_| format!("a table of {nr} rounds by {by}, seed {seed}");
-            let theirs = judged(comparison, &input, by, &tables);
+            let theirs = judged(comparison, words, &input, by, &tables);
             comparison.equal(input, &theirs.words(), &pairs::by_another(nr, by).words());
             line_of(comparison, words, &|| input(0), (by, &tables), theirs);
         }
@@ -153,7 +153,7 @@ fn judge_all(comparison: &mut Comparison, words: &mut Words, seed: u64, n: usize
         for (name, make) in pairs::NAMED {
             let (tables, expected) = make(nr, words);
             let input = |_| format!("the pair '{name}' of {nr} rounds of seed {seed}");
-            let theirs = judged(comparison, &input, nr, &tables);
+            let theirs = judged(comparison, words, &input, nr, &tables);
             comparison.equal(input, &theirs.words(), &expected.words());
             line_of(comparison, words, &|| input(0), (nr, &tables), theirs);
         }
@@ -162,7 +162,7 @@ fn judge_all(comparison: &mut Comparison, words: &mut Words, seed: u64, n: usize
     for pair in pairs_of_all_rounds(seed) {
         let nr = words.rounds();
         let input = |_| format!("the pair '{}' of seed {seed} by {nr} rounds", pair.name);
-        judged(comparison, &input, nr, &pair.tables);
+        judged(comparison, words, &input, nr, &pair.tables);
     }
     comparison.group("tables of drawn numbers of rounds with words changed, rows exchanged, copied, dropped or shuffled, and their lines");
     for change in 0..2 * n {
@@ -186,6 +186,6 @@ fn drawn_change(comparison: &mut Comparison, words: &mut Words, seed: u64, chang
         moved_and_changed(&mut tables, words)
     };
     let input = |_| format!("change {change} of seed {seed} of {calls} calls of {nr} rounds by {by}:{changes}");
-    let theirs = judged(comparison, &input, by, &tables);
+    let theirs = judged(comparison, words, &input, by, &tables);
     line_of(comparison, words, &|| input(0), (by, &tables), theirs);
 }

@@ -1,4 +1,4 @@
-//! The verdict on core tables whose timestamps do not rise, with no round table beside them; ours in rising order is the other side of
+//! The verdict without memory of its own on core tables whose timestamps do not rise, with no round table beside them; ours in rising order is the other side of
 //! each ratio. Each answer is checked in every run: with no round row the first call is unbalanced.
 //!
 //! `descending` has the timestamps in falling order, so that each is looked for in all rows before it; `repeated` has one row over and
@@ -11,7 +11,7 @@ use compare::inputs::Words;
 use compare::say;
 use keccak_tables::OP_WORDS;
 use keccak_tables::keccak::{NUM_COLUMNS, keccak_table};
-use keccak_tables::verdict::{Verdict, verdict};
+use keccak_tables::verdict::{Verdict, verdict_alone};
 
 use crate::timing::{best, line, ratio, time, whole};
 
@@ -62,7 +62,7 @@ fn rows_of(calls: usize) -> Vec<u64> {
 /// The time of a verdict, which has to be as expected.
 fn judged(core: &[u64], expected: impl Fn(&Verdict) -> bool) -> Duration {
     time(|| {
-        let answer = verdict(black_box(core), black_box(&[])).expect("a verdict");
+        let answer = verdict_alone(black_box(core), black_box(&[])).expect("a verdict");
         assert!(expected(&answer), "{answer}");
     })
 }

@@ -1,7 +1,7 @@
 //! Times the proved calls against the published Rust's on the same inputs: `bench rows`, `bench lookups`, `bench looked_up`,
 //! `bench values`, `bench tuples`, `bench verdict`; and what has no counterpart there: `bench charge`, `bench job`, `bench same`, `bench cores`,
-//! `bench tally`, `bench shuffled`, `bench descending`.
-//! `bench all` runs each in turn, but for `same`, `shuffled` and `descending`, which can take minutes, and ends with a table of the ratios.
+//! `bench tally`, `bench orders`, `bench shuffled`, `bench descending`.
+//! `bench all` runs each in turn, but for `same`, `orders`, `shuffled` and `descending`, which can take minutes, and ends with a table of the ratios.
 //! It prints for each call the best of several runs, ours and theirs in turn, and lines `ratio NAME X.XX`: our time over
 //! theirs. The comment at the top of each area's file says what is timed.
 
@@ -11,6 +11,7 @@ mod descending;
 mod job;
 mod looked_up;
 mod lookups;
+mod orders;
 mod rows;
 mod same;
 mod shuffled;
@@ -26,6 +27,7 @@ const USAGE: &str = "\
 usage: bench all | bench rows | bench lookups | bench looked_up | bench charge | bench values | bench tuples | bench verdict | bench job
        bench same | bench cores
        bench tally [BYTES]      (of the operation file; 1000000000 where none are given)
+       bench orders [CALLS]     (100, 1000 and 2730 in turn where none are given, and then two tables of rows of one kind)
        bench shuffled [CALLS]   (100 where none are given)
        bench descending [CALLS] (1000 where none are given)
 BYTES and CALLS are 1 or more.";
@@ -54,6 +56,7 @@ fn main() -> ExitCode {
         ("same", None) => same::run(),
         ("cores", None) => cores::run(),
         ("tally", bytes) => tally::run(bytes.unwrap_or(tally::BYTES)),
+        ("orders", calls) => orders::run(calls),
         ("shuffled", calls) => shuffled::run(calls.unwrap_or(shuffled::CALLS)),
         ("descending", calls) => descending::run(calls.unwrap_or(descending::CALLS)),
         ("all", None) => {

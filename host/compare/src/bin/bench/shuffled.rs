@@ -1,4 +1,4 @@
-//! The verdict on tables that leave the writer's order; beside it the verdict on the same tables in that order. Both are ours:
+//! The verdict without memory of its own on tables that leave the writer's order; beside it that on the same tables in that order. Both are ours:
 //! a ratio is the time of the one over that of the other. Each answer is checked in every run.
 //!
 //! `shuffled-calls` has the 24 round rows of each call together, the calls in a drawn order; `shuffled` has all round rows,
@@ -10,7 +10,7 @@ use std::time::Duration;
 
 use compare::dishonest::{Tables, shuffle};
 use compare::inputs::Words;
-use keccak_tables::verdict::{Verdict, verdict};
+use keccak_tables::verdict::{Verdict, verdict_alone};
 use keccak_tables::{keccak, keccak_rnd};
 
 use crate::timing::{best, line, ratio, time, whole};
@@ -78,7 +78,7 @@ fn clear_an_active_row(round: &mut [u64], words: &mut Words) {
 /// The time of a verdict, which has to be as expected.
 fn judged(tables: &Tables, expected: impl Fn(&Verdict) -> bool) -> Duration {
     time(|| {
-        let answer = verdict(black_box(&tables.core), black_box(&tables.round)).expect("a verdict");
+        let answer = verdict_alone(black_box(&tables.core), black_box(&tables.round)).expect("a verdict");
         assert!(expected(&answer), "{answer}");
     })
 }

@@ -3,8 +3,8 @@
 //! There is no published judge. The independent one evaluates the published values and interactions through the oracle,
 //! which puts a row's values and each tuple into vectors of their own, and balances the bus in a hash map; so a ratio below
 //! 1 says nothing of a judge in Rust that allocates less. Written tables of 1, 100 and 2,730 calls, which hold; then the
-//! tables of 100 calls with one OUTPUT byte changed, and with the round rows in the other order: there a judge that
-//! relies on the writer's order has to search. `line-100` is the line of text over the verdict alone, both ours.
+//! tables of 100 calls with one OUTPUT byte changed, and with the round rows in the other order. Ours allocates its scratch
+//! in each run. `line-100` is the line of text over the verdict alone, both ours.
 
 use compare::say;
 use std::hint::black_box;
