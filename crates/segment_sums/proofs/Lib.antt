@@ -1,5 +1,7 @@
 pub mod Tally
 pub mod Counters
 pub mod Constants
+pub mod Sent
+pub mod Histogram
 pub mod Segment
 pub mod Calls
