@@ -1,7 +1,7 @@
 -- The checks of the call.
 --     split-odd, split-core, split-rest   the three tests of the counts, one after the other
 --     split-decides     the counts split the tables exactly where they are pairs with the tables' rows as whole sums
---     not-split         where they don't, the test fails
+--     is-split, not-split   so the test passes, or fails
 --     core-ragged, round-ragged   2 on a table, with its detail
 --     rounds-refused, rows-refused, counts-refused, room-refused   each refusal before those of the words, after those before it
 --     job-still, job-passed, job-later   these checks refuse, or the later ones decide
@@ -51,6 +51,9 @@ module _ (core round counts : List ℕ) where
   split-decides =
       decides-map (λ h. record { pairs = h .0; core-sum = h .1 .0; round-sum = h .1 .1 }) (λ h. (h .pairs, (h .core-sum, h .round-sum)))
       (decides-and (decides-eq _ _) (decides-and (decides-eq _ _) (decides-eq _ _)))
+
+  pub is-split : Split core round counts → splits core round counts ≡ true
+  is-split h = T-true (splits core round counts) (split-decides .from h)
 
   pub not-split : (Split core round counts → ⊥) → splits core round counts ≡ false
   not-split h = go (splits core round counts) refl
@@ -132,7 +135,7 @@ module _ (nr : ℕ) (core round counts : List ℕ) (room : ℕ) where
         )
 
     pub job-later : Reportable → notJob nr core round counts room later ≡ later
-    job-later h = later-decide (h .some, h .most) (h .core-whole, h .round-whole) (T-true _ (split-decides core round counts .from (h .split))) (h .long)
+    job-later h = later-decide (h .some, h .most) (h .core-whole, h .round-whole) (is-split core round counts (h .split)) (h .long)
 
   -- with words below p it is a job that is accepted, and the other way
   pub acceptable : Reportable → Elements core → Elements round → AcceptableJob nr core round counts room
