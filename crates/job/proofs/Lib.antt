@@ -6,5 +6,6 @@ pub mod Within
 pub mod Turns
 pub mod Whole
 pub mod Together
+pub mod Misfiled
 pub mod Tied
 pub mod TiedWithin

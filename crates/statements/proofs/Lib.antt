@@ -1,1 +1,4 @@
 pub mod Statements
+pub mod Jobs
+pub mod Files
+pub mod Messages

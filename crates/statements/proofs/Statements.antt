@@ -137,7 +137,7 @@ use Rattle.op_list.proofs.RoundTrip.{list-left, file-left}
 use Rattle.op_file.proofs.Laws.{reads-pieces}
 use Rattle.text.specs.Text.{decimalOf}
 use Rattle.tally_arguments.specs.Arguments.{shipped-word, isShipped, digitsOnly, floorIn, argumentsOf}
-use Rattle.tally_arguments.proofs.Cases.{leading, floor-back, floor-over, digits-are, floor-other, floor-none}
+use Rattle.tally_arguments.proofs.Cases.{floor-back, floor-over, digits-are, floor-other, floor-none}
 use Rattle.tally_arguments.proofs.Cases.{AllShipped, NoneShipped, absent-floor, last-floor, shipped-anywhere, never-shipped}
 use Rattle.sort.specs.Compared.{mostCompared}
 use Rattle.sort.proofs.Compared.{most-compared, halved-enough}
@@ -967,7 +967,7 @@ tally-of-4 shipped = file.floor-counts 4 shipped file.four
 
 -- "(digits only, zeros may lead)": the floor that a word tells is its number, whatever zeros stand before it, "or a decimal
 -- above 2^64 − 1, is floor 0"
-pub floor-told : (zeros n : ℕ) → (n ≤ 18446744073709551615 → floorIn (leading zeros (decimalOf n)) ≡ n) × (18446744073709551615 < n → floorIn (leading zeros (decimalOf n)) ≡ 0)
+pub floor-told : (zeros n : ℕ) → (n ≤ 18446744073709551615 → floorIn (replicate zeros 48 ++ decimalOf n) ≡ n) × (18446744073709551615 < n → floorIn (replicate zeros 48 ++ decimalOf n) ≡ 0)
 floor-told zeros n = (floor-back zeros n, floor-over zeros n)
 
 -- "an argument that is neither .. is floor 0": a byte of it is no digit, or it has none
