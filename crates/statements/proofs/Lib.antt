@@ -2,3 +2,4 @@ pub mod Statements
 pub mod Jobs
 pub mod Files
 pub mod Messages
+pub mod Lines
