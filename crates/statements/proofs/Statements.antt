@@ -1647,7 +1647,7 @@ module _ (a b : List ℕ) (passed : mergeRefusal a b ≡ accepted) where
 
 -- ".. so per-thread histograms can be tree-reduced": two lists of lookups counted into two histograms that are then merged
 -- are counted into one
-pub lists-then-merge : (a b ops more : List ℕ) → addOpsRefusal a ops ≡ accepted → addOpsRefusal b more ≡ accepted →
+pub lists-then-merge : (a b ops more : List ℕ) → mergeRefusal a b ≡ accepted → addOpsRefusal a ops ≡ accepted → addOpsRefusal b more ≡ accepted →
     mergeAfter (addOpsAfter a ops) (addOpsAfter b more) ≡ addOpsAfter (addOpsAfter (mergeAfter a b) ops) more
 lists-then-merge = counted-merged
 
