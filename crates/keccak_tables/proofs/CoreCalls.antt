@@ -58,9 +58,9 @@ pub record CoreCalls : Type 0 where
 pub core-calls : CoreCalls
 core-calls =
     record {
-      keccak-row = kept (λ _ _. tt);
-      generate-keccak-trace = kept (λ _ _. tt);
-      keccak-rows = kept (λ _ _. tt);
-      is-wh-keys = kept (λ _ _. tt);
-      keccak-height = kept (λ _ _. tt);
+      keccak-row = kept (λ _ _. tt) (λ _ _ _ _ e. e);
+      generate-keccak-trace = kept (λ _ _. tt) (λ _ _ _ _ e. e);
+      keccak-rows = kept (λ _ _. tt) (λ _ _ _ _ e. e);
+      is-wh-keys = kept (λ _ _. tt) (λ _ _ _ _ e. e);
+      keccak-height = kept (λ _ _. tt) (λ _ _ _ _ e. e);
     }

@@ -69,10 +69,10 @@ pub record CounterCalls : Type 0 where
 pub counter-calls : CounterCalls
 counter-calls =
     record {
-      generate-bitwise-trace = kept (λ _ _. tt);
-      fill-multiplicities = kept (λ _ _. tt);
-      bump-n = kept (λ _ _. tt);
-      merge = kept (λ _ _. tt);
-      add-ops = kept (λ _ _. tt);
-      bitwise-update-multiplicities = kept (λ _ _. tt);
+      generate-bitwise-trace = kept (λ _ _. tt) (λ _ _ _ _ e. e);
+      fill-multiplicities = kept (λ _ _. tt) (λ _ _ _ _ e. e);
+      bump-n = kept (λ _ _. tt) (λ _ _ _ _ e. e);
+      merge = kept (λ _ _. tt) (λ _ _ _ _ e. e);
+      add-ops = kept (λ _ _. tt) (λ _ _ _ _ e. e);
+      bitwise-update-multiplicities = kept (λ _ _. tt) (λ _ _ _ _ e. e);
     }

@@ -81,10 +81,10 @@ pub record EvaluatorCalls : Type 0 where
 pub evaluator-calls : EvaluatorCalls
 evaluator-calls =
     record {
-      keccak-values = kept (λ _ _. tt);
-      keccak-rnd-values = kept (λ _ _. tt);
-      keccak-bus-interaction = kept (λ _ _. tt);
-      keccak-rnd-bus-interaction = kept (λ _ _. tt);
-      keccak-bus-interactions = kept (λ _ _. tt);
-      keccak-rnd-bus-interactions = kept (λ _ _. tt);
+      keccak-values = kept (λ _ _. tt) (λ _ _ _ _ e. e);
+      keccak-rnd-values = kept (λ _ _. tt) (λ _ _ _ _ e. e);
+      keccak-bus-interaction = kept (λ _ _. tt) (λ _ _ _ _ e. e);
+      keccak-rnd-bus-interaction = kept (λ _ _. tt) (λ _ _ _ _ e. e);
+      keccak-bus-interactions = kept (λ _ _. tt) (λ _ _ _ _ e. e);
+      keccak-rnd-bus-interactions = kept (λ _ _. tt) (λ _ _ _ _ e. e);
     }

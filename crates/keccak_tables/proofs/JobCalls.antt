@@ -42,6 +42,6 @@ pub record JobCalls : Type 0 where
 pub job-calls : JobCalls
 job-calls =
     record {
-      job = kept (λ _ _. tt);
-      job-within = kept (λ _ _. tt);
+      job = kept (λ _ _. tt) (λ _ _ _ _ e. e);
+      job-within = kept (λ _ _. tt) (λ _ _ _ _ e. e);
     }

@@ -64,8 +64,8 @@ pub record JudgeCalls : Type 0 where
 pub judge-calls : JudgeCalls
 judge-calls =
     record {
-      verdict = kept (λ _ _. tt);
-      verdict-within = kept (λ _ _. tt);
-      verdict-line = kept (λ _ _. tt);
-      verdict-line-within = kept (λ _ _. tt);
+      verdict = kept (λ _ _. tt) (λ _ _ _ _ e. e);
+      verdict-within = kept (λ _ _. tt) (λ _ _ _ _ e. e);
+      verdict-line = kept (λ _ _. tt) (λ _ _ _ _ e. e);
+      verdict-line-within = kept (λ _ _. tt) (λ _ _ _ _ e. e);
     }

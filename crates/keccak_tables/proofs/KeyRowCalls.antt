@@ -53,8 +53,8 @@ pub record KeyRowCalls : Type 0 where
 pub key-row-calls : KeyRowCalls
 key-row-calls =
     record {
-      dedup-is-wh-rows = kept (λ _ _. tt);
-      is-wh-height = kept (λ _ _. tt);
-      generate-is-wh-trace = kept (λ _ _. tt);
-      collect-bitwise-from-is-wh = kept (λ _ _. tt);
+      dedup-is-wh-rows = kept (λ _ _. tt) (λ _ _ _ _ e. e);
+      is-wh-height = kept (λ _ _. tt) (λ _ _ _ _ e. e);
+      generate-is-wh-trace = kept (λ _ _. tt) (λ _ _ _ _ e. e);
+      collect-bitwise-from-is-wh = kept (λ _ _. tt) (λ _ _ _ _ e. e);
     }

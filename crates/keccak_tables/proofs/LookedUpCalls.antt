@@ -115,14 +115,14 @@ pub record LookedUpCalls : Type 0 where
 pub looked-up-calls : LookedUpCalls
 looked-up-calls =
     record {
-      generate-bitwise-row = kept (λ _ _. tt);
-      bitwise-row-index = kept (λ _ _. tt);
-      bitwise-bump = kept (λ _ _. tt);
-      bitwise-bus-interaction = kept (λ _ _. tt);
-      keccak-rc-generate-row = kept (λ _ _. tt);
-      generate-keccak-rc-trace = kept (λ _ _. tt);
-      keccak-rc-update-multiplicities = kept (λ _ _. tt);
-      keccak-rc-bus-interaction = kept (λ _ _. tt);
-      is-wh-key = kept (λ _ _. tt);
-      is-wh-bus-interaction = kept (λ _ _. tt);
+      generate-bitwise-row = kept (λ _ _. tt) (λ _ _ _ _ e. e);
+      bitwise-row-index = kept (λ _ _. tt) (λ _ _ _ _ e. e);
+      bitwise-bump = kept (λ _ _. tt) (λ _ _ _ _ e. e);
+      bitwise-bus-interaction = kept (λ _ _. tt) (λ _ _ _ _ e. e);
+      keccak-rc-generate-row = kept (λ _ _. tt) (λ _ _ _ _ e. e);
+      generate-keccak-rc-trace = kept (λ _ _. tt) (λ _ _ _ _ e. e);
+      keccak-rc-update-multiplicities = kept (λ _ _. tt) (λ _ _ _ _ e. e);
+      keccak-rc-bus-interaction = kept (λ _ _. tt) (λ _ _ _ _ e. e);
+      is-wh-key = kept (λ _ _. tt) (λ _ _ _ _ e. e);
+      is-wh-bus-interaction = kept (λ _ _. tt) (λ _ _ _ _ e. e);
     }

@@ -68,11 +68,11 @@ pub record LookupCalls : Type 0 where
 pub lookup-calls : LookupCalls
 lookup-calls =
     record {
-      lookup-new = kept (λ _ _. tt);
-      lookup-byte-op = kept (λ _ _. tt);
-      lookup-single-byte = kept (λ _ _. tt);
-      lookup-halfword = kept (λ _ _. tt);
-      lookup-zero = kept (λ _ _. tt);
-      lookup-shift-op = kept (λ _ _. tt);
-      lookup-b20 = kept (λ _ _. tt);
+      lookup-new = kept (λ _ _. tt) (λ _ _ _ _ e. e);
+      lookup-byte-op = kept (λ _ _. tt) (λ _ _ _ _ e. e);
+      lookup-single-byte = kept (λ _ _. tt) (λ _ _ _ _ e. e);
+      lookup-halfword = kept (λ _ _. tt) (λ _ _ _ _ e. e);
+      lookup-zero = kept (λ _ _. tt) (λ _ _ _ _ e. e);
+      lookup-shift-op = kept (λ _ _. tt) (λ _ _ _ _ e. e);
+      lookup-b20 = kept (λ _ _. tt) (λ _ _ _ _ e. e);
     }

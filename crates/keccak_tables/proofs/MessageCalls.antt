@@ -30,6 +30,6 @@ pub record MessageCalls : Type 0 where
 pub message-calls : MessageCalls
 message-calls =
     record {
-      message-operations = kept (λ _ _. tt);
-      judge-message = kept (λ _ _. tt);
+      message-operations = kept (λ _ _. tt) (λ _ _ _ _ e. e);
+      judge-message = kept (λ _ _. tt) (λ _ _ _ _ e. e);
     }

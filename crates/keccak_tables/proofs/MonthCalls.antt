@@ -22,5 +22,5 @@ pub record MonthCalls : Type 0 where
 pub month-calls : MonthCalls
 month-calls =
     record {
-      month = kept (λ _ _. tt);
+      month = kept (λ _ _. tt) (λ _ _ _ _ e. e);
     }

@@ -45,6 +45,6 @@ pub record RegisterCalls : Type 0 where
 pub register-calls : RegisterCalls
 register-calls =
     record {
-      register-charge = kept (λ _ _. tt);
-      register-look = kept (λ _ _. tt);
+      register-charge = kept (λ _ _. tt) (λ _ _ _ _ e. e);
+      register-look = kept (λ _ _. tt) (λ _ _ _ _ e. e);
     }

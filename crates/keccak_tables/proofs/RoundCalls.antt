@@ -61,9 +61,9 @@ pub record RoundCalls : Type 0 where
 pub round-calls : RoundCalls
 round-calls =
     record {
-      keccak-rnd-row = kept (λ _ _. tt);
-      generate-keccak-rnd-trace = kept (λ _ _. tt);
-      keccak-rnd-rows = kept (λ _ _. tt);
-      keccak-rnd-height = kept (λ _ _. tt);
-      padding-are-bytes = kept (λ _ _. tt);
+      keccak-rnd-row = kept (λ _ _. tt) (λ _ _ _ _ e. e);
+      generate-keccak-rnd-trace = kept (λ _ _. tt) (λ _ _ _ _ e. e);
+      keccak-rnd-rows = kept (λ _ _. tt) (λ _ _ _ _ e. e);
+      keccak-rnd-height = kept (λ _ _. tt) (λ _ _ _ _ e. e);
+      padding-are-bytes = kept (λ _ _. tt) (λ _ _ _ _ e. e);
     }

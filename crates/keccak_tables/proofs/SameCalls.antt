@@ -16,5 +16,5 @@ pub record SameCalls : Type 0 where
 pub same-calls : SameCalls
 same-calls =
     record {
-      same-operations = kept (λ _ _. tt);
+      same-operations = kept (λ _ _. tt) (λ _ _ _ _ e. e);
     }

@@ -39,6 +39,6 @@ pub record SegmentCalls : Type 0 where
 pub segment-calls : SegmentCalls
 segment-calls =
     record {
-      charge = kept (λ _ _. tt);
-      look = kept (λ _ _. tt);
+      charge = kept (λ _ _. tt) (λ _ _ _ _ e. e);
+      look = kept (λ _ _. tt) (λ _ _ _ _ e. e);
     }

@@ -51,9 +51,9 @@ pub record TallyCalls : Type 0 where
 pub tally-calls : TallyCalls
 tally-calls =
     record {
-      tally-start = kept (λ _ _. tt);
-      tally-feed = kept (λ _ _. tt);
-      tally-finish = kept (λ _ _. tt);
-      read-operations = kept (λ _ _. tt);
-      write-operations = kept (λ _ _. tt);
+      tally-start = kept (λ _ _. tt) (λ _ _ _ _ e. e);
+      tally-feed = kept (λ _ _. tt) (λ _ _ _ _ e. e);
+      tally-finish = kept (λ _ _. tt) (λ _ _ _ _ e. e);
+      read-operations = kept (λ _ _. tt) (λ _ _ _ _ e. e);
+      write-operations = kept (λ _ _. tt) (λ _ _ _ _ e. e);
     }
