@@ -6,7 +6,7 @@ use Rattle.keccak.specs.Height.{height}
 use Rattle.keccak.specs.Refusals.{coreRowRefusal, coreTraceRefusal, coreRowsRefusal, keysRefusal, coreCountRefusal}
 use Rattle.keccak.specs.Calls.{coreRowAfter, coreTraceAfter, coreRowsAfter, keysAfter}
 use Rattle.flat.specs.Flat.{flatAnswer, flatNumber}
-use Rattle.keccak_tables.proofs.Kept.{Kept, kept}
+use Rattle.keccak_tables.proofs.Kept.{Kept}
 use Rattle.keccak_tables.proofs.core_calls.keccak_tables_keccak_row.Kinds as keccak-row-kinds
 use Rattle.keccak_tables.proofs.core_calls.keccak_tables_keccak_row.Reads as keccak-row-reads
 use Rattle.keccak_tables.proofs.core_calls.keccak_tables_generate_keccak_trace.Kinds as generate-keccak-trace-kinds
@@ -58,9 +58,9 @@ pub record CoreCalls : Type 0 where
 pub core-calls : CoreCalls
 core-calls =
     record {
-      keccak-row = kept (λ _ _. tt) (λ _ _ _ _ e. e);
-      generate-keccak-trace = kept (λ _ _. tt) (λ _ _ _ _ e. e);
-      keccak-rows = kept (λ _ _. tt) (λ _ _ _ _ e. e);
-      is-wh-keys = kept (λ _ _. tt) (λ _ _ _ _ e. e);
-      keccak-height = kept (λ _ _. tt) (λ _ _ _ _ e. e);
+      keccak-row = record { wants-nothing = λ _ _. tt; tells = λ _ _ _ _ e. e };
+      generate-keccak-trace = record { wants-nothing = λ _ _. tt; tells = λ _ _ _ _ e. e };
+      keccak-rows = record { wants-nothing = λ _ _. tt; tells = λ _ _ _ _ e. e };
+      is-wh-keys = record { wants-nothing = λ _ _. tt; tells = λ _ _ _ _ e. e };
+      keccak-height = record { wants-nothing = λ _ _. tt; tells = λ _ _ _ _ e. e };
     }

@@ -5,7 +5,7 @@ use Rattle.bitwise.specs.Counters.{bumpRefusal, bumpNAfter, mergeRefusal, merge
 use Rattle.bitwise.specs.Lookups.{addOpsRefusal, addOpsAfter, updateRefusal, updateAfter}
 use Rattle.bitwise.specs.Table.{traceRefusal, traceAfter, fillRefusal, fillAfter}
 use Rattle.flat.specs.Flat.{flatAnswer}
-use Rattle.keccak_tables.proofs.Kept.{Kept, kept}
+use Rattle.keccak_tables.proofs.Kept.{Kept}
 use Rattle.keccak_tables.proofs.counters.keccak_tables_generate_bitwise_trace.Kinds as generate-bitwise-trace-kinds
 use Rattle.keccak_tables.proofs.counters.keccak_tables_generate_bitwise_trace.Reads as generate-bitwise-trace-reads
 use Rattle.keccak_tables.proofs.counters.keccak_tables_fill_multiplicities.Kinds as fill-multiplicities-kinds
@@ -69,10 +69,10 @@ pub record CounterCalls : Type 0 where
 pub counter-calls : CounterCalls
 counter-calls =
     record {
-      generate-bitwise-trace = kept (λ _ _. tt) (λ _ _ _ _ e. e);
-      fill-multiplicities = kept (λ _ _. tt) (λ _ _ _ _ e. e);
-      bump-n = kept (λ _ _. tt) (λ _ _ _ _ e. e);
-      merge = kept (λ _ _. tt) (λ _ _ _ _ e. e);
-      add-ops = kept (λ _ _. tt) (λ _ _ _ _ e. e);
-      bitwise-update-multiplicities = kept (λ _ _. tt) (λ _ _ _ _ e. e);
+      generate-bitwise-trace = record { wants-nothing = λ _ _. tt; tells = λ _ _ _ _ e. e };
+      fill-multiplicities = record { wants-nothing = λ _ _. tt; tells = λ _ _ _ _ e. e };
+      bump-n = record { wants-nothing = λ _ _. tt; tells = λ _ _ _ _ e. e };
+      merge = record { wants-nothing = λ _ _. tt; tells = λ _ _ _ _ e. e };
+      add-ops = record { wants-nothing = λ _ _. tt; tells = λ _ _ _ _ e. e };
+      bitwise-update-multiplicities = record { wants-nothing = λ _ _. tt; tells = λ _ _ _ _ e. e };
     }

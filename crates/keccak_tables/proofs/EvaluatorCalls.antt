@@ -14,7 +14,7 @@ use Rattle.keccak_rnd.specs.Tuples as round-tuples
 use Rattle.keccak_interactions.specs.Words as core-words
 use Rattle.keccak_rnd_interactions.specs.Words as round-words
 use Rattle.flat.specs.Flat.{flatAnswer, flatTuple}
-use Rattle.keccak_tables.proofs.Kept.{Kept, kept}
+use Rattle.keccak_tables.proofs.Kept.{Kept}
 use Rattle.keccak_tables.proofs.evaluators.keccak_tables_keccak_values.Kinds as keccak-values-kinds
 use Rattle.keccak_tables.proofs.evaluators.keccak_tables_keccak_values.Reads as keccak-values-reads
 use Rattle.keccak_tables.proofs.evaluators.keccak_tables_keccak_rnd_values.Kinds as keccak-rnd-values-kinds
@@ -81,10 +81,10 @@ pub record EvaluatorCalls : Type 0 where
 pub evaluator-calls : EvaluatorCalls
 evaluator-calls =
     record {
-      keccak-values = kept (λ _ _. tt) (λ _ _ _ _ e. e);
-      keccak-rnd-values = kept (λ _ _. tt) (λ _ _ _ _ e. e);
-      keccak-bus-interaction = kept (λ _ _. tt) (λ _ _ _ _ e. e);
-      keccak-rnd-bus-interaction = kept (λ _ _. tt) (λ _ _ _ _ e. e);
-      keccak-bus-interactions = kept (λ _ _. tt) (λ _ _ _ _ e. e);
-      keccak-rnd-bus-interactions = kept (λ _ _. tt) (λ _ _ _ _ e. e);
+      keccak-values = record { wants-nothing = λ _ _. tt; tells = λ _ _ _ _ e. e };
+      keccak-rnd-values = record { wants-nothing = λ _ _. tt; tells = λ _ _ _ _ e. e };
+      keccak-bus-interaction = record { wants-nothing = λ _ _. tt; tells = λ _ _ _ _ e. e };
+      keccak-rnd-bus-interaction = record { wants-nothing = λ _ _. tt; tells = λ _ _ _ _ e. e };
+      keccak-bus-interactions = record { wants-nothing = λ _ _. tt; tells = λ _ _ _ _ e. e };
+      keccak-rnd-bus-interactions = record { wants-nothing = λ _ _. tt; tells = λ _ _ _ _ e. e };
     }

@@ -5,7 +5,7 @@ use Rattle.answer.specs.Refusal.{answerOf}
 use Rattle.job.specs.Report.{jobRefusal, jobAfter}
 use Rattle.job.specs.Within.{jobWithinRefusal, jobWithinAfter, jobScratchAfter}
 use Rattle.flat.specs.Flat.{flatAnswer}
-use Rattle.keccak_tables.proofs.Kept.{Kept, kept}
+use Rattle.keccak_tables.proofs.Kept.{Kept}
 use Rattle.keccak_tables.proofs.job_calls.keccak_tables_job.Kinds as job-kinds
 use Rattle.keccak_tables.proofs.job_calls.keccak_tables_job.Reads as job-reads
 use Rattle.keccak_tables.proofs.job_calls.keccak_tables_job_within.Kinds as job-within-kinds
@@ -42,6 +42,6 @@ pub record JobCalls : Type 0 where
 pub job-calls : JobCalls
 job-calls =
     record {
-      job = kept (λ _ _. tt) (λ _ _ _ _ e. e);
-      job-within = kept (λ _ _. tt) (λ _ _ _ _ e. e);
+      job = record { wants-nothing = λ _ _. tt; tells = λ _ _ _ _ e. e };
+      job-within = record { wants-nothing = λ _ _. tt; tells = λ _ _ _ _ e. e };
     }

@@ -7,7 +7,7 @@ use Rattle.verdict.specs.CoreAndRound.{verdictFor}
 use Rattle.judge_within.specs.Within.{withinFor, withinAfter}
 use Rattle.flat.specs.Flat.{flatNumber}
 use Rattle.verdict_line.specs.Line.{lineAnswer, lineAfter, withinLineAnswer, withinLineAfter}
-use Rattle.keccak_tables.proofs.Kept.{Kept, kept}
+use Rattle.keccak_tables.proofs.Kept.{Kept}
 use Rattle.keccak_tables.proofs.judge_calls.keccak_tables_verdict.Kinds as verdict-kinds
 use Rattle.keccak_tables.proofs.judge_calls.keccak_tables_verdict.Reads as verdict-reads
 use Rattle.keccak_tables.proofs.judge_calls.keccak_tables_verdict_within.Kinds as verdict-within-kinds
@@ -64,8 +64,8 @@ pub record JudgeCalls : Type 0 where
 pub judge-calls : JudgeCalls
 judge-calls =
     record {
-      verdict = kept (λ _ _. tt) (λ _ _ _ _ e. e);
-      verdict-within = kept (λ _ _. tt) (λ _ _ _ _ e. e);
-      verdict-line = kept (λ _ _. tt) (λ _ _ _ _ e. e);
-      verdict-line-within = kept (λ _ _. tt) (λ _ _ _ _ e. e);
+      verdict = record { wants-nothing = λ _ _. tt; tells = λ _ _ _ _ e. e };
+      verdict-within = record { wants-nothing = λ _ _. tt; tells = λ _ _ _ _ e. e };
+      verdict-line = record { wants-nothing = λ _ _. tt; tells = λ _ _ _ _ e. e };
+      verdict-line-within = record { wants-nothing = λ _ _. tt; tells = λ _ _ _ _ e. e };
     }

@@ -14,10 +14,3 @@ pub record Kept (n : ℕ) (ps : List (PK n)) (r : RK n) (asked : In n ps) (learn
   pub wants-nothing : (lifetimes : Lfts n) (lent : Dens lifetimes ps) → asked lifetimes lent
   pub tells : (lifetimes : Lfts n) (lent : Dens lifetimes ps) (answer : resT r lifetimes .Denot) (ended : AtExit (endedOf n ps r) lifetimes) →
       learnt lifetimes lent answer ended → told lifetimes lent answer ended
-
-pub kept : {n : ℕ} {ps : List (PK n)} {r : RK n} {asked : In n ps} {learnt told : Out n ps r} →
-    ((lifetimes : Lfts n) (lent : Dens lifetimes ps) → asked lifetimes lent) →
-    ((lifetimes : Lfts n) (lent : Dens lifetimes ps) (answer : resT r lifetimes .Denot) (ended : AtExit (endedOf n ps r) lifetimes) →
-    learnt lifetimes lent answer ended → told lifetimes lent answer ended) →
-    Kept n ps r asked learnt told
-kept wants says = record { wants-nothing = wants; tells = says }

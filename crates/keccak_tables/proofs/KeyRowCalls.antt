@@ -7,7 +7,7 @@ use Rattle.is_wh_rows.specs.Calls.{dedupAnswer, loadsAfter, rowsAfter}
 use Rattle.is_wh_trace.specs.Trace.{heightRefusal, isWhTraceRefusal, isWhTraceAfter}
 use Rattle.is_wh_counts.specs.Counts.{collectRefusal, collectAfter}
 use Rattle.flat.specs.Flat.{flatAnswer, flatNumber}
-use Rattle.keccak_tables.proofs.Kept.{Kept, kept}
+use Rattle.keccak_tables.proofs.Kept.{Kept}
 use Rattle.keccak_tables.proofs.key_rows.keccak_tables_dedup_is_wh_rows.Kinds as dedup-is-wh-rows-kinds
 use Rattle.keccak_tables.proofs.key_rows.keccak_tables_dedup_is_wh_rows.Reads as dedup-is-wh-rows-reads
 use Rattle.keccak_tables.proofs.key_rows.keccak_tables_is_wh_height.Kinds as is-wh-height-kinds
@@ -53,8 +53,8 @@ pub record KeyRowCalls : Type 0 where
 pub key-row-calls : KeyRowCalls
 key-row-calls =
     record {
-      dedup-is-wh-rows = kept (λ _ _. tt) (λ _ _ _ _ e. e);
-      is-wh-height = kept (λ _ _. tt) (λ _ _ _ _ e. e);
-      generate-is-wh-trace = kept (λ _ _. tt) (λ _ _ _ _ e. e);
-      collect-bitwise-from-is-wh = kept (λ _ _. tt) (λ _ _ _ _ e. e);
+      dedup-is-wh-rows = record { wants-nothing = λ _ _. tt; tells = λ _ _ _ _ e. e };
+      is-wh-height = record { wants-nothing = λ _ _. tt; tells = λ _ _ _ _ e. e };
+      generate-is-wh-trace = record { wants-nothing = λ _ _. tt; tells = λ _ _ _ _ e. e };
+      collect-bitwise-from-is-wh = record { wants-nothing = λ _ _. tt; tells = λ _ _ _ _ e. e };
     }

@@ -16,7 +16,7 @@ use Rattle.is_wh.specs.Key.{of-dword}
 use Rattle.is_wh.specs.Tuples.{isWhTuple}
 use Rattle.is_wh.specs.Tuples as is-wh-tuples
 use Rattle.flat.specs.Flat.{flatAnswer, flatNumber, flatTuple, flatKey}
-use Rattle.keccak_tables.proofs.Kept.{Kept, kept}
+use Rattle.keccak_tables.proofs.Kept.{Kept}
 use Rattle.keccak_tables.proofs.lookups.keccak_tables_generate_bitwise_row.Kinds as generate-bitwise-row-kinds
 use Rattle.keccak_tables.proofs.lookups.keccak_tables_generate_bitwise_row.Reads as generate-bitwise-row-reads
 use Rattle.keccak_tables.proofs.lookups.keccak_tables_bitwise_row_index.Kinds as bitwise-row-index-kinds
@@ -115,14 +115,14 @@ pub record LookedUpCalls : Type 0 where
 pub looked-up-calls : LookedUpCalls
 looked-up-calls =
     record {
-      generate-bitwise-row = kept (λ _ _. tt) (λ _ _ _ _ e. e);
-      bitwise-row-index = kept (λ _ _. tt) (λ _ _ _ _ e. e);
-      bitwise-bump = kept (λ _ _. tt) (λ _ _ _ _ e. e);
-      bitwise-bus-interaction = kept (λ _ _. tt) (λ _ _ _ _ e. e);
-      keccak-rc-generate-row = kept (λ _ _. tt) (λ _ _ _ _ e. e);
-      generate-keccak-rc-trace = kept (λ _ _. tt) (λ _ _ _ _ e. e);
-      keccak-rc-update-multiplicities = kept (λ _ _. tt) (λ _ _ _ _ e. e);
-      keccak-rc-bus-interaction = kept (λ _ _. tt) (λ _ _ _ _ e. e);
-      is-wh-key = kept (λ _ _. tt) (λ _ _ _ _ e. e);
-      is-wh-bus-interaction = kept (λ _ _. tt) (λ _ _ _ _ e. e);
+      generate-bitwise-row = record { wants-nothing = λ _ _. tt; tells = λ _ _ _ _ e. e };
+      bitwise-row-index = record { wants-nothing = λ _ _. tt; tells = λ _ _ _ _ e. e };
+      bitwise-bump = record { wants-nothing = λ _ _. tt; tells = λ _ _ _ _ e. e };
+      bitwise-bus-interaction = record { wants-nothing = λ _ _. tt; tells = λ _ _ _ _ e. e };
+      keccak-rc-generate-row = record { wants-nothing = λ _ _. tt; tells = λ _ _ _ _ e. e };
+      generate-keccak-rc-trace = record { wants-nothing = λ _ _. tt; tells = λ _ _ _ _ e. e };
+      keccak-rc-update-multiplicities = record { wants-nothing = λ _ _. tt; tells = λ _ _ _ _ e. e };
+      keccak-rc-bus-interaction = record { wants-nothing = λ _ _. tt; tells = λ _ _ _ _ e. e };
+      is-wh-key = record { wants-nothing = λ _ _. tt; tells = λ _ _ _ _ e. e };
+      is-wh-bus-interaction = record { wants-nothing = λ _ _. tt; tells = λ _ _ _ _ e. e };
     }

@@ -6,7 +6,7 @@ use Rattle.bitwise.specs.declared.BitwiseOperationType.the-variants.{Zero, IsB2
 use Rattle.bitwise_operations.specs.Operation.{operation, twentyBits, operationOf, zeroRefusal}
 use Rattle.bitwise_operations.specs.declared.OperationAnswer.the-variants.{Is}
 use Rattle.flat.specs.FlatLookup.{ofKind, flatLookup}
-use Rattle.keccak_tables.proofs.Kept.{Kept, kept}
+use Rattle.keccak_tables.proofs.Kept.{Kept}
 use Rattle.keccak_tables.proofs.lookup_calls.keccak_tables_lookup_new.Kinds as lookup-new-kinds
 use Rattle.keccak_tables.proofs.lookup_calls.keccak_tables_lookup_new.Reads as lookup-new-reads
 use Rattle.keccak_tables.proofs.lookup_calls.keccak_tables_lookup_byte_op.Kinds as lookup-byte-op-kinds
@@ -68,11 +68,11 @@ pub record LookupCalls : Type 0 where
 pub lookup-calls : LookupCalls
 lookup-calls =
     record {
-      lookup-new = kept (λ _ _. tt) (λ _ _ _ _ e. e);
-      lookup-byte-op = kept (λ _ _. tt) (λ _ _ _ _ e. e);
-      lookup-single-byte = kept (λ _ _. tt) (λ _ _ _ _ e. e);
-      lookup-halfword = kept (λ _ _. tt) (λ _ _ _ _ e. e);
-      lookup-zero = kept (λ _ _. tt) (λ _ _ _ _ e. e);
-      lookup-shift-op = kept (λ _ _. tt) (λ _ _ _ _ e. e);
-      lookup-b20 = kept (λ _ _. tt) (λ _ _ _ _ e. e);
+      lookup-new = record { wants-nothing = λ _ _. tt; tells = λ _ _ _ _ e. e };
+      lookup-byte-op = record { wants-nothing = λ _ _. tt; tells = λ _ _ _ _ e. e };
+      lookup-single-byte = record { wants-nothing = λ _ _. tt; tells = λ _ _ _ _ e. e };
+      lookup-halfword = record { wants-nothing = λ _ _. tt; tells = λ _ _ _ _ e. e };
+      lookup-zero = record { wants-nothing = λ _ _. tt; tells = λ _ _ _ _ e. e };
+      lookup-shift-op = record { wants-nothing = λ _ _. tt; tells = λ _ _ _ _ e. e };
+      lookup-b20 = record { wants-nothing = λ _ _. tt; tells = λ _ _ _ _ e. e };
     }

@@ -5,7 +5,7 @@ use Rattle.sha3.specs.Sha3.{blocks}
 use Rattle.answer.specs.Refusal.{numberOf}
 use Rattle.message.specs.Message.{messageRefusal, messageAfter, judgedRefusal, isMessage, judgedOf, judgementNumber}
 use Rattle.flat.specs.Flat.{flatNumber}
-use Rattle.keccak_tables.proofs.Kept.{Kept, kept}
+use Rattle.keccak_tables.proofs.Kept.{Kept}
 use Rattle.keccak_tables.proofs.message_calls.keccak_tables_message_operations.Kinds as message-operations-kinds
 use Rattle.keccak_tables.proofs.message_calls.keccak_tables_message_operations.Reads as message-operations-reads
 use Rattle.keccak_tables.proofs.message_calls.keccak_tables_judge_message.Kinds as judge-message-kinds
@@ -30,6 +30,6 @@ pub record MessageCalls : Type 0 where
 pub message-calls : MessageCalls
 message-calls =
     record {
-      message-operations = kept (λ _ _. tt) (λ _ _ _ _ e. e);
-      judge-message = kept (λ _ _. tt) (λ _ _ _ _ e. e);
+      message-operations = record { wants-nothing = λ _ _. tt; tells = λ _ _ _ _ e. e };
+      judge-message = record { wants-nothing = λ _ _. tt; tells = λ _ _ _ _ e. e };
     }

@@ -4,7 +4,7 @@ use lib.ListN.{length}
 use Rattle.answer.specs.Refusal.{answerOf}
 use Rattle.month.specs.Month.{monthRefusal, monthAfter}
 use Rattle.flat.specs.Flat.{flatAnswer}
-use Rattle.keccak_tables.proofs.Kept.{Kept, kept}
+use Rattle.keccak_tables.proofs.Kept.{Kept}
 use Rattle.keccak_tables.proofs.month_calls.keccak_tables_month.Kinds as month-kinds
 use Rattle.keccak_tables.proofs.month_calls.keccak_tables_month.Reads as month-reads
 
@@ -22,5 +22,5 @@ pub record MonthCalls : Type 0 where
 pub month-calls : MonthCalls
 month-calls =
     record {
-      month = kept (λ _ _. tt) (λ _ _ _ _ e. e);
+      month = record { wants-nothing = λ _ _. tt; tells = λ _ _ _ _ e. e };
     }

@@ -4,7 +4,7 @@ use lib.ListN.{length}
 use Rattle.answer.specs.Refusal.{answerOf}
 use Rattle.registers.specs.Registers.{registerRefusal, registerCountersAfter, registerLedgersAfter, registerLookRefusal, registerLookCopyAfter, registerLookOutAfter}
 use Rattle.flat.specs.Flat.{flatAnswer}
-use Rattle.keccak_tables.proofs.Kept.{Kept, kept}
+use Rattle.keccak_tables.proofs.Kept.{Kept}
 use Rattle.keccak_tables.proofs.register_calls.keccak_tables_register_charge.Kinds as register-charge-kinds
 use Rattle.keccak_tables.proofs.register_calls.keccak_tables_register_charge.Reads as register-charge-reads
 use Rattle.keccak_tables.proofs.register_calls.keccak_tables_register_look.Kinds as register-look-kinds
@@ -45,6 +45,6 @@ pub record RegisterCalls : Type 0 where
 pub register-calls : RegisterCalls
 register-calls =
     record {
-      register-charge = kept (λ _ _. tt) (λ _ _ _ _ e. e);
-      register-look = kept (λ _ _. tt) (λ _ _ _ _ e. e);
+      register-charge = record { wants-nothing = λ _ _. tt; tells = λ _ _ _ _ e. e };
+      register-look = record { wants-nothing = λ _ _. tt; tells = λ _ _ _ _ e. e };
     }

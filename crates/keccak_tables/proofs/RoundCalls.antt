@@ -6,7 +6,7 @@ use Rattle.keccak_rnd.specs.Row.{roundHeight, padding-are-bytes}
 use Rattle.keccak_rnd.specs.Refusals.{roundRowRefusal, roundTraceRefusal, roundRowsRefusal, roundCountRefusal}
 use Rattle.keccak_rnd.specs.Calls.{roundRowAfter, roundTraceAfter, roundRowsAfter}
 use Rattle.flat.specs.Flat.{flatAnswer, flatNumber}
-use Rattle.keccak_tables.proofs.Kept.{Kept, kept}
+use Rattle.keccak_tables.proofs.Kept.{Kept}
 use Rattle.keccak_tables.proofs.round_calls.keccak_tables_keccak_rnd_row.Kinds as keccak-rnd-row-kinds
 use Rattle.keccak_tables.proofs.round_calls.keccak_tables_keccak_rnd_row.Reads as keccak-rnd-row-reads
 use Rattle.keccak_tables.proofs.round_calls.keccak_tables_generate_keccak_rnd_trace.Kinds as generate-keccak-rnd-trace-kinds
@@ -61,9 +61,9 @@ pub record RoundCalls : Type 0 where
 pub round-calls : RoundCalls
 round-calls =
     record {
-      keccak-rnd-row = kept (λ _ _. tt) (λ _ _ _ _ e. e);
-      generate-keccak-rnd-trace = kept (λ _ _. tt) (λ _ _ _ _ e. e);
-      keccak-rnd-rows = kept (λ _ _. tt) (λ _ _ _ _ e. e);
-      keccak-rnd-height = kept (λ _ _. tt) (λ _ _ _ _ e. e);
-      padding-are-bytes = kept (λ _ _. tt) (λ _ _ _ _ e. e);
+      keccak-rnd-row = record { wants-nothing = λ _ _. tt; tells = λ _ _ _ _ e. e };
+      generate-keccak-rnd-trace = record { wants-nothing = λ _ _. tt; tells = λ _ _ _ _ e. e };
+      keccak-rnd-rows = record { wants-nothing = λ _ _. tt; tells = λ _ _ _ _ e. e };
+      keccak-rnd-height = record { wants-nothing = λ _ _. tt; tells = λ _ _ _ _ e. e };
+      padding-are-bytes = record { wants-nothing = λ _ _. tt; tells = λ _ _ _ _ e. e };
     }

@@ -2,7 +2,7 @@
 use mathlib.Core.Path.{_≡_}
 use Rattle.same_operations.specs.Same.{sameFor}
 use Rattle.flat.specs.Flat.{flatAgreement}
-use Rattle.keccak_tables.proofs.Kept.{Kept, kept}
+use Rattle.keccak_tables.proofs.Kept.{Kept}
 use Rattle.keccak_tables.proofs.same_calls.keccak_tables_same_operations.Kinds as same-operations-kinds
 use Rattle.keccak_tables.proofs.same_calls.keccak_tables_same_operations.Reads as same-operations-reads
 
@@ -16,5 +16,5 @@ pub record SameCalls : Type 0 where
 pub same-calls : SameCalls
 same-calls =
     record {
-      same-operations = kept (λ _ _. tt) (λ _ _ _ _ e. e);
+      same-operations = record { wants-nothing = λ _ _. tt; tells = λ _ _ _ _ e. e };
     }

@@ -4,7 +4,7 @@ use lib.ListN.{length}
 use Rattle.answer.specs.Refusal.{answerOf}
 use Rattle.segment_counts.specs.Segment.{chargeRefusal, chargeAfter, lookRefusal, lookCopyAfter, lookOutAfter}
 use Rattle.flat.specs.Flat.{flatAnswer}
-use Rattle.keccak_tables.proofs.Kept.{Kept, kept}
+use Rattle.keccak_tables.proofs.Kept.{Kept}
 use Rattle.keccak_tables.proofs.segment_calls.keccak_tables_charge.Kinds as charge-kinds
 use Rattle.keccak_tables.proofs.segment_calls.keccak_tables_charge.Reads as charge-reads
 use Rattle.keccak_tables.proofs.segment_calls.keccak_tables_look.Kinds as look-kinds
@@ -39,6 +39,6 @@ pub record SegmentCalls : Type 0 where
 pub segment-calls : SegmentCalls
 segment-calls =
     record {
-      charge = kept (λ _ _. tt) (λ _ _ _ _ e. e);
-      look = kept (λ _ _. tt) (λ _ _ _ _ e. e);
+      charge = record { wants-nothing = λ _ _. tt; tells = λ _ _ _ _ e. e };
+      look = record { wants-nothing = λ _ _. tt; tells = λ _ _ _ _ e. e };
     }

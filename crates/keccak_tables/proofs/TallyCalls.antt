@@ -6,7 +6,7 @@ use Rattle.op_file.specs.Reader.{feedOf, finishOf, fileStart}
 use Rattle.op_list.specs.Files.{readRefusal, writeRefusal, readAfter, writeAfter}
 use Rattle.flat.specs.Flat.{flatAnswer}
 use Rattle.flat.specs.FlatReader.{cursorOf, flatCursor, flatTally}
-use Rattle.keccak_tables.proofs.Kept.{Kept, kept}
+use Rattle.keccak_tables.proofs.Kept.{Kept}
 use Rattle.keccak_tables.proofs.tally_calls.keccak_tables_tally_start.Kinds as tally-start-kinds
 use Rattle.keccak_tables.proofs.tally_calls.keccak_tables_tally_start.Reads as tally-start-reads
 use Rattle.keccak_tables.proofs.tally_calls.keccak_tables_tally_feed.Kinds as tally-feed-kinds
@@ -51,9 +51,9 @@ pub record TallyCalls : Type 0 where
 pub tally-calls : TallyCalls
 tally-calls =
     record {
-      tally-start = kept (λ _ _. tt) (λ _ _ _ _ e. e);
-      tally-feed = kept (λ _ _. tt) (λ _ _ _ _ e. e);
-      tally-finish = kept (λ _ _. tt) (λ _ _ _ _ e. e);
-      read-operations = kept (λ _ _. tt) (λ _ _ _ _ e. e);
-      write-operations = kept (λ _ _. tt) (λ _ _ _ _ e. e);
+      tally-start = record { wants-nothing = λ _ _. tt; tells = λ _ _ _ _ e. e };
+      tally-feed = record { wants-nothing = λ _ _. tt; tells = λ _ _ _ _ e. e };
+      tally-finish = record { wants-nothing = λ _ _. tt; tells = λ _ _ _ _ e. e };
+      read-operations = record { wants-nothing = λ _ _. tt; tells = λ _ _ _ _ e. e };
+      write-operations = record { wants-nothing = λ _ _. tt; tells = λ _ _ _ _ e. e };
     }
