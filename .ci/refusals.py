@@ -148,6 +148,11 @@ def order():
     return [int(number) for number, _ in re.findall(r"^\| (\d+) \| `(\w+)` \|", text_of(HOST), re.M)]
 
 
+def rank(number):
+    """The place of a number in that order, behind all where it is missing."""
+    return order().index(int(number)) if int(number) in order() else len(order())
+
+
 def named(wrong, place, found, key=lambda name: name):
     """Holds a table of names and numbers against the definitions."""
     wanted = {key(name): number for name, number in numbers().items()}
@@ -182,7 +187,7 @@ def check_header(wrong):
     rows = re.findall(r"^ \* {2,3}(\d+)  (\w.*(?:\n \*      .*)*)", text, re.M)
     for number, words in rows:
         said = re.search(r"after (\d+) and before (\d+)", re.sub(r"\s{2,}[^\n]*\n \*\s+|\n \*\s+", " ", words))
-        if said and not order().index(int(said[1])) < order().index(int(number)) < order().index(int(said[2])):
+        if said and not rank(said[1]) < rank(number) < rank(said[2]):
             wrong(HEADER, f"{number} is not checked after {said[1]} and before {said[2]} ({HOST})")
 
 
