@@ -273,7 +273,10 @@ extern "C" {
 #define KECCAK_TABLES_COUNT_WORDS 2
 #define KECCAK_TABLES_VERDICT_WORDS 4
 
-/* What a verdict is lent to work in: the words of `scratch`, and as many of `spare`, for each row of both tables. */
+/*
+ * What a verdict is lent to work in: the words of `scratch`, and as many of `spare`, for each row of both tables. (The bindings in Rust lend
+ * both as one slice, so their SCRATCH_WORDS is twice this.)
+ */
 #define KECCAK_TABLES_SCRATCH_WORDS 2
 
 /* The answer of a call that only writes. */
@@ -668,6 +671,31 @@ keccak_tables_answer keccak_tables_look(uint64_t nr, uint64_t floor, bool shippe
                                         const uint64_t *counters, size_t counters_length, uint64_t *copy, size_t copy_length,
                                         uint64_t *out, size_t out_length);
 
+/* ---- several registers on one counter table ---- */
+
+/*
+ * The same charge through a register, one of several that share the counters. A register has a ledger of ten words at register * 10, the
+ * sum of each kind that it has charged, mod p; in use are as many registers as whole ledgers stand in the lent words, 16 at most. The
+ * charge adds to its own ledger how many it adds of each kind; every other ledger word is as it was, those past the sixteenth ledger too.
+ * 8 nr; 9 floor; 10 the register is not in use; 1, 2, 3, 4, 7, 11 and 5 as `charge`; then 5 a word of its own ledger, its place in
+ * `ledgers`.
+ */
+KECCAK_TABLES_MUST_USE
+keccak_tables_answer keccak_tables_register_charge(uint64_t nr, uint64_t floor, bool shipped, uint64_t register_number,
+                                                   const uint64_t *ops, size_t ops_length, uint64_t *counters,
+                                                   size_t counters_length, uint64_t *ledgers, size_t ledgers_length);
+
+/*
+ * A look at that beforehand: `copy` as the look above leaves it, and `out` begins with its twenty words and then the ten of the
+ * register's ledger as the charge would leave it. 8, 9, 10, 1, 2, 4, 7, 11 and 5 as the charge; 3 counters < 10,485,760, then copy <
+ * 10,485,760, then out < 30.
+ */
+KECCAK_TABLES_MUST_USE
+keccak_tables_answer keccak_tables_register_look(uint64_t nr, uint64_t floor, bool shipped, uint64_t register_number,
+                                                 const uint64_t *ops, size_t ops_length, const uint64_t *counters,
+                                                 size_t counters_length, const uint64_t *ledgers, size_t ledgers_length,
+                                                 uint64_t *copy, size_t copy_length, uint64_t *out, size_t out_length);
+
 /* ---- from message to operations ---- */
 
 /*
@@ -688,28 +716,6 @@ keccak_tables_number keccak_tables_message_operations(const uint8_t *message, si
 KECCAK_TABLES_MUST_USE
 keccak_tables_number keccak_tables_judge_message(const uint8_t *message, size_t message_length, const uint64_t *ops,
                                                  size_t ops_length);
-
-/*
- * The same charge through a register, one of several that share the counters. A register has a ledger of ten words at register * 10, the
- * sum of each kind that it has charged, mod p; in use are as many registers as whole ledgers stand in the lent words, 16 at most. The
- * charge adds to its own ledger how many it adds of each kind; every other ledger word is as it was, those past the sixteenth ledger too.
- * 8 nr; 9 floor; 10 the register is not in use; 1, 2, 3, 4, 7 and 5 as `charge`; then 5 a word of its own ledger, its place in `ledgers`.
- */
-KECCAK_TABLES_MUST_USE
-keccak_tables_answer keccak_tables_register_charge(uint64_t nr, uint64_t floor, bool shipped, uint64_t register_number,
-                                                   const uint64_t *ops, size_t ops_length, uint64_t *counters,
-                                                   size_t counters_length, uint64_t *ledgers, size_t ledgers_length);
-
-/*
- * A look at that beforehand: `copy` as the look above leaves it, and `out` begins with its twenty words and then the ten of the
- * register's ledger as the charge would leave it. 8, 9, 10, 1, 2, 4, 7 and 5 as the charge; 3 counters < 10,485,760, then copy <
- * 10,485,760, then out < 30.
- */
-KECCAK_TABLES_MUST_USE
-keccak_tables_answer keccak_tables_register_look(uint64_t nr, uint64_t floor, bool shipped, uint64_t register_number,
-                                                 const uint64_t *ops, size_t ops_length, const uint64_t *counters,
-                                                 size_t counters_length, const uint64_t *ledgers, size_t ledgers_length,
-                                                 uint64_t *copy, size_t copy_length, uint64_t *out, size_t out_length);
 
 /* ---- the month in whole numbers ---- */
 
@@ -810,8 +816,9 @@ KECCAK_TABLES_MUST_USE
 keccak_tables_cursor keccak_tables_tally_feed(keccak_tables_cursor cursor, const uint8_t *bytes, size_t bytes_length);
 
 /*
- * What the file says at its end, of tables with this floor and 24 rounds: 9 floor; then the reader's fault; 1 more than 89,478,485
- * records, or bytes after the last of them (only a reader that no call made); 6 a cut record; or the sums over the rows of both tables.
+ * What the file says at its end, of tables with this floor and 24 rounds: 9 floor; then 1, 4 and 6 of the reader's fault; 1 more than
+ * 89,478,485 records, or bytes after the last of them (only a reader that no call made); 6 a cut record; or the sums over the rows of both
+ * tables.
  * Where the tables of an empty file are not shipped its sums are 0; where they are, its zero round rows, as many as the floor, send 220
  * times the floor on AreBytes. Of a file with a record that is counted `shipped` changes nothing.
  */

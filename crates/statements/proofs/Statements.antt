@@ -284,8 +284,8 @@ pub each-answer : (core round : List ℕ) (v : Verdict) →
 each-answer = verdict-says 24
 
 -- ---- the verdict in lent memory (judge_within/specs/Within.antt; its line: Lines.antt)
--- "beside it comes one that is lent a scratch and answers the same": slices of `scratch` and of `spare` words, each of
--- "a small fixed number of words for each row of both tables"
+-- Beside `verdict` stands a call that is lent a scratch and answers the same: slices of `scratch` and of `spare` words, each of a
+-- small fixed number of words for each row of both tables
 pub lent-words : (core round : List ℕ) → placeCount core round ≡ 2 * (rows coreLayout core + rows roundLayout round)
 unfolding placeCount
 lent-words core round = refl
@@ -300,8 +300,8 @@ module _ (nr : ℕ) (core round : List ℕ) (scratch spare : ℕ) where
   pub lent-judged-same : Judged (withinFor nr core round scratch spare) → withinFor nr core round scratch spare ≡ verdictFor nr core round
   lent-judged-same = judged-same nr core round scratch spare
 
-  -- "refusals 8 2 3 5": accepted exactly where nr is from 1 to 24, both tables are whole rows of words below p, and both slices have room
-  -- (`Passed`, judge_within/proofs/Within.antt)
+  -- the refusals are 8, 2, 3 and 5, in this order: accepted exactly where nr is from 1 to 24, both tables are whole rows of words
+  -- below p, and both slices have room (`Passed`, judge_within/proofs/Within.antt)
   pub lent-taken : (withinRefusal nr core round scratch spare ≡ accepted) ↔ Passed nr core round scratch spare
   lent-taken = lent-passed nr core round scratch spare
 
@@ -310,7 +310,7 @@ module _ (nr : ℕ) (core round : List ℕ) (scratch spare : ℕ) where
   pub lent-answers : (v : Verdict) → (withinFor nr core round scratch spare ≡ v) ↔ SaysLent nr core round scratch spare v
   lent-answers = lent-says nr core round scratch spare
 
-  -- "what the scratch holds at exit: zeros where it was used, untouched where refused"; the words past them stay
+  -- what the scratch holds at exit: zeros where it was used, its old words where the verdict is refused; the words past them stay
   pub lent-zeros : Passed nr core round scratch spare → (old : List ℕ) →
       (take (placeCount core round) (withinAfter nr core round scratch spare old) ≡ tab (placeCount core round) (λ k. 0))
       × (drop (placeCount core round) (withinAfter nr core round scratch spare old) ≡ drop (placeCount core round) old)
@@ -320,7 +320,7 @@ module _ (nr : ℕ) (core round : List ℕ) (scratch spare : ℕ) where
       withinAfter nr core round scratch spare old ≡ old
   lent-untouched e old = sym (after-refused nr core round old scratch spare e)
 
--- ".. in n log n on every input": places are sorted by a merge sort, and one of n places, n at most 2^k, compares two of them at most 2 k n
+-- in n log n on every input: places are sorted by a merge sort, and one of n places, n at most 2^k, compares two of them at most 2 k n
 -- times. That is said of `mostCompared` (sort/specs/Compared.antt), whatever the places are, a definition whose shape is that of `merge_sort` in
 -- sort_places/src/lib.rt as in sort/src/lib.rt; no contract ties the code to it, and runs show the rest. Where n is at most 2^k more halvings
 -- compare none
@@ -1514,26 +1514,26 @@ page-to-receipt = left-digest
 -- The sentences are those of docs/WHY.md, 'As a prover checks it'; nr is any number of rounds from 1 to 24.
 module _ (nr : ℕ) (some : 1 ≤ nr) (most : nr ≤ 24) where
   module _ (core round : List ℕ) (w : Fillings) (others : Bus → List ℕ → ℕ) (h : SumsHold nr core round w others) where
-    -- "Then both tables pass their lookups, and the Keccak bus balances by counting."
+    -- Then both tables pass their lookups, and the Keccak bus balances by counting.
     pub sums-pass : Passes (coreKind nr) core × Answers nr core round
     sums-pass = (sums-core nr core round w others h, sums-answer nr core round w others h)
 
     module _ (apart : DistinctTimestamps coreLayout core) where
-      -- "Where timestamps differ the verdict is 'holds', and every active core row is computed, at its addresses."
+      -- Where timestamps differ the verdict is 'holds', and every active core row is computed, at its addresses.
       pub sums-right : (verdictAt nr core round ≡ Holds (actives coreLayout core)) × EachActive (λ x. Computed nr x × Addressed x) core
       sums-right = (sums-verdict nr core round w others h apart, sums-computed nr core round w others h apart some most)
 
-      -- "With demand 3's two bounds all is so that demand 3 claims."
+      -- With demand 3's two bounds all is so that demand 3 claims.
       pub sums-all : actives coreLayout core ≤ MAX-OPS → EachActive ShortTimestamp core → (floor : ℕ) → ClaimsAt nr floor core
       sums-all = sums-claims nr core round w others h apart some most
 
-  -- "Where both tables pass and balance there are fillings, all words below p, for which every sum agrees."
+  -- Where both tables pass and balance there are fillings, all words below p, for which every sum agrees.
   pub sums-made : (core round : List ℕ) → rows coreLayout core ≤ MAX-ROWS → rows roundLayout round ≤ MAX-ROWS →
       Filled nr core round ↔ (Passes (coreKind nr) core × Answers nr core round)
   sums-made = sums-exactly nr
 
-  -- "For a core table of which its constraints alone are known, a round table and fillings exist exactly when its
-  -- lookups pass and every active row is computed."
+  -- For a core table of which its constraints alone are known, a round table and fillings exist exactly when its
+  -- lookups pass and every active row is computed.
   pub sums-exist : (core : List ℕ) → Constrained (coreKind nr) core → actives coreLayout core ≤ MAX-OPS →
       DistinctTimestamps coreLayout core → EachActive ShortTimestamp core →
       ((round : List ℕ) × Filled nr core round) ↔ (Lookups (coreKind nr) core × EachActive (Computed nr) core)
@@ -1558,7 +1558,7 @@ module _ (s : Side) (b : Bus) where
 
 -- ---- the IS_WH table: what the calls leave, for a list of operations that `is_wh_keys` accepts
 module _ (ops out : List ℕ) (wrote-keys : keysRefusal (length out) ops ≡ accepted) where
-  -- "One row per distinct `(word, half)` pair, with `μ` counting its sends.": of the keys that are left in `out`, the rows
+  -- 'One row per distinct `(word, half)` pair, with `μ` counting its sends.' (the Rust's is_wh.rs): of the keys that are left in `out`, the rows
   -- that `dedup_is_wh_rows` leaves, and their table, each list of values is received on IsWh exactly as often as the
   -- core table that `generate_keccak_trace` leaves sends it
   pub pairs-received : (C S R : List ℕ) (wrote-rows : dedupRefusal (length C) (length S) (length R) (keysOf ops out wrote-keys) ≡ accepted) →
@@ -1606,29 +1606,29 @@ pub segment-passes : (nr floor : ℕ) (ops : List ℕ) → 1 ≤ opCount ops →
     }) nobody
 segment-passes = calls-hold
 
--- "The written tables of an operation have such fillings."
+-- The written tables of an operation have such fillings.
 pub sums-met : Filled 24 (oneCore witness) (oneRound witness)
 sums-met = witness-sums
 
--- "MU is 0 or 1": where its value, 51 of a core row and 140 of a round row, is 0, though p is nowhere known to be prime
+-- MU is 0 or 1 where its value, 51 of a core row and 140 of a round row, is 0, though p is nowhere known to be prime
 pub mu-bit : (r : ℕ) → r < p → isBit r ≡ 0 → r < 2
 mu-bit = bit-is
 
--- "Without IsB20": a segment that meets all the rest, and whose active core row has a lane elsewhere
+-- Without IsB20: a segment that meets all the rest, and whose active core row has a lane elsewhere
 pub without-twenty : (w : Fillings) × Forgery bentCore bentRound w
 without-twenty = twenty-needed
 
--- "Without a bit for MU": two core rows that cancel on every bus, all values 0 but the second row's 51
+-- Without a bit for MU: two core rows that cancel on every bus, all values 0 but the second row's 51
 pub without-bit : Slips twoRows ×
     ((r i : ℕ) → r < 2 → i < 52 → (r ≡ 1 → i ≡ 51 → ⊥) → ZeroAt (coreKind 24) twoRows r i)
 without-bit = mu-needed
 
--- "With p rows or more": p core rows that cancel on every bus, all values 0
+-- With p rows or more: p core rows that cancel on every bus, all values 0
 pub without-few : Slips manyRows × Values (coreKind 24) manyRows
 without-few = few-needed
 
 -- ---- beyond the demands: the counters of the bitwise lookups
--- "The histogram is a commutative monoid: increments and [`merge`](Self::merge) are order-independent" (tables/bitwise.rs):
+-- 'The histogram is a commutative monoid: increments and [`merge`](Self::merge) are order-independent' (the Rust's bitwise.rs):
 -- of counters that `merge` accepts; the words past the 10,485,760 counters are those of the first slice
 module _ (a b : List ℕ) (passed : mergeRefusal a b ≡ accepted) where
   pub merging-commutes : Alike 10485760 (mergeAfter a b) (mergeAfter b a)
@@ -1645,13 +1645,13 @@ module _ (a b : List ℕ) (passed : mergeRefusal a b ≡ accepted) where
         × (mergeAfter a (bumpNAfter b kind x y z n) ≡ bumpNAfter (mergeAfter a b) kind x y z n)
     bump-then-merge = (bump-first a b passed kind x y z n hk hx hy hz, bump-last a b passed kind x y z n hk hx hy hz)
 
--- ".. so per-thread histograms can be tree-reduced": two lists of lookups counted into two histograms that are then merged
+-- '.. so per-thread histograms can be tree-reduced' (the same): two lists of lookups counted into two histograms that are then merged
 -- are counted into one
 pub lists-then-merge : (a b ops more : List ℕ) → mergeRefusal a b ≡ accepted → addOpsRefusal a ops ≡ accepted → addOpsRefusal b more ≡ accepted →
     mergeAfter (addOpsAfter a ops) (addOpsAfter b more) ≡ addOpsAfter (addOpsAfter (mergeAfter a b) ops) more
 lists-then-merge = counted-merged
 
--- ".. where it produces exactly the same MU columns as calling [`update_multiplicities`] with the full op vector": from
+-- '.. where it produces exactly the same MU columns as calling [`update_multiplicities`] with the full op vector' (the same): from
 -- counters that are 0, into a table as `generate_bitwise_trace` leaves it
 pub filling-updates : (counters table : List ℕ) → 10485760 ≤ length counters →
     ((k : ℕ) → k < 10485760 → word counters k ≡ 0) → 22020096 ≤ length table →
@@ -1683,7 +1683,7 @@ module _ (nr : ℕ) (some : 1 ≤ nr) (most : nr ≤ 24) (core : List ℕ) (supp
         Answers nr core (take size after) × (v ≡ Holds (actives coreLayout core))
     code-answers = written-answers nr some most core supposed floor power
 
-    -- "The round table that the writer makes has fillings too."
+    -- The round table that the writer makes has fillings too.
     pub code-filled : rows coreLayout core ≤ MAX-ROWS → EachActive (Computed nr) core →
         (before after : List ℕ) → size ≤ length before → Wrote nr floor (operations core) before after →
         Filled nr core (take size after)
@@ -1694,7 +1694,7 @@ module _ (nr : ℕ) (some : 1 ≤ nr) (most : nr ≤ 24) (core : List ℕ) (supp
         (record { whole = c .whole; below = c .below; values = c .values; few = few })
         (supposed .few) (supposed .apart) (supposed .stamps) floor (floor-most floor power) (c .lookups) right)
 
--- "The call `verdict` answers 'holds' exactly where there are such fillings and timestamps differ": of what it answers, on
+-- The call `verdict` answers 'holds' exactly where there are such fillings and timestamps differ: of what it answers, on
 -- tables of at most 2^35 rows each
 module _ (nr : ℕ) (some : 1 ≤ nr) (most : nr ≤ 24) where
   pub code-sums : (core round : List ℕ) → rows coreLayout core ≤ MAX-ROWS → rows roundLayout round ≤ MAX-ROWS →
@@ -1779,7 +1779,7 @@ pub job-refiled : {nr : ℕ} {core round counts before after counts′ before′
     Reported nr core round counts′ before′ after′ → rowAt 4 after (segmentCount counts) ≡ rowAt 4 after′ (segmentCount counts′)
 job-refiled = reported-refiled
 
--- The same report in lent memory (job/specs/Within.antt): "The same for `verdict_line` and `job`, so that the host never needs the slow one."
+-- The same report in lent memory (job/specs/Within.antt), so that a host never needs the slow one.
 -- What is checked of `job` before the tables' words is checked first, then 3 on scratch and 3 on spare, whose detail is 2 words a row of both
 -- tables (`placeCount`), then 5; accepted exactly where `job` is and both slices have room
 module _ (nr : ℕ) (core round counts : List ℕ) (room scratch spare : ℕ) where
