@@ -101,7 +101,7 @@ use Rattle.verdict.proofs.Honest.{written-passes, written-supposed, written-hol
 use Rattle.verdict.proofs.Instances.{exchanged-named, late-unbalanced}
 use Rattle.verdict.proofs.Late.{late-row}
 use Rattle.bus_sums.specs.Buses.{coreLine, roundLine, isWhLine, bitwiseLine, constantLine}
-use Rattle.bus_sums.specs.Sums.{Fillings, bitwiseAt, constantAt, Constrained, SumsHold, Filled, MAX-ROWS}
+use Rattle.bus_sums.specs.Sums.{Fillings, bitwiseAt, constantAt, Constrained, SumsHold, Filled}
 use Rattle.bus_sums.specs.Sums.{tableShare, isWhKind}
 use Rattle.bus_sums.proofs.Buses.{core-line, round-line, is-wh-line, bitwise-line, constant-line}
 use Rattle.bus_sums.proofs.Receipt.{sums-core, sums-answer, sums-verdict, sums-computed, sums-claims, sums-exactly}
@@ -1137,7 +1137,8 @@ module _ (a b : List ℕ) (but : ButSegments a b) where
   pub charges-free : (nr floor : ℕ) (shipped : Bool) → listCharged nr floor shipped a ≡ listCharged nr floor shipped b
   charges-free nr floor = charge-free.charged-free a b but nr floor
 
-  -- .. and where no segment word is refused, every call refuses both lists alike and leaves the same
+  -- .. and where no segment word is refused, the calls that write rows, tables and keys, and the charge and its look, leave the same of both. That
+  -- they refuse both alike, the same of the charge and the look through a register, and which two calls do depend on segment numbers: Segments.antt
   module _ (short-a : ShortSegments a) (short-b : ShortSegments b) where
     pub core-calls-free : (floor index : ℕ) (out : List ℕ) →
         (coreRowAfter a index out ≡ coreRowAfter b index out) × (coreRowsAfter a out ≡ coreRowsAfter b out)
@@ -1161,10 +1162,6 @@ module _ (a b : List ℕ) (but : ButSegments a b) where
     charge-calls-free nr floor shipped counters copy out =
         let look = charge-free.look-call-free a b but nr floor short-a short-b shipped counters copy out in
         (charge-free.charge-call-free a b but nr floor short-a short-b shipped counters .1, look .1, look .2)
-
-    -- what they refuse, of the room that n operations need
-    pub refusals-free : (room : ℕ) (needed : ℕ → ℕ) → operationsRefusal room (needed (opCount a)) a ≡ operationsRefusal room (needed (opCount b)) b
-    refusals-free = core-free.refusal-free a b but short-a short-b
 
 -- "Refused: 11, a segment word of 2^32 or more in a list, detail the first such word": where nothing earlier refuses and operation i is the
 -- first with such a word; accepted exactly where there is none, `none-refused` above
@@ -1579,7 +1576,7 @@ module _ (nr : ℕ) (some : 1 ≤ nr) (most : nr ≤ 24) where
       sums-all = sums-claims nr core round w others h apart some most
 
   -- "Where both tables pass and balance there are fillings, all words below p, for which every sum agrees."
-  pub sums-made : (core round : List ℕ) → rows coreLayout core ≤ MAX-ROWS → rows roundLayout round ≤ MAX-ROWS →
+  pub sums-made : (core round : List ℕ) → rows coreLayout core ≤ 2 ^ 35 → rows roundLayout round ≤ 2 ^ 35 →
       Filled nr core round ↔ (Passes (coreKind nr) core × Answers nr core round)
   sums-made = sums-exactly nr
 
@@ -1735,20 +1732,20 @@ module _ (nr : ℕ) (some : 1 ≤ nr) (most : nr ≤ 24) (core : List ℕ) (supp
     code-answers = written-answers nr some most core supposed floor power
 
     -- "The round table that the writer makes has fillings too."
-    pub code-filled : rows coreLayout core ≤ MAX-ROWS → EachActive (Computed nr) core →
+    pub code-filled : rows coreLayout core ≤ 2 ^ 35 → EachActive (Computed nr) core →
         (before after : List ℕ) → size ≤ length before → Wrote nr floor (operations core) before after →
         Filled nr core (take size after)
     code-filled few right before after e w =
         let c = supposed .passes in
         subst (Filled nr core) (sym (ours-written nr some most core supposed floor power before after e w .0))
         (ours-filled nr some most core
-        (record { whole = c .whole; below = c .below; values = c .values; few = few })
+        (record { whole = c .whole; below = c .below; values = c .values; few = omega (arith, few) })
         (supposed .few) (supposed .apart) (supposed .stamps) floor (floor-most floor power) (c .lookups) right)
 
 -- "The call `verdict` answers 'holds' exactly where there are such fillings and timestamps differ": of what it answers, on
 -- tables of at most 2^35 rows each
 module _ (nr : ℕ) (some : 1 ≤ nr) (most : nr ≤ 24) where
-  pub code-sums : (core round : List ℕ) → rows coreLayout core ≤ MAX-ROWS → rows roundLayout round ≤ MAX-ROWS →
+  pub code-sums : (core round : List ℕ) → rows coreLayout core ≤ 2 ^ 35 → rows roundLayout round ≤ 2 ^ 35 →
       (v : Verdict) → Answered nr core round v →
       (v ≡ Holds (actives coreLayout core)) ↔ (Filled nr core round × DistinctTimestamps coreLayout core)
   code-sums core round few-core few-round v a =
