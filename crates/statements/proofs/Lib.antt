@@ -1,2 +1,3 @@
 pub mod Statements
 pub mod Segments
+pub mod Calls
