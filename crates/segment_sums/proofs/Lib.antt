@@ -4,5 +4,6 @@ pub mod Constants
 pub mod Sent
 pub mod Histogram
 pub mod Pairs
+pub mod Unpaired
 pub mod Segment
 pub mod Calls

@@ -59,13 +59,14 @@ use Rattle.op_file.specs.File.{fileWords}
 use Rattle.message.specs.Message.{judgedRefusal, isMessage, judgedOf, messageList}
 use Rattle.message.specs.declared.Judgement.the-variants as judgement
 use Rattle.message.proofs.Judging.{judge-yes}
+use Rattle.verdict.specs.Kind.{rows}
 use Rattle.verdict.specs.CoreAndRound.{coreKind, roundKind, verdictAt}
 use Rattle.verdict.specs.Honest.{witness, oneCore, oneRound}
 use Rattle.verdict.specs.declared.Verdict.the-variants.{Holds}
 use Rattle.verdict.proofs.Honest.{left-holds}
-use Rattle.bus_sums.specs.Sums.{Fillings, tableShare, Ours, InField, Filled, SumsHold, nobody, MAX-ROWS, MAX-PAIRS, MAX-SENDS}
+use Rattle.bus_sums.specs.Sums.{Fillings, tableShare, isWhLayout, Ours, InField, Filled, SumsHold, nobody, MAX-ROWS, MAX-PAIRS, MAX-SENDS}
 use Rattle.bus_sums.proofs.Others.{with-others, atBound, at-bound, witness-others}
-use Rattle.segment_sums.proofs.Calls.{empty-calls-hold, empty-constants}
+use Rattle.segment_sums.proofs.Calls.{empty-calls-hold, empty-constants, charged-unpaired}
 use Rattle.segment_sums.proofs.Sent.{list-charged-sent, list-found, bytes-sent, halves-sent, alu-sent}
 use Rattle.segment_sums.proofs.Histogram.{neutral-last, neutral-first, Reordered, order-taken, order-free}
 use Rattle.segment_sums.proofs.Pairs.{pair-row, one-row}
@@ -95,6 +96,14 @@ module _ (nr floor : ℕ) (T U : List ℕ) (wrote-core : coreTraceRefusal floor 
   -- and the verdict on both tables is 'holds' with no active core row
   pub empty-segment-holds : verdictAt nr coreLeft roundLeft ≡ Holds 0
   empty-segment-holds = left-holds floor [] T wrote-core (λ k. omega arith) (λ i j l g. absurd (omega (arith, g))) nr U wrote-round (λ i l. absurd (omega (arith, l)))
+
+-- and with no other IS_WH table than one without rows: each of its rows, padding rows too, looks up IsB20 of its MU, which `charge` charges for no
+-- list, so beside counters that it alone charged from zero the sums of that bus agree only where there is none
+pub charge-leaves-no-pairs : (nr floor : ℕ) (shipped : Bool) (ops Z B : List ℕ) → ((c : ℕ) → c < NUM-COUNTERS → word Z c ≡ 0) →
+    fillRefusal (chargeAfter nr floor shipped ops Z) B ≡ accepted → (core round : List ℕ) (constant : ℕ → ℕ) (pairs : List ℕ) →
+    SumsHold nr core round (record { bitwise = λ i k. word (fillAfter (chargeAfter nr floor shipped ops Z) B) (i * 21 + (11 + k)); constants = constant; is-wh = pairs }) nobody →
+    rows isWhLayout pairs ≡ 0
+charge-leaves-no-pairs = charged-unpaired
 
 -- ---- Item 3: "all that its core and round rows send, padding rows included, each on the bitwise row of its operands": none is lost, for every
 -- number of rounds. Of a list that is charged, of words as they are lent, whatever its outputs are: the counter of given values grows by how often

@@ -1635,7 +1635,7 @@ pair-rows-charged = collected-is-sent
 -- ---- an honest segment: of a list of right operations (`RightOperation`, verdict/specs/Honest.antt) whose timestamps differ, the
 -- five tables as the calls leave them pass on every bus, with no word left to choose: core and round table, the IS_WH table of the
 -- list's keys, the constants after `update_multiplicities`, and the bitwise table filled from counters that were zero, charged by
--- `charge` and then by `collect_bitwise_from_is_wh`. Of an empty list there is no IS_WH table, and nothing is said here.
+-- `charge` and then by `collect_bitwise_from_is_wh`. Of an empty list: `empty-segment-passes` (Segments.antt).
 pub segment-passes : (nr floor : ℕ) (ops : List ℕ) → 1 ≤ opCount ops → ((i : ℕ) → i < opCount ops → RightOperation nr (opAt ops i)) →
     ((i j : ℕ) → i < j → j < opCount ops → opAt ops i .timestamp ≡ opAt ops j .timestamp → ⊥) →
     (T U : List ℕ) → coreTraceRefusal floor (length T) ops ≡ accepted → roundTraceRefusal nr floor (length U) ops ≡ accepted →
