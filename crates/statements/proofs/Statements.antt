@@ -1608,7 +1608,7 @@ module _ (s : Side) (b : Bus) where
 module _ (ops out : List ℕ) (wrote-keys : keysRefusal (length out) ops ≡ accepted) where
   -- "One row per distinct `(word, half)` pair, with `μ` counting its sends.": of the keys that are left in `out`, the rows
   -- that `dedup_is_wh_rows` leaves, and their table, each list of values is received on IsWh exactly as often as the
-  -- core table that `generate_keccak_trace` leaves sends it
+  -- core table that `generate_keccak_trace` leaves sends it (which rows there are, in which order: `pairs-counted` .., Segments.antt)
   pub pairs-received : (C S R : List ℕ) (wrote-rows : dedupRefusal (length C) (length S) (length R) (keysOf ops out wrote-keys) ≡ accepted) →
       (T core : List ℕ) → isWhTraceRefusal (length T) (rowsWritten ops out wrote-keys C S R wrote-rows) ≡ accepted →
       (floor : ℕ) → coreTraceRefusal floor (length core) ops ≡ accepted →
@@ -1677,7 +1677,8 @@ without-few = few-needed
 
 -- ---- beyond the demands: the counters of the bitwise lookups
 -- "The histogram is a commutative monoid: increments and [`merge`](Self::merge) are order-independent" (tables/bitwise.rs):
--- of counters that `merge` accepts; the words past the 10,485,760 counters are those of the first slice
+-- of counters that `merge` accepts; the words past the 10,485,760 counters are those of the first slice (its neutral element,
+-- and lists in any order: `merging-zeros`, `lookups-in-any-order`, Segments.antt)
 module _ (a b : List ℕ) (passed : mergeRefusal a b ≡ accepted) where
   pub merging-commutes : Alike 10485760 (mergeAfter a b) (mergeAfter b a)
   merging-commutes = merge-commutes a b passed
