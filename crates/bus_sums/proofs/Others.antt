@@ -97,7 +97,7 @@ module _ (s : Side) (b : Bus) (v : List ℕ) where
         (sum-both 1048576 (λ i. sumBelow 10 (λ k. share s b v (bitwiseAt mu i k))) (λ i. sumBelow 10 (λ k. share s b v (bitwiseAt nu i k))))
 
 -- ---- other tables' lookups
--- "Other tables of a prover may send too": what they send on the buses that are supposed to agree stands in the bitwise table
+-- what they send on the buses that are supposed to agree stands in the bitwise table
 module _ (nr : ℕ) (core round : List ℕ) (f : Filled nr core round) (others : Bus → List ℕ → ℕ) (few : (b : Bus) (v : List ℕ) → others b v ≤ MAX-SENDS)
     (apart : (v : List ℕ) → others Keccak v ≡ 0) (stands : (b : Bus) → Ours b → (v : List ℕ) → 1 ≤ others b v → Placed b v) where
   abbrev old : Fillings

@@ -1,8 +1,10 @@
 -- The same of what the calls leave, for one number of rounds and one floor: for a list of right operations, the tables that the calls
 -- write into lent slices, the bitwise table filled from counters that `charge` and `collect_bitwise_from_is_wh` charged from zero, and
--- the constants after `update_multiplicities`, pass on every bus. So does what the calls leave of no operation, where it is shipped.
+-- the constants after `update_multiplicities`, pass on every bus. So does what the calls leave of no operation, where it is shipped, with no IS_WH
+-- table, and with none but that.
 use mathlib.Core.Bool.{Bool, true}
 use mathlib.Core.List.{List, []}
+use mathlib.Core.Logic.{inr, ⊎-elim}
 use mathlib.Core.Path.{_≡_, refl, sym, ap, subst, _∙_}
 use Prim.Native.Nat.{ℕ, _+_, _-_, _*_, _≤_, _<_}
 use native.Mathlib.Omega.{arith}
@@ -36,10 +38,13 @@ use Rattle.keccak_rnd.specs.Calls.{roundTraceAfter}
 use Rattle.keccak_rnd.proofs.Written as round
 use Rattle.segment_counts.specs.Segment.{listCharged, chargeRefusal, chargeAfter}
 use Rattle.segment_counts.proofs.Accepted.{charge-accepted}
+use Rattle.segment_counts.proofs.Stays.{charge-stays}
 use Rattle.verdict.specs.Honest.{RightOperation}
-use Rattle.bus_sums.specs.Sums.{SumsHold, nobody}
+use Rattle.verdict.specs.Kind.{rows}
+use Rattle.bus_sums.specs.Sums.{isWhLayout, SumsHold, nobody}
 use Rattle.is_wh_sums.proofs.Written.{keysOf, rowsWritten, rows-are}
 use Rattle.segment_sums.proofs.Segment.{segment-holds, empty-holds}
+use Rattle.segment_sums.proofs.Unpaired.{unpaired}
 
 -- the constants of n operations, as they are written
 module _ (nr n : ℕ) (K : List ℕ) (wrote-constants : rcTraceRefusal K ≡ accepted) (set-constants : updateRefusal nr (rcTraceAfter K) n ≡ accepted) where
@@ -172,3 +177,17 @@ module _ (nr floor : ℕ) (T U : List ℕ) (wrote-core : coreTraceRefusal floor 
       filled-word (chargeAfter nr floor true [] Z) B fills i k li lk
       ∙ ap (λ (l : List ℕ). word l (i * 10 + k)) (left (chargedCounters Z (listCharged nr floor true [])) Z charged))
       (λ r l. sym (sym (constant-word nr 0 K wrote-constants set-constants r) ∙ empty-constants r l))))
+
+-- ---- counters that `charge` alone charged from zero, whatever the list: beside them no row of an IS_WH table passes
+module _ (nr floor : ℕ) (shipped : Bool) (ops Z B : List ℕ) (zeros : (c : ℕ) → c < NUM-COUNTERS → word Z c ≡ 0) (fills : fillRefusal (chargeAfter nr floor shipped ops Z) B ≡ accepted) where
+  none-twenty : (i : ℕ) → i < 1048576 → word (fillAfter (chargeAfter nr floor shipped ops Z) B) (i * 21 + (11 + 5)) ≡ 0
+  none-twenty i l =
+      filled-word (chargeAfter nr floor shipped ops Z) B fills i 5 l (omega arith)
+      ∙ charge-stays nr floor shipped ops Z (i * 10 + 5) (inr (⊎-elim (λ e. omega arith) (⊎-elim (λ e. omega arith) (⊎-elim (λ e. omega arith) (λ e. omega arith)))))
+      ∙ zeros (i * 10 + 5) (omega arith)
+
+  pub charged-unpaired : (core round : List ℕ) (constant : ℕ → ℕ) (pairs : List ℕ)
+      → SumsHold nr core round (record { bitwise = λ i k. word (fillAfter (chargeAfter nr floor shipped ops Z) B) (i * 21 + (11 + k)); constants = constant; is-wh = pairs }) nobody
+      → rows isWhLayout pairs ≡ 0
+  charged-unpaired core round constant pairs =
+      unpaired nr core round (record { bitwise = λ i k. word (fillAfter (chargeAfter nr floor shipped ops Z) B) (i * 21 + (11 + k)); constants = constant; is-wh = pairs }) none-twenty

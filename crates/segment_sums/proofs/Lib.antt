@@ -3,5 +3,7 @@ pub mod Counters
 pub mod Constants
 pub mod Sent
 pub mod Histogram
+pub mod Pairs
+pub mod Unpaired
 pub mod Segment
 pub mod Calls

@@ -4,27 +4,34 @@
 --     charged-sent             so the counter of given values grows by how often both tables send them
 --     alu-found .. half-found  and what they send on the three buses is found in the bitwise table
 --     bytes-sent .. alu-sent   so all counters of a bus grow by what both tables' rows send there
+--     list-charged-sent, list-found   the same of a list that is charged
 use mathlib.Core.Bool.{Bool, true, false, _&&_}
 use mathlib.Core.List.{List}
-use mathlib.Core.Path.{_≡_, refl, sym, ap, ap₂, _∙_}
+use mathlib.Core.Path.{_≡_, refl, sym, ap, ap₂, subst, _∙_}
 use Prim.Native.Nat.{ℕ, _+_, _-_, _*_, _%_, _^_, _≤_, _<_}
 use native.Mathlib.Omega.{arith}
 use borrow.Author.Tests.{ne-eqb}
 use lib.Dec.{eqb}
-use Rattle.lists.specs.Tab.{pick}
+use lib.ListN.{length}
+use Rattle.lists.specs.Tab.{pick, word}
 use Rattle.lists.specs.Sum.{sumBelow}
+use Rattle.lists.proofs.Laws.{getD-tab}
 use Rattle.lists.proofs.Sum.{sum-same}
 use Rattle.lists.proofs.Tests.{true-not-false}
 use Rattle.lists.proofs.Then.{T-true, by-le}
+use Rattle.field.specs.Elements.{ElementRow}
+use Rattle.answer.specs.Refusal.{accepted, PowerFloor}
 use Rattle.fips202.specs.Lanes.{Lanes}
 use Rattle.tuple.specs.declared.Bus.{Bus}
 use Rattle.tuple.specs.declared.Bus.the-variants.{ByteAlu, AreBytes, IsHalfword}
 use Rattle.tuple.specs.declared.Side.the-variants.{Sender}
+use Rattle.bitwise.specs.Columns.{NUM-COUNTERS}
 use Rattle.bitwise.specs.Charge.{found, placeCounter, chargedRow, charged, chargedKind}
 use Rattle.bitwise.proofs.Found.{alu-decides, bytes-decides, half-decides}
 use Rattle.matching.specs.Matching.{FoundOn}
 use Rattle.keccak.specs.Height.{height}
-use Rattle.keccak.specs.Row.{LAST-ADDRESS, coreRowAt, coreTable}
+use Rattle.keccak.specs.Row.{OP-WORDS, LAST-ADDRESS, opAt, coreRowAt, coreTable}
+use Rattle.keccak.specs.Refusals.{Acceptable, opCount}
 use Rattle.keccak.specs.Tuples.{coreTuple, coreTableSum}
 use Rattle.keccak.specs.declared.KeccakOperation.{KeccakOperation}
 use Rattle.keccak.proofs.Height.{height-ge}
@@ -34,8 +41,9 @@ use Rattle.keccak_rnd.specs.Row.{roundRowAt, roundTable, roundHeight}
 use Rattle.keccak_rnd.specs.Tuples.{roundTuple, roundTableSum}
 use Rattle.keccak_rnd.proofs.Sums.{roundShare}
 use Rattle.keccak_rnd.proofs.Table as round
-use Rattle.segment_counts.specs.Segment.{sentRows, segmentCharged}
+use Rattle.segment_counts.specs.Segment.{sentRows, segmentCharged, listCharged, chargeRefusal}
 use Rattle.segment_counts.specs.Sums.{kindSum}
+use Rattle.segment_counts.proofs.Accepted.{charge-accepted}
 use Rattle.segment_counts.proofs.Sums.{kind-sums-at}
 use Rattle.verdict.specs.Kind.{rows, Lookups}
 use Rattle.verdict.specs.CoreAndRound.{coreLayout, roundLayout, coreKind, roundKind}
@@ -170,3 +178,30 @@ module _ (nr floor : ℕ) (shipped : Bool) (syscall n : ℕ) (op : ℕ → Kecca
   pub alu-sent : sum 7 + sum 8 + sum 9 ≡ rowsSend ByteAlu
   unfolding kindSum
   alu-sent = by-alu n (n * nr) (roundHeight nr floor n) (by-kind 7 (omega arith)) (by-kind 8 (omega arith)) (by-kind 9 (omega arith)) ∙ by-shares ByteAlu
+
+-- ---- of a list that is charged, of words as they are lent
+module _ (nr floor : ℕ) (ops counters : List ℕ) (taken : chargeRefusal nr floor ops counters ≡ accepted) (lent : (k : ℕ) → word ops k < 2 ^ 64) where
+  known : (1 ≤ nr) × (nr ≤ 24) × PowerFloor floor × Acceptable (length counters) NUM-COUNTERS ops × ElementRow NUM-COUNTERS counters
+  known = charge-accepted nr floor ops counters .0 taken
+
+  list-stamps : (i : ℕ) → i < opCount ops → opAt ops i .timestamp < 2 ^ 64
+  unfolding opAt
+  list-stamps i l = lent (OP-WORDS * i)
+
+  list-lanes : (i : ℕ) → i < opCount ops → Lanes (opAt ops i .input)
+  unfolding opAt
+  list-lanes i l j h = subst (λ (w : ℕ). w < 2 ^ 64) (sym (getD-tab 25 (λ k. word ops (OP-WORDS * i + 2 + k)) j 0 h)) (lent (OP-WORDS * i + 2 + j))
+
+  -- how often both tables, as they are written, send v on b
+  abbrev pub listSent : Bus → List ℕ → ℕ
+  listSent b v = tableShare Sender b v (coreKind nr) (coreTable floor (opCount ops) (opAt ops)) + tableShare Sender b v roundKind (roundTable nr floor (opCount ops) (opAt ops))
+
+  pub list-charged-sent : (shipped : Bool) → (opCount ops ≡ 0 → shipped ≡ true) → (b : Bus) (v : List ℕ) → found b v ≡ true → listCharged nr floor shipped ops (placeCounter b v) ≡ listSent b v
+  list-charged-sent = charged-sent nr floor (opCount ops) (opAt ops) (known .1) list-stamps (known .3 .low) (known .3 .aligned) list-lanes
+
+  pub list-found : (v : List ℕ) → (1 ≤ listSent ByteAlu v → found ByteAlu v ≡ true) × (1 ≤ listSent AreBytes v → found AreBytes v ≡ true) × (1 ≤ listSent IsHalfword v → found IsHalfword v ≡ true)
+  list-found v = (
+    alu-found nr floor (opCount ops) (opAt ops) (known .1) list-stamps (known .3 .low) (known .3 .aligned) list-lanes v,
+    bytes-found nr floor (opCount ops) (opAt ops) (known .1) list-stamps (known .3 .low) (known .3 .aligned) list-lanes v,
+    half-found nr floor (opCount ops) (opAt ops) (known .1) list-stamps (known .3 .low) (known .3 .aligned) list-lanes v,
+  )

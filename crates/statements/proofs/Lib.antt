@@ -3,3 +3,5 @@ pub mod Jobs
 pub mod Files
 pub mod Messages
 pub mod Lines
+pub mod Segments
+pub mod Calls

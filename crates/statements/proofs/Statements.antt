@@ -100,7 +100,7 @@ use Rattle.verdict.proofs.Honest.{written-passes, written-supposed, written-hol
 use Rattle.verdict.proofs.Instances.{exchanged-named, late-unbalanced}
 use Rattle.verdict.proofs.Late.{late-row}
 use Rattle.bus_sums.specs.Buses.{coreLine, roundLine, isWhLine, bitwiseLine, constantLine}
-use Rattle.bus_sums.specs.Sums.{Fillings, bitwiseAt, constantAt, Constrained, SumsHold, Filled, MAX-ROWS}
+use Rattle.bus_sums.specs.Sums.{Fillings, bitwiseAt, constantAt, Constrained, SumsHold, Filled}
 use Rattle.bus_sums.specs.Sums.{tableShare, isWhKind}
 use Rattle.bus_sums.proofs.Buses.{core-line, round-line, is-wh-line, bitwise-line, constant-line}
 use Rattle.bus_sums.proofs.Receipt.{sums-core, sums-answer, sums-verdict, sums-computed, sums-claims, sums-exactly}
@@ -1086,7 +1086,8 @@ module _ (a b : List ℕ) (but : ButSegments a b) where
   pub charges-free : (nr floor : ℕ) (shipped : Bool) → listCharged nr floor shipped a ≡ listCharged nr floor shipped b
   charges-free nr floor = charge-free.charged-free a b but nr floor
 
-  -- .. and where no segment word is refused, every call refuses both lists alike and leaves the same
+  -- .. and where no segment word is refused, the calls that write rows, tables and keys, and the charge and its look, leave the same of both. That
+  -- they refuse both alike, the same of the charge and the look through a register, and which two calls do depend on segment numbers: Segments.antt
   module _ (short-a : ShortSegments a) (short-b : ShortSegments b) where
     pub core-calls-free : (floor index : ℕ) (out : List ℕ) →
         (coreRowAfter a index out ≡ coreRowAfter b index out) × (coreRowsAfter a out ≡ coreRowsAfter b out)
@@ -1110,10 +1111,6 @@ module _ (a b : List ℕ) (but : ButSegments a b) where
     charge-calls-free nr floor shipped counters copy out =
         let look = charge-free.look-call-free a b but nr floor short-a short-b shipped counters copy out in
         (charge-free.charge-call-free a b but nr floor short-a short-b shipped counters .1, look .1, look .2)
-
-    -- what they refuse, of the room that n operations need
-    pub refusals-free : (room : ℕ) (needed : ℕ → ℕ) → operationsRefusal room (needed (opCount a)) a ≡ operationsRefusal room (needed (opCount b)) b
-    refusals-free = core-free.refusal-free a b but short-a short-b
 
 -- "Refused: 11, a segment word of 2^32 or more in a list, detail the first such word": where nothing earlier refuses and operation i is the
 -- first with such a word; accepted exactly where there is none, `none-refused` above
@@ -1527,8 +1524,8 @@ module _ (nr : ℕ) (some : 1 ≤ nr) (most : nr ≤ 24) where
       pub sums-all : actives coreLayout core ≤ MAX-OPS → EachActive ShortTimestamp core → (floor : ℕ) → ClaimsAt nr floor core
       sums-all = sums-claims nr core round w others h apart some most
 
-  -- Where both tables pass and balance there are fillings, all words below p, for which every sum agrees.
-  pub sums-made : (core round : List ℕ) → rows coreLayout core ≤ MAX-ROWS → rows roundLayout round ≤ MAX-ROWS →
+  -- "Where both tables pass and balance there are fillings, all words below p, for which every sum agrees."
+  pub sums-made : (core round : List ℕ) → rows coreLayout core ≤ 2 ^ 35 → rows roundLayout round ≤ 2 ^ 35 →
       Filled nr core round ↔ (Passes (coreKind nr) core × Answers nr core round)
   sums-made = sums-exactly nr
 
@@ -1560,7 +1557,7 @@ module _ (s : Side) (b : Bus) where
 module _ (ops out : List ℕ) (wrote-keys : keysRefusal (length out) ops ≡ accepted) where
   -- 'One row per distinct `(word, half)` pair, with `μ` counting its sends.' (the Rust's is_wh.rs): of the keys that are left in `out`, the rows
   -- that `dedup_is_wh_rows` leaves, and their table, each list of values is received on IsWh exactly as often as the
-  -- core table that `generate_keccak_trace` leaves sends it
+  -- core table that `generate_keccak_trace` leaves sends it (which rows there are, in which order: `pairs-counted` .., Segments.antt)
   pub pairs-received : (C S R : List ℕ) (wrote-rows : dedupRefusal (length C) (length S) (length R) (keysOf ops out wrote-keys) ≡ accepted) →
       (T core : List ℕ) → isWhTraceRefusal (length T) (rowsWritten ops out wrote-keys C S R wrote-rows) ≡ accepted →
       (floor : ℕ) → coreTraceRefusal floor (length core) ops ≡ accepted →
@@ -1587,7 +1584,7 @@ pair-rows-charged = collected-is-sent
 -- ---- an honest segment: of a list of right operations (`RightOperation`, verdict/specs/Honest.antt) whose timestamps differ, the
 -- five tables as the calls leave them pass on every bus, with no word left to choose: core and round table, the IS_WH table of the
 -- list's keys, the constants after `update_multiplicities`, and the bitwise table filled from counters that were zero, charged by
--- `charge` and then by `collect_bitwise_from_is_wh`. Of an empty list there is no IS_WH table, and nothing is said here.
+-- `charge` and then by `collect_bitwise_from_is_wh`. Of an empty list: `empty-segment-passes` (Segments.antt).
 pub segment-passes : (nr floor : ℕ) (ops : List ℕ) → 1 ≤ opCount ops → ((i : ℕ) → i < opCount ops → RightOperation nr (opAt ops i)) →
     ((i j : ℕ) → i < j → j < opCount ops → opAt ops i .timestamp ≡ opAt ops j .timestamp → ⊥) →
     (T U : List ℕ) → coreTraceRefusal floor (length T) ops ≡ accepted → roundTraceRefusal nr floor (length U) ops ≡ accepted →
@@ -1628,8 +1625,9 @@ pub without-few : Slips manyRows × Values (coreKind 24) manyRows
 without-few = few-needed
 
 -- ---- beyond the demands: the counters of the bitwise lookups
--- 'The histogram is a commutative monoid: increments and [`merge`](Self::merge) are order-independent' (the Rust's bitwise.rs):
--- of counters that `merge` accepts; the words past the 10,485,760 counters are those of the first slice
+-- "The histogram is a commutative monoid: increments and [`merge`](Self::merge) are order-independent" (tables/bitwise.rs):
+-- of counters that `merge` accepts; the words past the 10,485,760 counters are those of the first slice (its neutral element,
+-- and lists in any order: `merging-zeros`, `lookups-in-any-order`, Segments.antt)
 module _ (a b : List ℕ) (passed : mergeRefusal a b ≡ accepted) where
   pub merging-commutes : Alike 10485760 (mergeAfter a b) (mergeAfter b a)
   merging-commutes = merge-commutes a b passed
@@ -1683,21 +1681,21 @@ module _ (nr : ℕ) (some : 1 ≤ nr) (most : nr ≤ 24) (core : List ℕ) (supp
         Answers nr core (take size after) × (v ≡ Holds (actives coreLayout core))
     code-answers = written-answers nr some most core supposed floor power
 
-    -- The round table that the writer makes has fillings too.
-    pub code-filled : rows coreLayout core ≤ MAX-ROWS → EachActive (Computed nr) core →
+    -- "The round table that the writer makes has fillings too."
+    pub code-filled : rows coreLayout core ≤ 2 ^ 35 → EachActive (Computed nr) core →
         (before after : List ℕ) → size ≤ length before → Wrote nr floor (operations core) before after →
         Filled nr core (take size after)
     code-filled few right before after e w =
         let c = supposed .passes in
         subst (Filled nr core) (sym (ours-written nr some most core supposed floor power before after e w .0))
         (ours-filled nr some most core
-        (record { whole = c .whole; below = c .below; values = c .values; few = few })
+        (record { whole = c .whole; below = c .below; values = c .values; few = omega (arith, few) })
         (supposed .few) (supposed .apart) (supposed .stamps) floor (floor-most floor power) (c .lookups) right)
 
 -- The call `verdict` answers 'holds' exactly where there are such fillings and timestamps differ: of what it answers, on
 -- tables of at most 2^35 rows each
 module _ (nr : ℕ) (some : 1 ≤ nr) (most : nr ≤ 24) where
-  pub code-sums : (core round : List ℕ) → rows coreLayout core ≤ MAX-ROWS → rows roundLayout round ≤ MAX-ROWS →
+  pub code-sums : (core round : List ℕ) → rows coreLayout core ≤ 2 ^ 35 → rows roundLayout round ≤ 2 ^ 35 →
       (v : Verdict) → Answered nr core round v →
       (v ≡ Holds (actives coreLayout core)) ↔ (Filled nr core round × DistinctTimestamps coreLayout core)
   code-sums core round few-core few-round v a =
