@@ -23,7 +23,9 @@ use crate::refused::on_slice;
 use crate::scratch::Scratch;
 use crate::tally::read;
 use crate::untouched::Untouched;
-use crate::{charge, jobs, lines, looked_up, message, month, registers, rounds, rows, same, tuples, values, verdicts};
+use crate::{
+    charge, jobs, kept, lines, looked_up, message, month, registers, rounds, rows, same, tuples, values, verdicts,
+};
 
 /// The numbers with which each call is tried, 0 being that it does its work. What only a file of 37 GB can cause is in
 /// `limit.rs`: 1 in `tally_feed`, `tally_finish`, `read_operations` and `same_operations`. No file is refused by 7. The bindings' lookups have no kind past the
@@ -155,6 +157,7 @@ pub fn compare(comparison: &mut Comparison, seed: u64, n: usize) {
     files(comparison, &mut words);
     comparison.group("refusals: verdicts on tables of every length about a row's, and with words about p");
     verdicts_refused(comparison, &mut words);
+    kept::compare(comparison, &mut words);
     comparison.group("refusals: what was tried, call by call");
     matrix(comparison);
 }
@@ -486,13 +489,7 @@ fn one_verdict(comparison: &mut Comparison, words: &mut Words, core: &[u64], rou
     comparison.answered("verdict_line_within", input, whole, refused);
     let whole = verdict_line_alone_with(with, core_lent, round_lent, &mut [0; LINE_MOST]);
     comparison.answered("verdict_line", input, whole, refused);
-    in_each_scratch(
-        comparison,
-        words,
-        (with, [core_lent, round_lent]),
-        refused,
-        &input,
-    );
+    in_each_scratch(comparison, words, (with, [core_lent, round_lent]), refused, &input);
     for table in lent {
         table.kept(comparison, |_| input());
     }
