@@ -31,7 +31,7 @@ use Rattle.keccak_tables.proofs.MessageCalls.{MessageCalls, message-calls}
 use Rattle.keccak_tables.proofs.MonthCalls.{MonthCalls, month-calls}
 
 -- "Memory lent to a call (row, tuple, counters, table) holds afterwards exactly what an accepted call writes, with words past that
--- untouched; after a refusal it holds its old words. This covers every input": what each of the 62 exports tells of its answer and of
+-- untouched; after a refusal it holds its old words. This covers every input": what each export tells of its answer and of
 -- that memory
 pub record Exports : Type 0 where
   pub core : CoreCalls
