@@ -1,7 +1,7 @@
--- The flat structs of written-out answers. In each every word is another number, so two that are exchanged, in definition and
--- code alike, are noticed here.
+-- The flat structs of written-out answers. Words that may be mistaken for one another are different numbers, so two that are
+-- exchanged, in definition and code alike, are noticed here.
 use mathlib.Core.Path.{_≡_, refl}
-use Rattle.answer.specs.declared.Refusal.the-variants.{PastEnd, TooShort, NotElement, BadRecord, Rounds, Floor}
+use Rattle.answer.specs.declared.Refusal.the-variants.{NotWhole, TooShort, NotElement, BadRecord, Rounds, Floor}
 use Rattle.answer.specs.declared.Answer.the-variants as answer
 use Rattle.answer.specs.declared.Number.the-variants as number
 use Rattle.tuple.specs.declared.Bus.the-variants.{IsHalfword}
@@ -21,14 +21,14 @@ use Rattle.flat.specs.FlatReader.{flatCursor, flatTally}
 pub record FlatCases : Type 0 where
   -- a call that only writes
   pub done : flatAnswer answer.Done ≡ record { number = 0; detail = 0 }
-  pub refused : flatAnswer (answer.Refused (TooShort 486)) ≡ record { number = 3; detail = 486 }
+  pub refused : flatAnswer (answer.Refused (NotWhole 1)) ≡ record { number = 2; detail = 1 }
   -- a number; none where the call is refused
   pub a-number : flatNumber (number.Is 7) ≡ record { number = 0; detail = 0; value = 7 }
   pub no-number : flatNumber (number.Refused (Rounds 25)) ≡ record { number = 8; detail = 25; value = 0 }
   -- a tuple of 4 values, received 9 times
   pub a-tuple : flatTuple (tuple.Is (record { bus = IsHalfword; side = Receiver; length = 4; multiplicity = 9 }))
       ≡ record { number = 0; detail = 0; bus = 2; side = 1; length = 4; multiplicity = 9 }
-  pub no-tuple : flatTuple (tuple.Refused (PastEnd 1031)) ≡ record { number = 1; detail = 1031; bus = 0; side = 0; length = 0; multiplicity = 0 }
+  pub no-tuple : flatTuple (tuple.Refused (TooShort 203)) ≡ record { number = 3; detail = 203; bus = 0; side = 0; length = 0; multiplicity = 0 }
   -- the key of 5 · 2^32 + 6 · 2^16 + 7
   pub a-key : flatKey (of-dword 21475229703) ≡ record { word = 5; half = 6 }
   -- a lookup of three bytes; none where its kind is past the last

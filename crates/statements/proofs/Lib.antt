@@ -5,3 +5,4 @@ pub mod Messages
 pub mod Lines
 pub mod Segments
 pub mod Calls
+pub mod Exports
