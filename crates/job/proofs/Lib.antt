@@ -7,5 +7,6 @@ pub mod Turns
 pub mod Whole
 pub mod Together
 pub mod Misfiled
+pub mod Filed
 pub mod Tied
 pub mod TiedWithin
