@@ -8,5 +8,6 @@ pub mod Whole
 pub mod Together
 pub mod Misfiled
 pub mod Filed
+pub mod Shared
 pub mod Tied
 pub mod TiedWithin

@@ -191,11 +191,11 @@ both-checked =
     record { core-whole = s .0 .whole; round-whole = s .2 .whole; core-below = s .0 .below; round-below = s .2 .below }
 
 module _ (o : KeccakOperation) where
-  one-core : (rows coreLayout (oneCore o) ≡ 4) × (length (oneCore o) % 486 ≡ 0)
+  pub one-core : (rows coreLayout (oneCore o) ≡ 4) × (length (oneCore o) % 486 ≡ 0)
   unfolding coreTable height next-power-of-two doubled
   one-core = (table-rows coreLayout (omega arith) 4 (coreRowAt 1 (λ i. o)), table-whole coreLayout (omega arith) 4 (coreRowAt 1 (λ i. o)))
 
-  one-round : (rows roundLayout (oneRound o) ≡ 32) × (length (oneRound o) % 1480 ≡ 0)
+  pub one-round : (rows roundLayout (oneRound o) ≡ 32) × (length (oneRound o) % 1480 ≡ 0)
   unfolding roundTable
   one-round = (
     table-rows roundLayout (omega arith) (roundHeight 24 4 1) (roundRowAt 24 1 (λ i. o)) ∙ heights .1,
@@ -277,15 +277,15 @@ rightCounts = 4 ∷ 32 ∷ 4 ∷ 32 ∷ []
 
 -- two tables one after the other, of k and of h rows
 module _ (A : Layout) (a b : List ℕ) (k h : ℕ) (first : length a ≡ k * A .width) (second : length b ≡ h * A .width) where
-  first-part : rowsFrom A (a ++ b) 0 k ≡ a
+  pub first-part : rowsFrom A (a ++ b) 0 k ≡ a
   unfolding rowsFrom
   first-part = ap (λ (n : ℕ). take (k * A .width) (drop n (a ++ b))) (zero-mul (A .width)) ∙ take-at a b (k * A .width) first
 
-  second-part : rowsFrom A (a ++ b) k h ≡ b
+  pub second-part : rowsFrom A (a ++ b) k h ≡ b
   unfolding rowsFrom
   second-part = ap (take (h * A .width)) (drop-at a b (k * A .width) first) ∙ take-all (h * A .width) b (omega (arith, second))
 
-one-lengths : (o : KeccakOperation) → (length (oneCore o) ≡ 1944) × (length (oneRound o) ≡ 47360)
+pub one-lengths : (o : KeccakOperation) → (length (oneCore o) ≡ 1944) × (length (oneRound o) ≡ 47360)
 unfolding height next-power-of-two doubled
 one-lengths o = (length-core-table 1 (λ i. o) 4, length-round-table 24 1 (λ i. o) 4)
 

@@ -6,7 +6,7 @@ use mathlib.Core.List.{List, [], _∷_, _++_}
 use mathlib.Core.Logic.{_↔_}
 use mathlib.Core.Option.{some}
 use Prim.Native.Nat.{ℕ, _+_, _*_, _≤_, _<_}
-use lib.ListN.{length}
+use native.Mathlib.Omega.{arith}
 use Rattle.lists.specs.Tab.{word, rowAt}
 use Rattle.answer.specs.Refusal.{accepted, refusalNumber, refusalDetail}
 use Rattle.answer.specs.declared.Refusal.{Refusal}
@@ -15,13 +15,14 @@ use Rattle.verdict.specs.Kind.{row, Active, SameTimestamp, Whole}
 use Rattle.verdict.specs.CoreAndRound.{coreLayout, roundLayout, verdictAt}
 use Rattle.verdict.specs.Failures.{NoRounds}
 use Rattle.verdict.specs.Honest.{witness, lastWitness, oneCore, oneRound}
-use Rattle.verdict.specs.declared.Verdict.the-variants.{Holds}
+use Rattle.verdict.specs.declared.Verdict.the-variants.{Holds, Repeated}
 use Rattle.judge.specs.Checks.{notWords}
 use Rattle.job.specs.Report.{segmentCount, jobSegment, verdictOn, Split, AcceptableJob, notJob, jobRefusal}
 use Rattle.job.specs.Within.{jobWithinRefusal}
 use Rattle.job.proofs.Refusals as refusals
 use Rattle.job.proofs.Within as within
 use Rattle.job.proofs.Misfiled.{IsUnbalanced, both-hold, both-accepted, two-filed, two-right}
+use Rattle.job.proofs.Shared.{twice-hold, twice-named}
 use Rattle.job.proofs.Tied.{Reported, reported-stranger, reported-misfiled, reported-filed, reported-two}
 use Rattle.statements.proofs.Statements.{rounds-first}
 
@@ -117,3 +118,11 @@ case-misfiled-taken = both-accepted
 pub case-misfiled-reported : {before after : List ℕ} → Reported 24 cores rounds filed before after →
     (word after 0 ≡ 6) × (word after 4 ≡ 6) × (rowAt 4 after 2 ≡ 0 ∷ 2 ∷ 0 ∷ 0 ∷ [])
 case-misfiled-reported = reported-two
+
+-- "and no timestamp is active in two segments": that is needed. Of one written segment twice both hold, and the job's verdict names core row 4,
+-- which repeats the timestamp of row 0
+pub case-shared :
+    (verdictOn 24 (oneCore witness ++ oneCore witness) (oneRound witness ++ oneRound witness) right 0 ≡ Holds 1)
+    × (verdictOn 24 (oneCore witness ++ oneCore witness) (oneRound witness ++ oneRound witness) right 1 ≡ Holds 1)
+    × (verdictAt 24 (oneCore witness ++ oneCore witness) (oneRound witness ++ oneRound witness) ≡ Repeated 4)
+case-shared = (twice-hold 0 (omega arith), twice-hold 1 (omega arith), twice-named)
