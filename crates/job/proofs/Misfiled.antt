@@ -7,7 +7,7 @@
 --     misfiled-fails    so a round row that was filed with another segment than its core row makes both fail
 --     two-filed, two-right   two written segments, the second one's first round row filed with the first: the job holds and both segments fail,
 --                       which hold where it is filed with the second
-use mathlib.Core.Path.{_≡_, refl, sym, ap, ap₂, subst, _∙_}
+use mathlib.Core.Path.{_≡_, refl, sym, ap, _∙_}
 use mathlib.Core.Bool.{Bool, true, _&&_}
 use mathlib.Core.Logic.{_⊎_, inl, inr}
 use mathlib.Core.List.{List, [], _∷_, _++_, append-nil}
@@ -30,13 +30,13 @@ use Rattle.keccak.specs.Row.{coreRowAt, coreTable}
 use Rattle.keccak.specs.declared.KeccakOperation.{KeccakOperation}
 use Rattle.keccak.proofs.Table.{length-core-table}
 use Rattle.keccak_rnd.specs.Columns as round
-use Rattle.keccak_rnd.specs.Row.{roundRow, roundPad, opRow, roundRowAt, roundHeight, roundTable}
+use Rattle.keccak_rnd.specs.Row.{roundPad, opRow, roundRowAt, roundHeight, roundTable}
 use Rattle.keccak_rnd.proofs.Cases.{heights}
 use Rattle.keccak_rnd.proofs.Cells as cells
 use Rattle.keccak_rnd.proofs.Table.{round-row-at, round-table-row, length-round-table}
-use Rattle.verdict.specs.Kind.{Layout, rows, row, isActive, Active, SameTimestamp, sameStamp, stampedAt, stamped, Passes}
-use Rattle.verdict.specs.CoreAndRound.{coreLayout, roundLayout, coreKind, roundKind, verdictAt, verdictOf}
-use Rattle.verdict.specs.Honest.{witness, lastWitness, oneCore, oneRound, twoSegments}
+use Rattle.verdict.specs.Kind.{Layout, rows, row, isActive, Active, SameTimestamp, sameStamp, stampedAt, stamped}
+use Rattle.verdict.specs.CoreAndRound.{coreLayout, roundLayout, coreKind, roundKind, verdictAt}
+use Rattle.verdict.specs.Honest.{witness, lastWitness, oneCore, oneRound}
 use Rattle.verdict.specs.Job.{Separate, jobCore, jobRound}
 use Rattle.verdict.specs.declared.Verdict.{Verdict}
 use Rattle.verdict.specs.declared.Verdict.the-variants.{Holds, Unbalanced}
@@ -50,7 +50,7 @@ use Rattle.verdict.proofs.Judge.{is-active}
 use Rattle.verdict.proofs.Rounds.{coreOf, roundOf, write, turn, facts}
 use Rattle.verdict.proofs.Tables.{table-rows, table-whole}
 use Rattle.verdict.proofs.TwoTables.{total, only}
-use Rattle.job.specs.Report.{segmentCount, coreRows, roundRows, rowCount, rowsFrom, partAt, jobSegment, verdictOn, Split, Checked, AcceptableJob}
+use Rattle.job.specs.Report.{segmentCount, coreRows, roundRows, rowCount, rowsFrom, jobSegment, verdictOn, Split, Checked, AcceptableJob}
 use Rattle.job.proofs.Sums.{sum-next, sum-rises}
 use Rattle.job.proofs.Parts.{part-rows}
 use Rattle.job.proofs.Together.{held-apart, held-balance}

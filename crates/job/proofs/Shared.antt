@@ -1,22 +1,21 @@
 -- A timestamp that is active in two segments: of one written segment twice both hold, and the job's verdict names core row 4, the second
 -- segment's first.
 use mathlib.Core.Path.{_≡_, refl, sym, ap, _∙_}
-use mathlib.Core.List.{List, [], _∷_, _++_}
-use Prim.Native.Nat.{ℕ, zero, suc, _+_, _*_, _%_, _≤_, _<_}
+use mathlib.Core.List.{List, _++_}
+use Prim.Native.Nat.{ℕ, zero, suc}
 use native.Mathlib.Omega.{arith}
-use lib.ListN.{length}
 use Rattle.lists.specs.Tab.{word}
 use Rattle.lists.specs.Sum.{sumBelow}
 use Rattle.lists.proofs.Then.{by-le}
 use Rattle.keccak.specs.Columns.{TIMESTAMP-0, TIMESTAMP-1, MU}
-use Rattle.verdict.specs.Kind.{rows, row, Active, Passes}
+use Rattle.verdict.specs.Kind.{rows, row, Active}
 use Rattle.verdict.specs.CoreAndRound.{coreLayout, roundLayout, coreKind, roundKind, verdictAt}
 use Rattle.verdict.specs.Honest.{witness, oneCore, oneRound}
 use Rattle.verdict.specs.declared.Verdict.the-variants.{Holds, Repeated}
 use Rattle.verdict.proofs.Failures.{verdict-says}
 use Rattle.verdict.proofs.Honest.{made-active, active-made, witness-right, one-holds}
 use Rattle.verdict.proofs.Job.{join-rows, join-left, join-passes}
-use Rattle.job.specs.Report.{rowCount, coreRows, jobSegment, verdictOn, Split, Checked, SegmentsHold}
+use Rattle.job.specs.Report.{rowCount, jobSegment, verdictOn, Split, Checked, SegmentsHold}
 use Rattle.job.proofs.Together.{shared-named}
 use Rattle.job.proofs.Misfiled.{rightCounts, first-part, second-part, one-core, one-round, one-lengths}
 

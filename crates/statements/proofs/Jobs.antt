@@ -1,7 +1,7 @@
 -- More statements of Item 10, segments, then the job (job/specs/Report.antt; Statements.antt has the others): what a job is refused for, and a
 -- round row that was filed with the wrong segment. `Reported` (job/proofs/Tied.antt) is a call of `job` that was not refused, and what its
 -- slice holds when it ends.
-use mathlib.Core.Path.{_≡_, refl, sym, _∙_}
+use mathlib.Core.Path.{_≡_, refl, sym}
 use mathlib.Core.List.{List, [], _∷_, _++_}
 use mathlib.Core.Logic.{_↔_}
 use mathlib.Core.Option.{some}
