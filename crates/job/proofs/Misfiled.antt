@@ -5,15 +5,18 @@
 --                       an unbalanced tuple
 --     missing-fails     so it does where not nr of its active round rows have the timestamp of an active core row of it
 --     misfiled-fails    so a round row that was filed with another segment than its core row makes both fail
---     two-filed         two written segments, the second one's first round row filed with the first: the job holds and both segments fail
-use mathlib.Core.Path.{_≡_, refl, sym, ap, ap₂, subst, _∙_}
+--     two-filed, two-right   two written segments, the second one's first round row filed with the first: the job holds and both segments fail,
+--                       which hold where it is filed with the second
+use mathlib.Core.Path.{_≡_, refl, sym, ap, _∙_}
 use mathlib.Core.Bool.{Bool, true, _&&_}
 use mathlib.Core.Logic.{_⊎_, inl, inr}
 use mathlib.Core.List.{List, [], _∷_, _++_, append-nil}
 use Prim.Native.Nat.{ℕ, _+_, _-_, _*_, _%_, _≤_, _<_}
+use native.Mathlib.Nat.{zero-mul}
 use native.Mathlib.Omega.{arith}
 use borrow.Author.Tests.{eq-eqb}
-use lib.ListN.{length}
+use lib.ListN.{length, take, drop}
+use lib.Seq.{take-at, drop-at, take-all}
 use Rattle.lists.specs.Tab.{word}
 use Rattle.lists.specs.First.{countBelow}
 use Rattle.lists.specs.Sum.{sumBelow}
@@ -25,28 +28,29 @@ use Rattle.keccak.specs.Columns.{TIMESTAMP-0, TIMESTAMP-1}
 use Rattle.keccak.specs.Height.{height, next-power-of-two, doubled}
 use Rattle.keccak.specs.Row.{coreRowAt, coreTable}
 use Rattle.keccak.specs.declared.KeccakOperation.{KeccakOperation}
+use Rattle.keccak.proofs.Table.{length-core-table}
 use Rattle.keccak_rnd.specs.Columns as round
-use Rattle.keccak_rnd.specs.Row.{roundRow, roundPad, opRow, roundRowAt, roundHeight, roundTable}
+use Rattle.keccak_rnd.specs.Row.{roundPad, opRow, roundRowAt, roundHeight, roundTable}
 use Rattle.keccak_rnd.proofs.Cases.{heights}
 use Rattle.keccak_rnd.proofs.Cells as cells
-use Rattle.keccak_rnd.proofs.Table.{round-row-at, round-table-row}
-use Rattle.verdict.specs.Kind.{rows, row, isActive, Active, SameTimestamp, sameStamp, stampedAt, stamped, Passes}
-use Rattle.verdict.specs.CoreAndRound.{coreLayout, roundLayout, coreKind, roundKind, verdictAt, verdictOf}
-use Rattle.verdict.specs.Honest.{witness, lastWitness, oneCore, oneRound, twoSegments}
+use Rattle.keccak_rnd.proofs.Table.{round-row-at, round-table-row, length-round-table}
+use Rattle.verdict.specs.Kind.{Layout, rows, row, isActive, Active, SameTimestamp, sameStamp, stampedAt, stamped}
+use Rattle.verdict.specs.CoreAndRound.{coreLayout, roundLayout, coreKind, roundKind, verdictAt}
+use Rattle.verdict.specs.Honest.{witness, lastWitness, oneCore, oneRound}
 use Rattle.verdict.specs.Job.{Separate, jobCore, jobRound}
 use Rattle.verdict.specs.declared.Verdict.{Verdict}
 use Rattle.verdict.specs.declared.Verdict.the-variants.{Holds, Unbalanced}
 use Rattle.verdict.specs.declared.Table.the-variants.{Core, Round}
 use Rattle.verdict.proofs.Bytes.{Bytes200}
 use Rattle.verdict.proofs.Failures.{verdict-says}
-use Rattle.verdict.proofs.Honest.{made-active, made-t0, made-t1}
+use Rattle.verdict.proofs.Honest.{made-active, made-t0, made-t1, witness-right, last-right, one-holds}
 use Rattle.verdict.proofs.Instances.{segments-hold}
 use Rattle.verdict.proofs.Job.{join-rows, join-right}
 use Rattle.verdict.proofs.Judge.{is-active}
 use Rattle.verdict.proofs.Rounds.{coreOf, roundOf, write, turn, facts}
 use Rattle.verdict.proofs.Tables.{table-rows, table-whole}
 use Rattle.verdict.proofs.TwoTables.{total, only}
-use Rattle.job.specs.Report.{segmentCount, coreRows, roundRows, rowCount, partAt, jobSegment, verdictOn, Split, Checked, AcceptableJob}
+use Rattle.job.specs.Report.{segmentCount, coreRows, roundRows, rowCount, rowsFrom, jobSegment, verdictOn, Split, Checked, AcceptableJob}
 use Rattle.job.proofs.Sums.{sum-next, sum-rises}
 use Rattle.job.proofs.Parts.{part-rows}
 use Rattle.job.proofs.Together.{held-apart, held-balance}
@@ -187,11 +191,11 @@ both-checked =
     record { core-whole = s .0 .whole; round-whole = s .2 .whole; core-below = s .0 .below; round-below = s .2 .below }
 
 module _ (o : KeccakOperation) where
-  one-core : (rows coreLayout (oneCore o) ≡ 4) × (length (oneCore o) % 486 ≡ 0)
+  pub one-core : (rows coreLayout (oneCore o) ≡ 4) × (length (oneCore o) % 486 ≡ 0)
   unfolding coreTable height next-power-of-two doubled
   one-core = (table-rows coreLayout (omega arith) 4 (coreRowAt 1 (λ i. o)), table-whole coreLayout (omega arith) 4 (coreRowAt 1 (λ i. o)))
 
-  one-round : (rows roundLayout (oneRound o) ≡ 32) × (length (oneRound o) % 1480 ≡ 0)
+  pub one-round : (rows roundLayout (oneRound o) ≡ 32) × (length (oneRound o) % 1480 ≡ 0)
   unfolding roundTable
   one-round = (
     table-rows roundLayout (omega arith) (roundHeight 24 4 1) (roundRowAt 24 1 (λ i. o)) ∙ heights .1,
@@ -266,3 +270,32 @@ two-filed =
       at _ ∙ first-read lastWitness .1 ∙ sym (own _ ∙ made-t0 4 1 (λ i. lastWitness) 0 (omega arith)),
       at _ ∙ first-read lastWitness .2 ∙ sym (own _ ∙ made-t1 4 1 (λ i. lastWitness) 0 (omega arith)),
     )
+
+-- ---- the same tables, filed right
+abbrev pub rightCounts : List ℕ
+rightCounts = 4 ∷ 32 ∷ 4 ∷ 32 ∷ []
+
+-- two tables one after the other, of k and of h rows
+module _ (A : Layout) (a b : List ℕ) (k h : ℕ) (first : length a ≡ k * A .width) (second : length b ≡ h * A .width) where
+  pub first-part : rowsFrom A (a ++ b) 0 k ≡ a
+  unfolding rowsFrom
+  first-part = ap (λ (n : ℕ). take (k * A .width) (drop n (a ++ b))) (zero-mul (A .width)) ∙ take-at a b (k * A .width) first
+
+  pub second-part : rowsFrom A (a ++ b) k h ≡ b
+  unfolding rowsFrom
+  second-part = ap (take (h * A .width)) (drop-at a b (k * A .width) first) ∙ take-all (h * A .width) b (omega (arith, second))
+
+pub one-lengths : (o : KeccakOperation) → (length (oneCore o) ≡ 1944) × (length (oneRound o) ≡ 47360)
+unfolding height next-power-of-two doubled
+one-lengths o = (length-core-table 1 (λ i. o) 4, length-round-table 24 1 (λ i. o) 4)
+
+pub two-right : (verdictOn 24 bothCores bothRounds rightCounts 0 ≡ Holds 1) × (verdictOn 24 bothCores bothRounds rightCounts 1 ≡ Holds 1)
+unfolding verdictOn sumBelow rowCount
+two-right =
+    let a = one-lengths witness in
+    let b = one-lengths lastWitness in
+    let c = first-part coreLayout (oneCore witness) (oneCore lastWitness) 4 4 (a .0) (b .0) in
+    let d = first-part roundLayout (oneRound witness) (oneRound lastWitness) 32 32 (a .1) (b .1) in
+    let e = second-part coreLayout (oneCore witness) (oneCore lastWitness) 4 4 (a .0) (b .0) in
+    let f = second-part roundLayout (oneRound witness) (oneRound lastWitness) 32 32 (a .1) (b .1) in
+    ((λ t. verdictAt 24 (c t) (d t)) ∙ one-holds witness witness-right, (λ t. verdictAt 24 (e t) (f t)) ∙ one-holds lastWitness last-right)

@@ -6,7 +6,7 @@
 --     reported-*       the statements of Together.antt and Misfiled.antt, of these words
 --     some-reported    nothing else is asked of a call
 use mathlib.Core.Path.{_≡_, refl, sym, ap, subst, _∙_}
-use mathlib.Core.Logic.{_⊎_, inl, inr}
+use mathlib.Core.Logic.{_⊎_, inl, inr, _↔_}
 use mathlib.Core.List.{List, [], _∷_}
 use Prim.Native.Nat.{ℕ, _+_, _*_, _≤_, _<_}
 use native.Mathlib.Omega.{arith}
@@ -34,7 +34,8 @@ use Rattle.job.proofs.Words.{words-length, zero-holds}
 use Rattle.job.proofs.Refusals.{job-accepted}
 use Rattle.job.proofs.Turns.{report-length}
 use Rattle.job.proofs.Together.{part-checked, together, shared-named, held-apart, held-computed, held-balance, place-most}
-use Rattle.job.proofs.Misfiled.{IsUnbalanced, stranger-fails, misfiled-fails, bothCores, bothRounds, misfiledCounts, both-hold, two-filed}
+use Rattle.job.proofs.Misfiled.{IsUnbalanced, holds-only, stranger-fails, misfiled-fails, bothCores, bothRounds, misfiledCounts, both-hold, two-filed}
+use Rattle.job.proofs.Filed.{filed-holds}
 use Rattle.job.proofs.job.Kinds as kinds
 use Rattle.job.proofs.job.Reads as reads
 
@@ -173,6 +174,16 @@ module _ {nr : ℕ} {core round counts before after : List ℕ} (c : Reported nr
   reported-misfiled z i j l g differ q r a b e =
       let f = misfiled-fails nr (known .some) (known .most) core round counts (known .tables) (known .split) _ (job-hold z) i j l g differ q r a b e in
       (unbalanced-word i l (f .0), unbalanced-word j g (f .1))
+
+  -- the segments of a job that holds do so exactly where each active round row was filed with a core row of its timestamp
+  pub reported-filed : word after (n * 4) ≡ 0 → ((i : ℕ) → i < n → word after (i * 4) ≡ 0)
+      ↔ ((i : ℕ) → i < n → (q : ℕ) → Active roundLayout (roundOf i) q →
+      (r : ℕ) × Active coreLayout (coreOf i) r × SameTimestamp (row roundLayout (roundOf i) q) (row coreLayout (coreOf i) r))
+  unfolding verdictOn
+  reported-filed z = (
+    (λ h i l q a. holds-only nr (known .some) (known .most) (coreOf i) (roundOf i) (word after (i * 4 + 1)) (hold h i l) q a),
+    λ filed i l. verdict-word i l _ (filed-holds nr core round counts (known .tables) (known .split) _ (job-hold z) filed i l),
+  )
 
   pub reported-places : (i : ℕ) → i ≤ n → word after (i * 4) ≤ 6
   reported-places i l =

@@ -3,7 +3,8 @@
 --     Hashed            a call of `sha3_256` on a message, and the bytes that it answers
 --     hashed-digest     they are the digest that the message's list ends with
 --     hashed-bits       and SHA3-256 of FIPS 202 on bits
---     some-hashed       nothing else is asked of a call
+--     any-hashed        it asks nothing of a message
+--     some-hashed       and nothing else is asked of a call
 use mathlib.Core.Path.{_≡_, refl, sym, ap, _∙_}
 use mathlib.Core.List.{List, []}
 use Prim.Native.Nat.{ℕ}
@@ -35,6 +36,9 @@ module _ {m d : List ℕ} (c : Hashed m d) where
 
   pub hashed-bits : OnlyBytes m → bitsOf d ≡ sha3-256-bits (bitsOf m)
   hashed-bits small = ap bitsOf hashed ∙ sha3-bits m small
+
+pub any-hashed : (lifetimes : Lfts 1) (lent : Dens lifetimes kinds.ps) → reads.Asked lifetimes lent
+any-hashed lifetimes lent = tt
 
 pub some-hashed : (m : List ℕ) → Hashed m (sha3-256 m)
 some-hashed m =

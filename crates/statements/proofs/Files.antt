@@ -1,6 +1,6 @@
 -- More statements of Items 4 and 12 (Statements.antt has the others): 7 before 5 in every call that can tell both, and what the comparison of an
 -- operation file with a core table answers and refuses (same_operations/specs/Same.antt).
-use mathlib.Core.Path.{_≡_, refl, _∙_}
+use mathlib.Core.Path.{_≡_, _∙_}
 use mathlib.Core.Bool.{Bool, true, false}
 use mathlib.Core.List.{List}
 use mathlib.Core.Logic.{_↔_}

@@ -7,7 +7,7 @@ use Prim.Native.Nat.{ℕ, _+_, _*_, _/_, _%_, _^_, _≤_, _<_}
 use native.Mathlib.Omega.{arith}
 use lib.ListN.{length}
 use Rattle.answer.specs.Limits.{MAX-OPS}
-use Rattle.answer.specs.Refusal.{accepted, refusalNumber, refusalDetail}
+use Rattle.answer.specs.Refusal.{refusalNumber}
 use Rattle.answer.specs.declared.Refusal.{Refusal}
 use Rattle.answer.specs.declared.Refusal.the-variants.{PastEnd, TooShort, HighAddress, Unaligned, LongMessage}
 use Rattle.sha3.specs.Sha3.{sha3-256}
@@ -56,6 +56,9 @@ module _ (m ops : List ℕ) where
         (i : ℕ) → i < opCount ops → (addressAt ops i % 8 ≡ 0 → ⊥) → ((j : ℕ) → j < i → addressAt ops j % 8 ≡ 0) →
         judgedRefusal m ops ≡ some (Unaligned (addressAt ops i))
     judged-by-7 low i l odd lower = refusals.judged-rest m ops few short ∙ list.unaligned-refused 0 0 ops few whole (omega arith) low i l odd lower
+
+pub cases-by-1-3 : (refusalNumber (PastEnd 89478486) ≡ 1) × (refusalNumber (TooShort 53) ≡ 3)
+cases-by-1-3 = (refl, refl)
 
 -- "The last output's first 32 bytes are the digest of FIPS 202.": they are what `sha3_256` answers for the message, which is SHA3-256 by FIPS 202
 -- on bits. `Hashed` (message/proofs/Tied.antt) is a call of it, known by its contract
