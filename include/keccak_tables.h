@@ -746,8 +746,8 @@ keccak_tables_number keccak_tables_verdict_line(uint64_t nr, const uint64_t *cor
                                                 size_t round_length, uint8_t *line, size_t line_length);
 
 /*
- * The verdict in lent memory: the same answer, in a time that grows as n log n with the rows on every input, so for tables that somebody else
- * ordered. `scratch` and `spare` each need two words for each row of both tables, KECCAK_TABLES_SCRATCH_WORDS * (core rows + round rows),
+ * The verdict in lent memory: the same answer, in a time that was measured to grow as n log n with the rows in every order that was tried, so for
+ * tables that somebody else ordered. `scratch` and `spare` each need two words for each row of both tables, KECCAK_TABLES_SCRATCH_WORDS * (core rows + round rows),
  * together 32 bytes a row; what they hold before does not matter. Afterwards that many words of each are 0, and the words past them as they
  * were. 8 and 2 as above; 3 scratch, then spare; 5 as above.
  */
