@@ -118,7 +118,8 @@ fn spoilt_among(words: &mut Words, charged: &[usize], none: bool) -> Vec<(usize,
     if none {
         return vec![];
     }
-    let mut spoilt = drawn_or_none(words, words.below(2) == 0).to_vec();
+    let uncharged = words.below(2) == 0;
+    let mut spoilt = drawn_or_none(words, !uncharged).to_vec();
     for _ in 0..words.below(3) {
         if let Some(&place) = charged.get(words.below(charged.len().max(1) as u64) as usize) {
             if spoilt.iter().all(|(other, _)| *other != place) {
@@ -441,7 +442,11 @@ fn dedup(
 /// counted.
 fn charged_by_rows(rows: &[u64]) -> Vec<usize> {
     let n = rows.len() / 3;
-    let mut charged = if n == 0 || n.next_power_of_two().max(4) == n { vec![] } else { vec![5] };
+    let mut charged = if n == 0 || n.next_power_of_two().max(4) == n {
+        vec![]
+    } else {
+        vec![5]
+    };
     for row in rows.chunks_exact(3) {
         let (word, half, mu) = (row[0], row[1], row[2]);
         if word >= 1 << 32 || half >= 1 << 16 || mu >= 1 << 20 {
