@@ -451,7 +451,8 @@ keccak_tables_lookup keccak_tables_lookup_b20(uint8_t x, uint8_t y, uint8_t z);
 
 /*
  * Adds a list of lookups to their counters, one each, mod p. 1 the first lookup with kind >= 10 or z >= 16; 2 the list;
- * 3 counters < 10,485,760; 5 any counter, then x or y >= 256.
+ * 3 counters < 10,485,760; 5 x or y >= 256, then the first of the counters that they charge which is p or more. No other counter is
+ * read.
  */
 KECCAK_TABLES_MUST_USE
 keccak_tables_answer keccak_tables_add_ops(uint64_t *counters, size_t counters_length, const uint64_t *ops, size_t ops_length);
@@ -474,7 +475,7 @@ keccak_tables_answer keccak_tables_fill_multiplicities(const uint64_t *counters,
 
 /*
  * Adds a list of lookups to the multiplicities of the table, one each, mod p. 1 the first lookup with kind >= 10 or z >= 16; 2 the list;
- * 3 table < 22,020,096; 5 any multiplicity, then x or y >= 256.
+ * 3 table < 22,020,096; 5 x or y >= 256, then the first of the multiplicities that they charge which is p or more.
  */
 KECCAK_TABLES_MUST_USE
 keccak_tables_answer keccak_tables_bitwise_update_multiplicities(uint64_t *table, size_t table_length, const uint64_t *ops,
@@ -534,7 +535,8 @@ keccak_tables_answer keccak_tables_generate_is_wh_trace(const uint64_t *rows, si
 
 /*
  * Adds to the counters of the bitwise table, mod p, what the table of a list of rows looks up, padding rows included; nothing where
- * there are no rows. 1 and 2 as above; 3 counters < 10,485,760; 5 a word of the list as above, then any counter.
+ * there are no rows. 1 and 2 as above; 3 counters < 10,485,760; 5 a word of the list as above, then the first of the counters charged
+ * which is p or more. Every other counter is neither read nor written.
  */
 KECCAK_TABLES_MUST_USE
 keccak_tables_answer keccak_tables_collect_bitwise_from_is_wh(const uint64_t *rows, size_t rows_length, uint64_t *counters,
@@ -751,8 +753,8 @@ keccak_tables_number keccak_tables_verdict_line(uint64_t nr, const uint64_t *cor
                                                 size_t round_length, uint8_t *line, size_t line_length);
 
 /*
- * The verdict in lent memory: the same answer, in a time that grows as n log n with the rows on every input, so for tables that somebody else
- * ordered. `scratch` and `spare` each need two words for each row of both tables, KECCAK_TABLES_SCRATCH_WORDS * (core rows + round rows),
+ * The verdict in lent memory: the same answer, in a time that was measured to grow as n log n with the rows in every order that was tried, so for
+ * tables that somebody else ordered. `scratch` and `spare` each need two words for each row of both tables, KECCAK_TABLES_SCRATCH_WORDS * (core rows + round rows),
  * together 32 bytes a row; what they hold before does not matter. Afterwards that many words of each are 0, and the words past them as they
  * were. 8 and 2 as above; 3 scratch, then spare; 5 as above.
  */

@@ -6,7 +6,8 @@
 //! - with `_within` behind the name the scratch is lent, of [`scratch_words`] words;
 //! - with `_alone` behind the name it has no memory of its own.
 //!
-//! With a scratch the time grows as n log n with the rows, in whatever order they stand, which whoever judges foreign tables does not choose.
+//! With a scratch the time was measured to grow as n log n with the rows, in every order of them that was tried, which whoever judges foreign
+//! tables does not choose.
 //! Alone it is as quick for rows in the writer's order, and slower in others, up to the square of the rows.
 
 use std::fmt;

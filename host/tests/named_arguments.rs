@@ -150,18 +150,25 @@ fn counters_before_the_table_that_they_fill() {
     assert_eq!(fill(&counters, TABLE_WORDS), not_element("counters", 0));
 }
 
+/// The place of a counter can be that of an X or a Y.
 #[test]
-fn counters_before_the_words_of_lookups() {
-    let ops = [3, 1, 2, 0, 3, 256, 2, 0];
+fn the_words_of_lookups_before_the_counters() {
+    let mut ops = [3, 1, 2, 0, 3, 256, 2, 0];
     let mut counters = vec![0; NUM_COUNTERS + 4];
+    counters[5_133] = P;
     assert_eq!(bitwise::add_ops(&mut counters, &ops), not_element("ops", 5));
-    counters[4] = P;
-    assert_eq!(bitwise::add_ops(&mut counters, &ops), not_element("counters", 4));
-    counters[4] = 0;
-    counters[5] = P;
-    assert_eq!(bitwise::add_ops(&mut counters, &ops), not_element("counters", 5));
+    ops[5] = 1;
+    assert_eq!(bitwise::add_ops(&mut counters, &ops), not_element("counters", 5_133));
+    for kind in [1, 2, 5, 6] {
+        counters[kind as usize] = P;
+        let refused = bitwise::add_ops(&mut counters, &[3, 1, 2, 0, kind, 0, 0, 0]);
+        assert_eq!(refused, not_element("counters", kind));
+    }
+    // A counter that is not charged is not read.
+    counters[5_133] = 0;
+    assert_eq!(bitwise::add_ops(&mut counters, &ops), Ok(()));
+    assert_eq!((counters[5_133], counters[5], counters[6]), (2, P, P));
     // A list longer than the counters: its word stands where they have one that is not read.
-    counters[5] = 0;
     counters[NUM_COUNTERS + 1] = P;
     let mut long = vec![0; NUM_COUNTERS + 4];
     long[NUM_COUNTERS + 1] = 256;
@@ -171,22 +178,30 @@ fn counters_before_the_words_of_lookups() {
 
 /// The place of a lookup's word can be that of a fixed column, which is not read, or of a multiplicity.
 #[test]
-fn multiplicities_before_the_words_of_lookups() {
+fn the_words_of_lookups_before_the_multiplicities() {
     let mut table = vec![0; TABLE_WORDS];
-    table[..11].fill(P);
+    table[..14].fill(P);
     let mut ops = [0; 16];
-    ops[13] = 256;
-    assert_eq!(bitwise::update_multiplicities(&mut table, &ops), not_element("ops", 13));
-    table[13] = P;
-    let refused = bitwise::update_multiplicities(&mut table, &ops);
-    assert_eq!(refused, not_element("table", 13));
-    table[13] = P - 1;
-    for place in [1, 2, 5, 6, 9, 10] {
+    for place in [1, 2, 5, 6, 9, 10, 13, 14] {
         ops[place] = 256;
         let refused = bitwise::update_multiplicities(&mut table, &ops);
         assert_eq!(refused, not_element("ops", place as u64));
-        ops[place] = 255;
+        ops[place] = 0;
     }
+    assert_eq!(
+        bitwise::update_multiplicities(&mut table, &ops),
+        not_element("table", 11)
+    );
+    table[11] = 0;
+    ops[0] = 2;
+    assert_eq!(
+        bitwise::update_multiplicities(&mut table, &ops),
+        not_element("table", 13)
+    );
+    // One that is not charged is not read.
+    table[13] = P - 1;
+    assert_eq!(bitwise::update_multiplicities(&mut table, &ops), Ok(()));
+    assert_eq!(table[10..15], [P, 3, P, 0, 0]);
 }
 
 #[test]
@@ -214,19 +229,29 @@ fn the_words_of_rows_before_the_counters() {
     counters[..6].fill(P);
     let highest = [(1 << 32) - 1, (1 << 16) - 1, (1 << 20) - 1].repeat(2);
     let mut collect = |rows: &[u64]| is_wh::collect_bitwise_from_is_wh(rows, &mut counters);
-    assert_eq!(collect(&[]), not_element("counters", 0));
-    assert_eq!(collect(&highest), not_element("counters", 0));
+    assert_eq!(collect(&[]), Ok(()));
+    assert_eq!(collect(&highest), not_element("counters", 5));
     for place in 0..6 {
         let mut rows = highest.clone();
         rows[place] += 1;
         assert_eq!(collect(&rows), not_element("rows", place as u64));
     }
-    for place in 0..6 {
+    // IsB20 of 0, which the padding sends, and of the highest count; IsHalfword of the highest.
+    for place in [5, 655_354, 10_485_755] {
         let mut counters = vec![0; NUM_COUNTERS];
         counters[place] = P;
         let refused = is_wh::collect_bitwise_from_is_wh(&highest, &mut counters);
         assert_eq!(refused, not_element("counters", place as u64));
     }
+    let mut counters = vec![P; NUM_COUNTERS];
+    for (place, count) in [(5, 2), (655_354, 6 * ((1 << 20) - 1)), (10_485_755, 2)] {
+        counters[place] = P - count;
+    }
+    assert_eq!(is_wh::collect_bitwise_from_is_wh(&highest, &mut counters), Ok(()));
+    for place in [5, 655_354, 10_485_755] {
+        assert_eq!(std::mem::replace(&mut counters[place], P), 0);
+    }
+    assert!(counters.iter().all(|word| *word == P));
 }
 
 /// The list, then the counters, the copy and what is written, then an address, then a counter.

@@ -18,6 +18,7 @@ use Rattle.answer.proofs.Overwrite.{left}
 use Rattle.bitwise.specs.Columns.{NUM-COUNTERS}
 use Rattle.bitwise.specs.Charge.{chargedCounters}
 use Rattle.bitwise.specs.Table.{filled, fillRefusal, fillAfter}
+use Rattle.bitwise.proofs.Charge.{charged-elements}
 use Rattle.bitwise.proofs.Table.{filled-count}
 use Rattle.keccak_rc.specs.Row.{rcRow}
 use Rattle.keccak_rc.specs.Table.{rcTable, updated, rcTraceRefusal, rcTraceAfter, updateRefusal, updateAfter}
@@ -31,7 +32,8 @@ use Rattle.keccak.specs.Calls.{coreTraceAfter}
 use Rattle.keccak.proofs.Calls as core
 use Rattle.is_wh_trace.specs.Trace.{isWhHeight, isWhTable, isWhTraceRefusal, isWhTraceAfter}
 use Rattle.is_wh_trace.proofs.Answers.{table-start}
-use Rattle.is_wh_counts.specs.Counts.{isWhCharged, collectRefusal, collectAfter}
+use Rattle.is_wh_counts.specs.Counts.{isWhCharged, grownCounters, collectRefusal, collectAfter}
+use Rattle.is_wh_counts.proofs.Grown.{grown-elements}
 use Rattle.keccak_rnd.specs.Row.{roundTable, roundHeight}
 use Rattle.keccak_rnd.specs.Refusals.{roundTraceRefusal}
 use Rattle.keccak_rnd.specs.Calls.{roundTraceAfter}
@@ -119,8 +121,10 @@ module _ (nr floor : ℕ) (ops : List ℕ) (has : 1 ≤ opCount ops) (right : (i
             counters-are : counters ≡ chargedCounters (chargedCounters Z (listCharged nr floor shipped ops)) (isWhCharged list)
             unfolding collectAfter
             counters-are =
-                left (chargedCounters (chargeAfter nr floor shipped ops Z) (isWhCharged pairRows)) (chargeAfter nr floor shipped ops Z) collected
-                ∙ ap (λ (l : List ℕ). chargedCounters l (isWhCharged pairRows)) (left (chargedCounters Z (listCharged nr floor shipped ops)) Z charged)
+                left (grownCounters (chargeAfter nr floor shipped ops Z) (isWhCharged pairRows)) (chargeAfter nr floor shipped ops Z) collected
+                ∙ ap (λ (l : List ℕ). grownCounters l (isWhCharged pairRows)) (left (chargedCounters Z (listCharged nr floor shipped ops)) Z charged)
+                ∙ grown-elements (chargedCounters Z (listCharged nr floor shipped ops)) (isWhCharged pairRows)
+                (charged-elements Z (listCharged nr floor shipped ops) (charge-accepted nr floor ops Z .0 charged .3 .long))
                 ∙ ap (λ (l : List ℕ). chargedCounters (chargedCounters Z (listCharged nr floor shipped ops)) (isWhCharged l)) list-is
 
             pub calls-hold : SumsHold nr coreWritten roundWritten

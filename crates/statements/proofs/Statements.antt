@@ -320,10 +320,9 @@ module _ (nr : ℕ) (core round : List ℕ) (scratch spare : ℕ) where
       withinAfter nr core round scratch spare old ≡ old
   lent-untouched e old = sym (after-refused nr core round old scratch spare e)
 
--- in n log n on every input: places are sorted by a merge sort, and one of n places, n at most 2^k, compares two of them at most 2 k n
--- times. That is said of `mostCompared` (sort/specs/Compared.antt), whatever the places are, a definition whose shape is that of `merge_sort` in
--- sort_places/src/lib.rt as in sort/src/lib.rt; no contract ties the code to it, and runs show the rest. Where n is at most 2^k more halvings
--- compare none
+-- How the verdict's time grows in lent memory is measured, not proved. What is proved is of a definition in the shape of the sort of places:
+-- `mostCompared` (sort/specs/Compared.antt), whose shape is that of `merge_sort` in sort_places/src/lib.rt as in sort/src/lib.rt, is at most 2 k n
+-- for n places, n at most 2^k, whatever they are; no contract ties the code to it. Where n is at most 2^k more halvings compare none
 pub sort-compares : (k n : ℕ) → n ≤ 2 ^ k → mostCompared k n ≤ 2 * k * n
 sort-compares = most-compared
 
