@@ -1523,7 +1523,7 @@ module _ (nr : ℕ) (some : 1 ≤ nr) (most : nr ≤ 24) where
       pub sums-all : actives coreLayout core ≤ MAX-OPS → EachActive ShortTimestamp core → (floor : ℕ) → ClaimsAt nr floor core
       sums-all = sums-claims nr core round w others h apart some most
 
-  -- "Where both tables pass and balance there are fillings, all words below p, for which every sum agrees."
+  -- Where both tables pass and balance there are fillings, all words below p, for which every sum agrees.
   pub sums-made : (core round : List ℕ) → rows coreLayout core ≤ 2 ^ 35 → rows roundLayout round ≤ 2 ^ 35 →
       Filled nr core round ↔ (Passes (coreKind nr) core × Answers nr core round)
   sums-made = sums-exactly nr
@@ -1624,7 +1624,7 @@ pub without-few : Slips manyRows × Values (coreKind 24) manyRows
 without-few = few-needed
 
 -- ---- beyond the demands: the counters of the bitwise lookups
--- "The histogram is a commutative monoid: increments and [`merge`](Self::merge) are order-independent" (tables/bitwise.rs):
+-- 'The histogram is a commutative monoid: increments and [`merge`](Self::merge) are order-independent' (the Rust's bitwise.rs):
 -- of counters that `merge` accepts; the words past the 10,485,760 counters are those of the first slice (its neutral element,
 -- and lists in any order: `merging-zeros`, `lookups-in-any-order`, Segments.antt)
 module _ (a b : List ℕ) (passed : mergeRefusal a b ≡ accepted) where
@@ -1680,7 +1680,7 @@ module _ (nr : ℕ) (some : 1 ≤ nr) (most : nr ≤ 24) (core : List ℕ) (supp
         Answers nr core (take size after) × (v ≡ Holds (actives coreLayout core))
     code-answers = written-answers nr some most core supposed floor power
 
-    -- "The round table that the writer makes has fillings too."
+    -- The round table that the writer makes has fillings too.
     pub code-filled : rows coreLayout core ≤ 2 ^ 35 → EachActive (Computed nr) core →
         (before after : List ℕ) → size ≤ length before → Wrote nr floor (operations core) before after →
         Filled nr core (take size after)
