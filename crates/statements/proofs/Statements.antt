@@ -1,4 +1,5 @@
--- The statements of the project on one page, each beside the sentence that asks for it. Each is proved in the crate
+-- The statements of the project, each beside the sentence that asks for it; those on lines, segments, calls, jobs, files and messages stand in the
+-- files beside this one. Each is proved in the crate
 -- that it is about and only cited here, so what a reader reads is what the gate has checked.
 -- Demand 1, and "tables, values, tuples, counts and verdict match definitions", are the contracts of the calls: those that a host
 -- links are in Exports.antt, all in docs/PROOFS.md.
