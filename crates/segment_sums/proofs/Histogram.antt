@@ -7,10 +7,10 @@
 use mathlib.Core.Bool.{Bool, true}
 use mathlib.Core.List.{List}
 use mathlib.Core.Path.{_≡_, refl, sym, ap, subst, _∙_}
-use Prim.Native.Nat.{ℕ, zero, suc, _+_, _*_, _%_, _<_}
+use Prim.Native.Nat.{ℕ, zero, suc, _+_, _*_, _%_, _≤_, _<_}
 use native.Mathlib.Nat.{add-zero, mod-eq-of-lt, mod-add-mod, add-assoc}
 use native.Mathlib.Omega.{arith}
-use borrow.Author.Tests.{eq-eqb, ne-eqb}
+use borrow.Author.Tests.{eq-eqb, ne-eqb, eqb-true}
 use lib.Dec.{eqb}
 use lib.ListN.{length}
 use lib.Seq.{ext-getD}
@@ -24,7 +24,6 @@ use Rattle.lists.proofs.OneToOne.{matched-by, matched-equally}
 use Rattle.lists.proofs.Reading.{Alike}
 use Rattle.lists.proofs.Then.{by-le}
 use Rattle.field.specs.Field.{p}
-use Rattle.field.specs.Elements.{ElementRow}
 use Rattle.answer.specs.Refusal.{accepted}
 use Rattle.answer.proofs.Overwrite.{left}
 use Rattle.bitwise.specs.Columns.{NUM-COUNTERS}
@@ -32,6 +31,7 @@ use Rattle.bitwise.specs.Counters.{charge, merged, mergeRefusal, mergeAfter}
 use Rattle.bitwise.specs.Lookups.{lookupCount, lookupCounter, kindOf, xOf, yOf, zOf, chargeEach, addedOps, addOpsRefusal, addOpsAfter}
 use Rattle.bitwise.proofs.Counters.{charge-same, charge-other}
 use Rattle.bitwise.proofs.Histogram.{merged-at, merged-past, merged-length, merge-commutes}
+use Rattle.bitwise.proofs.Large.{count-some, some-counted}
 use Rattle.bitwise.proofs.LookupRefusals.{Lookups, add-accepted}
 use Rattle.bitwise.proofs.Lookups.{lookup-lt, each-length}
 use Rattle.bitwise.proofs.Refusals.{merge-accepted}
@@ -93,14 +93,20 @@ module _ (counters ops other : List ℕ) (order : Reordered ops other) (taken : 
   list : Lookups ops
   list = add-accepted counters ops .0 taken .1
 
-  row : ElementRow NUM-COUNTERS counters
-  row = add-accepted counters ops .0 taken .0
+  enough : NUM-COUNTERS ≤ length counters
+  enough = add-accepted counters ops .0 taken .0
+
+  -- lookup j of the other has the counter of one of the first
+  same-counter : (j : ℕ) → j < lookupCount other → lookupCounter ops (order .from j) ≡ lookupCounter other j
+  same-counter j l =
+      let a = order .alike (order .from j) (order .from-in j l) in
+      (λ t. (a .1 t + a .2 t * 256 + a .3 t * 65536) * 10 + a .0 t) ∙ ap (lookupCounter other) (order .to-from j l)
 
   -- where its length is that of whole lookups the other is accepted too
   pub order-taken : length other % 4 ≡ 0 → addOpsRefusal counters other ≡ accepted
   order-taken whole =
       add-accepted counters other .1 (
-        row,
+        enough,
         record {
           whole = whole;
           each = λ j l.
@@ -116,6 +122,7 @@ module _ (counters ops other : List ℕ) (order : Reordered ops other) (taken : 
                 z-below = subst (λ (n : ℕ). n < 16) (a .3 ∙ ap (zOf other) q) (b .z-below);
               };
         },
+        λ j l. subst (λ (k : ℕ). word counters k < p) (same-counter j l) (add-accepted counters ops .0 taken .2 (order .from j) (order .from-in j l)),
       )
 
   -- as many fall on each counter
@@ -140,11 +147,18 @@ module _ (counters ops other : List ℕ) (order : Reordered ops other) (taken : 
       (λ past.
       each-past here counters c n (λ i l e. omega (arith, past, e, lookup-lt ops i (list .each i l)))
       ∙ sym (each-past there counters c m (λ i l e. omega (arith, past, e, lookup-lt other i (their .each i l)))))
-      (λ l.
-      let long : c < length counters = omega (arith, l, row .long) in
-      each-at here counters c long (row .below c l) n
+      (λ l. by-eq (countBelow (λ i. eqb c (here i)) n) 0
+      -- a counter that they do not charge
+      (λ none.
+      each-past here counters c n (λ i b e. omega (arith, none, count-some (λ k. eqb c (here k)) n i b (eq-eqb c (here i) e)))
+      ∙ sym (each-past there counters c m (λ i b e. omega (arith, none, same-falls c, count-some (λ k. eqb c (there k)) m i b (eq-eqb c (there i) e)))))
+      (λ some.
+      let x = some-counted (λ i. eqb c (here i)) n (omega (arith, some)) in
+      let below : word counters c < p = subst (λ (k : ℕ). word counters k < p) (sym (eqb-true c (here (x .0)) (x .2))) (add-accepted counters ops .0 taken .2 (x .0) (x .1)) in
+      let long : c < length counters = omega (arith, l, enough) in
+      each-at here counters c long below n
       ∙ ap (λ (k : ℕ). (word counters c + k) % p) (falls-same c)
-      ∙ sym (each-at there counters c long (row .below c l) m)))
+      ∙ sym (each-at there counters c long below m))))
       ∙ sym (left (addedOps counters other) counters also)
     where
       falls-same : (c : ℕ) → sumBelow (lookupCount ops) (λ i. pick (eqb c (lookupCounter ops i)) 1 0) ≡ sumBelow (lookupCount other) (λ i. pick (eqb c (lookupCounter other i)) 1 0)
