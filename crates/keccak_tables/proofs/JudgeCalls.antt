@@ -6,7 +6,7 @@ use Rattle.verdict.specs.Verdict.{verdictWords}
 use Rattle.verdict.specs.CoreAndRound.{verdictFor}
 use Rattle.judge_within.specs.Within.{withinFor, withinAfter}
 use Rattle.flat.specs.Flat.{flatNumber}
-use Rattle.verdict_line.specs.Line.{lineAnswer, lineAfter, withinLineAnswer, withinLineAfter}
+use Rattle.verdict_line.specs.Line.{lineAnswer, lineAfter, withinLineAnswer, withinLineAfter, withinLineLeft}
 use Rattle.keccak_tables.proofs.Kept.{Kept}
 use Rattle.keccak_tables.proofs.judge_calls.keccak_tables_verdict.Kinds as verdict-kinds
 use Rattle.keccak_tables.proofs.judge_calls.keccak_tables_verdict.Reads as verdict-reads
@@ -56,10 +56,10 @@ pub record JudgeCalls : Type 0 where
       let line′ = ended .1 .1 .1 .0 .now in
       let scratch′ = ended .1 .1 .1 .1 .0 .now in
       let spare′ = ended .1 .1 .1 .1 .1 .0 .now in
-      (answer ≡ flatNumber (withinLineAnswer nr core round (length scratch) (length spare) line))
+      (answer ≡ flatNumber (withinLineAnswer nr core round (length line) (length scratch) (length spare)))
       × ((line′ ≡ withinLineAfter nr core round (length scratch) (length spare) line)
-      × ((scratch′ ≡ withinAfter nr core round (length scratch) (length spare) scratch)
-      × (spare′ ≡ withinAfter nr core round (length scratch) (length spare) spare))))
+      × ((scratch′ ≡ withinLineLeft nr core round (length line) (length scratch) (length spare) scratch)
+      × (spare′ ≡ withinLineLeft nr core round (length line) (length scratch) (length spare) spare))))
 
 pub judge-calls : JudgeCalls
 judge-calls =
