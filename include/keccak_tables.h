@@ -8,9 +8,8 @@
  * that a caller has to keep; every number and every word is allowed, and the call answers:
  *
  *   refusal 0   it did its work: the slice begins with what is asked for, and the words past that are as they were;
- *   refusal N   it is refused, and every word is as it was (of a line that does not fit, keccak_tables_verdict_line_within says
- *               what becomes of its scratch). Unless said below, the checks are made in the order of their numbers, those of
- *               one number in the order of the arguments, and the first that refuses is told:
+ *   refusal N   it is refused, and every word is as it was. Unless said below, the checks are made in the order of their numbers,
+ *               those of one number in the order of the arguments, and the first that refuses is told:
  *
  *   N  what is wrong                                                            detail
  *   1  an index, kind, Z, round or number of operations, keys or rows past its  the least number refused
@@ -274,7 +273,10 @@ extern "C" {
 #define KECCAK_TABLES_COUNT_WORDS 2
 #define KECCAK_TABLES_VERDICT_WORDS 4
 
-/* What a verdict is lent to work in: the words of `scratch`, and as many of `spare`, for each row of both tables. */
+/*
+ * What a verdict is lent to work in: the words of `scratch`, and as many of `spare`, for each row of both tables. (The bindings in Rust lend
+ * both as one slice, so their SCRATCH_WORDS is twice this.)
+ */
 #define KECCAK_TABLES_SCRATCH_WORDS 2
 
 /* The answer of a call that only writes. */
@@ -449,7 +451,8 @@ keccak_tables_lookup keccak_tables_lookup_b20(uint8_t x, uint8_t y, uint8_t z);
 
 /*
  * Adds a list of lookups to their counters, one each, mod p. 1 the first lookup with kind >= 10 or z >= 16; 2 the list;
- * 3 counters < 10,485,760; 5 any counter, then x or y >= 256.
+ * 3 counters < 10,485,760; 5 x or y >= 256, then the first of the counters that they charge which is p or more. No other counter is
+ * read.
  */
 KECCAK_TABLES_MUST_USE
 keccak_tables_answer keccak_tables_add_ops(uint64_t *counters, size_t counters_length, const uint64_t *ops, size_t ops_length);
@@ -472,7 +475,7 @@ keccak_tables_answer keccak_tables_fill_multiplicities(const uint64_t *counters,
 
 /*
  * Adds a list of lookups to the multiplicities of the table, one each, mod p. 1 the first lookup with kind >= 10 or z >= 16; 2 the list;
- * 3 table < 22,020,096; 5 any multiplicity, then x or y >= 256.
+ * 3 table < 22,020,096; 5 x or y >= 256, then the first of the multiplicities that they charge which is p or more.
  */
 KECCAK_TABLES_MUST_USE
 keccak_tables_answer keccak_tables_bitwise_update_multiplicities(uint64_t *table, size_t table_length, const uint64_t *ops,
@@ -532,7 +535,8 @@ keccak_tables_answer keccak_tables_generate_is_wh_trace(const uint64_t *rows, si
 
 /*
  * Adds to the counters of the bitwise table, mod p, what the table of a list of rows looks up, padding rows included; nothing where
- * there are no rows. 1 and 2 as above; 3 counters < 10,485,760; 5 a word of the list as above, then any counter.
+ * there are no rows. 1 and 2 as above; 3 counters < 10,485,760; 5 a word of the list as above, then the first of the counters charged
+ * which is p or more. Every other counter is neither read nor written.
  */
 KECCAK_TABLES_MUST_USE
 keccak_tables_answer keccak_tables_collect_bitwise_from_is_wh(const uint64_t *rows, size_t rows_length, uint64_t *counters,
@@ -669,6 +673,31 @@ keccak_tables_answer keccak_tables_look(uint64_t nr, uint64_t floor, bool shippe
                                         const uint64_t *counters, size_t counters_length, uint64_t *copy, size_t copy_length,
                                         uint64_t *out, size_t out_length);
 
+/* ---- several registers on one counter table ---- */
+
+/*
+ * The same charge through a register, one of several that share the counters. A register has a ledger of ten words at register * 10, the
+ * sum of each kind that it has charged, mod p; in use are as many registers as whole ledgers stand in the lent words, 16 at most. The
+ * charge adds to its own ledger how many it adds of each kind; every other ledger word is as it was, those past the sixteenth ledger too.
+ * 8 nr; 9 floor; 10 the register is not in use; 1, 2, 3, 4, 7, 11 and 5 as `charge`; then 5 a word of its own ledger, its place in
+ * `ledgers`.
+ */
+KECCAK_TABLES_MUST_USE
+keccak_tables_answer keccak_tables_register_charge(uint64_t nr, uint64_t floor, bool shipped, uint64_t register_number,
+                                                   const uint64_t *ops, size_t ops_length, uint64_t *counters,
+                                                   size_t counters_length, uint64_t *ledgers, size_t ledgers_length);
+
+/*
+ * A look at that beforehand: `copy` as the look above leaves it, and `out` begins with its twenty words and then the ten of the
+ * register's ledger as the charge would leave it. 8, 9, 10, 1, 2, 4, 7, 11 and 5 as the charge; 3 counters < 10,485,760, then copy <
+ * 10,485,760, then out < 30.
+ */
+KECCAK_TABLES_MUST_USE
+keccak_tables_answer keccak_tables_register_look(uint64_t nr, uint64_t floor, bool shipped, uint64_t register_number,
+                                                 const uint64_t *ops, size_t ops_length, const uint64_t *counters,
+                                                 size_t counters_length, const uint64_t *ledgers, size_t ledgers_length,
+                                                 uint64_t *copy, size_t copy_length, uint64_t *out, size_t out_length);
+
 /* ---- from message to operations ---- */
 
 /*
@@ -689,28 +718,6 @@ keccak_tables_number keccak_tables_message_operations(const uint8_t *message, si
 KECCAK_TABLES_MUST_USE
 keccak_tables_number keccak_tables_judge_message(const uint8_t *message, size_t message_length, const uint64_t *ops,
                                                  size_t ops_length);
-
-/*
- * The same charge through a register, one of several that share the counters. A register has a ledger of ten words at register * 10, the
- * sum of each kind that it has charged, mod p; in use are as many registers as whole ledgers stand in the lent words, 16 at most. The
- * charge adds to its own ledger how many it adds of each kind; every other ledger word is as it was, those past the sixteenth ledger too.
- * 8 nr; 9 floor; 10 the register is not in use; 1, 2, 3, 4, 7 and 5 as `charge`; then 5 a word of its own ledger, its place in `ledgers`.
- */
-KECCAK_TABLES_MUST_USE
-keccak_tables_answer keccak_tables_register_charge(uint64_t nr, uint64_t floor, bool shipped, uint64_t register_number,
-                                                   const uint64_t *ops, size_t ops_length, uint64_t *counters,
-                                                   size_t counters_length, uint64_t *ledgers, size_t ledgers_length);
-
-/*
- * A look at that beforehand: `copy` as the look above leaves it, and `out` begins with its twenty words and then the ten of the
- * register's ledger as the charge would leave it. 8, 9, 10, 1, 2, 4, 7 and 5 as the charge; 3 counters < 10,485,760, then copy <
- * 10,485,760, then out < 30.
- */
-KECCAK_TABLES_MUST_USE
-keccak_tables_answer keccak_tables_register_look(uint64_t nr, uint64_t floor, bool shipped, uint64_t register_number,
-                                                 const uint64_t *ops, size_t ops_length, const uint64_t *counters,
-                                                 size_t counters_length, const uint64_t *ledgers, size_t ledgers_length,
-                                                 uint64_t *copy, size_t copy_length, uint64_t *out, size_t out_length);
 
 /* ---- the month in whole numbers ---- */
 
@@ -746,8 +753,8 @@ keccak_tables_number keccak_tables_verdict_line(uint64_t nr, const uint64_t *cor
                                                 size_t round_length, uint8_t *line, size_t line_length);
 
 /*
- * The verdict in lent memory: the same answer, in a time that grows as n log n with the rows on every input, so for tables that somebody else
- * ordered. `scratch` and `spare` each need two words for each row of both tables, KECCAK_TABLES_SCRATCH_WORDS * (core rows + round rows),
+ * The verdict in lent memory: the same answer, in a time that was measured to grow as n log n with the rows in every order that was tried, so for
+ * tables that somebody else ordered. `scratch` and `spare` each need two words for each row of both tables, KECCAK_TABLES_SCRATCH_WORDS * (core rows + round rows),
  * together 32 bytes a row; what they hold before does not matter. Afterwards that many words of each are 0, and the words past them as they
  * were. 8 and 2 as above; 3 scratch, then spare; 5 as above.
  */
@@ -757,8 +764,8 @@ keccak_tables_judgement keccak_tables_verdict_within(uint64_t nr, const uint64_t
                                                      size_t spare_length);
 
 /*
- * The line of that verdict, likewise. 8, 2, 3 and 5 as above; then 3 line < the line's length: there the tables are judged already, and the
- * words that were used are 0.
+ * The line of that verdict, likewise, into KECCAK_TABLES_LINE_MOST bytes or more, whatever the line, so that nothing is refused once the
+ * tables are judged. 8 and 2 as above; 3 line < KECCAK_TABLES_LINE_MOST, then scratch, then spare; 5 as above.
  */
 KECCAK_TABLES_MUST_USE
 keccak_tables_number keccak_tables_verdict_line_within(uint64_t nr, const uint64_t *core, size_t core_length, const uint64_t *round,
@@ -811,8 +818,9 @@ KECCAK_TABLES_MUST_USE
 keccak_tables_cursor keccak_tables_tally_feed(keccak_tables_cursor cursor, const uint8_t *bytes, size_t bytes_length);
 
 /*
- * What the file says at its end, of tables with this floor and 24 rounds: 9 floor; then the reader's fault; 1 more than 89,478,485
- * records, or bytes after the last of them (only a reader that no call made); 6 a cut record; or the sums over the rows of both tables.
+ * What the file says at its end, of tables with this floor and 24 rounds: 9 floor; then 1, 4 and 6 of the reader's fault; 1 more than
+ * 89,478,485 records, or bytes after the last of them (only a reader that no call made); 6 a cut record; or the sums over the rows of both
+ * tables.
  * Where the tables of an empty file are not shipped its sums are 0; where they are, its zero round rows, as many as the floor, send 220
  * times the floor on AreBytes. Of a file with a record that is counted `shipped` changes nothing.
  */

@@ -18,7 +18,7 @@
 //! ```
 
 use crate::ffi;
-use crate::refusal::{NOT_ELEMENT, PAST_END, Refusal, TOO_SHORT, is_large_at};
+use crate::refusal::{NOT_ELEMENT, PAST_END, Refusal, TOO_SHORT, is_large_at, word_at};
 use crate::tuple::BusInteraction;
 
 /// The rows of the table: X, Y below 256 and Z below 16.
@@ -297,11 +297,11 @@ fn of_bump(number: u64, kind: usize) -> &'static str {
 ///
 /// [`PastEnd`](Refusal::PastEnd): the first lookup whose kind is 10 or more, or whose Z is 16 or more;
 /// [`NotWhole`](Refusal::NotWhole): `ops` is not whole lookups; [`TooShort`](Refusal::TooShort): `counters` has fewer than 10,485,760
-/// words; [`NotElement`](Refusal::NotElement): a counter, charged or not, is p or more, then X or Y of a lookup is 256 or more.
+/// words; [`NotElement`](Refusal::NotElement): X or Y of a lookup is 256 or more, then the counter of a lookup is p or more.
 pub fn add_ops(counters: &mut [u64], ops: &[u64]) -> Result<(), Refusal> {
     ffi::add_ops(counters, ops).named(|number, place| match number {
         TOO_SHORT => "counters",
-        NOT_ELEMENT if is_large_at(place, &counters[..NUM_COUNTERS]) => "counters",
+        NOT_ELEMENT if !is_no_byte_at(place, ops) => "counters",
         _ => "ops",
     })
 }
@@ -348,18 +348,18 @@ pub fn fill_multiplicities(counters: &[u64], table: &mut [u64]) -> Result<(), Re
 ///
 /// [`PastEnd`](Refusal::PastEnd): the first lookup whose kind is 10 or more, or whose Z is 16 or more;
 /// [`NotWhole`](Refusal::NotWhole): `ops` is not whole lookups; [`TooShort`](Refusal::TooShort): `table` has fewer than 22,020,096
-/// words; [`NotElement`](Refusal::NotElement): a multiplicity, charged or not, is p or more, then X or Y of a lookup is 256 or more.
+/// words; [`NotElement`](Refusal::NotElement): X or Y of a lookup is 256 or more, then the multiplicity of a lookup is p or more.
 pub fn update_multiplicities(table: &mut [u64], ops: &[u64]) -> Result<(), Refusal> {
     ffi::bitwise_update_multiplicities(table, ops).named(|number, place| match number {
         TOO_SHORT => "table",
-        NOT_ELEMENT if is_multiplicity(place) && is_large_at(place, &table[..TABLE_WORDS]) => "table",
+        NOT_ELEMENT if !is_no_byte_at(place, ops) => "table",
         _ => "ops",
     })
 }
 
-/// Whether a place of the table is that of a multiplicity: the fixed columns are not read.
-fn is_multiplicity(place: u64) -> bool {
-    place % NUM_COLUMNS as u64 >= NUM_PRECOMPUTED_COLS as u64
+/// Whether a list of lookups has an X or a Y at that place that is no byte: they are looked at before what they charge.
+fn is_no_byte_at(place: u64, ops: &[u64]) -> bool {
+    matches!(place % LOOKUP_WORDS as u64, 1 | 2) && word_at(place, ops).is_some_and(|word| word >= 256)
 }
 
 /// Tuple `index` of a row of 21 columns; its values go to the front of `out`.

@@ -115,8 +115,8 @@ pub fn generate_is_wh_trace(rows: &[u64], table: &mut [u64]) -> Result<(), Refus
 /// # Errors
 ///
 /// [`PastEnd`](Refusal::PastEnd) and [`NotWhole`](Refusal::NotWhole) as [`generate_is_wh_trace`]; [`TooShort`](Refusal::TooShort):
-/// `counters` has fewer than 10,485,760 words; [`NotElement`](Refusal::NotElement): a word of `rows` as there, then a counter, charged
-/// or not, is p or more.
+/// `counters` has fewer than 10,485,760 words; [`NotElement`](Refusal::NotElement): a word of `rows` as there, then a counter that is
+/// charged is p or more. Every other counter may hold any word.
 pub fn collect_bitwise_from_is_wh(rows: &[u64], counters: &mut [u64]) -> Result<(), Refusal> {
     ffi::collect_bitwise_from_is_wh(rows, counters).named(|number, place| match number {
         TOO_SHORT => "counters",
@@ -190,8 +190,8 @@ impl IsWhRows {
     ///
     /// # Errors
     ///
-    /// [`TooShort`](Refusal::TooShort): `counters` has fewer than 10,485,760 words; [`NotElement`](Refusal::NotElement): a counter is p
-    /// or more.
+    /// [`TooShort`](Refusal::TooShort): `counters` has fewer than 10,485,760 words; [`NotElement`](Refusal::NotElement): a counter that is
+    /// charged is p or more.
     pub fn charge(&self, counters: &mut [u64]) -> Result<(), Refusal> {
         collect_bitwise_from_is_wh(&self.0, counters)
     }

@@ -6,7 +6,7 @@ use keccak_tables::job::{job, job_alone, job_within};
 use keccak_tables::operation_file::{read_operations, write_operations};
 use keccak_tables::same_operations::{Agreement, same_operations};
 use keccak_tables::verdict::{
-    verdict, verdict_alone_with, verdict_line_alone, verdict_line_with, verdict_line_within, verdict_with,
+    LINE_MOST, verdict, verdict_alone_with, verdict_line_alone, verdict_line_with, verdict_line_within, verdict_with,
     verdict_within,
 };
 use keccak_tables::{Lent, OP_WORDS, P, Parameters, Refusal, is_wh, keccak, keccak_rc, keccak_rnd, registers, segment};
@@ -150,18 +150,25 @@ fn counters_before_the_table_that_they_fill() {
     assert_eq!(fill(&counters, TABLE_WORDS), not_element("counters", 0));
 }
 
+/// The place of a counter can be that of an X or a Y.
 #[test]
-fn counters_before_the_words_of_lookups() {
-    let ops = [3, 1, 2, 0, 3, 256, 2, 0];
+fn the_words_of_lookups_before_the_counters() {
+    let mut ops = [3, 1, 2, 0, 3, 256, 2, 0];
     let mut counters = vec![0; NUM_COUNTERS + 4];
+    counters[5_133] = P;
     assert_eq!(bitwise::add_ops(&mut counters, &ops), not_element("ops", 5));
-    counters[4] = P;
-    assert_eq!(bitwise::add_ops(&mut counters, &ops), not_element("counters", 4));
-    counters[4] = 0;
-    counters[5] = P;
-    assert_eq!(bitwise::add_ops(&mut counters, &ops), not_element("counters", 5));
+    ops[5] = 1;
+    assert_eq!(bitwise::add_ops(&mut counters, &ops), not_element("counters", 5_133));
+    for kind in [1, 2, 5, 6] {
+        counters[kind as usize] = P;
+        let refused = bitwise::add_ops(&mut counters, &[3, 1, 2, 0, kind, 0, 0, 0]);
+        assert_eq!(refused, not_element("counters", kind));
+    }
+    // A counter that is not charged is not read.
+    counters[5_133] = 0;
+    assert_eq!(bitwise::add_ops(&mut counters, &ops), Ok(()));
+    assert_eq!((counters[5_133], counters[5], counters[6]), (2, P, P));
     // A list longer than the counters: its word stands where they have one that is not read.
-    counters[5] = 0;
     counters[NUM_COUNTERS + 1] = P;
     let mut long = vec![0; NUM_COUNTERS + 4];
     long[NUM_COUNTERS + 1] = 256;
@@ -171,22 +178,30 @@ fn counters_before_the_words_of_lookups() {
 
 /// The place of a lookup's word can be that of a fixed column, which is not read, or of a multiplicity.
 #[test]
-fn multiplicities_before_the_words_of_lookups() {
+fn the_words_of_lookups_before_the_multiplicities() {
     let mut table = vec![0; TABLE_WORDS];
-    table[..11].fill(P);
+    table[..14].fill(P);
     let mut ops = [0; 16];
-    ops[13] = 256;
-    assert_eq!(bitwise::update_multiplicities(&mut table, &ops), not_element("ops", 13));
-    table[13] = P;
-    let refused = bitwise::update_multiplicities(&mut table, &ops);
-    assert_eq!(refused, not_element("table", 13));
-    table[13] = P - 1;
-    for place in [1, 2, 5, 6, 9, 10] {
+    for place in [1, 2, 5, 6, 9, 10, 13, 14] {
         ops[place] = 256;
         let refused = bitwise::update_multiplicities(&mut table, &ops);
         assert_eq!(refused, not_element("ops", place as u64));
-        ops[place] = 255;
+        ops[place] = 0;
     }
+    assert_eq!(
+        bitwise::update_multiplicities(&mut table, &ops),
+        not_element("table", 11)
+    );
+    table[11] = 0;
+    ops[0] = 2;
+    assert_eq!(
+        bitwise::update_multiplicities(&mut table, &ops),
+        not_element("table", 13)
+    );
+    // One that is not charged is not read.
+    table[13] = P - 1;
+    assert_eq!(bitwise::update_multiplicities(&mut table, &ops), Ok(()));
+    assert_eq!(table[10..15], [P, 3, P, 0, 0]);
 }
 
 #[test]
@@ -214,19 +229,29 @@ fn the_words_of_rows_before_the_counters() {
     counters[..6].fill(P);
     let highest = [(1 << 32) - 1, (1 << 16) - 1, (1 << 20) - 1].repeat(2);
     let mut collect = |rows: &[u64]| is_wh::collect_bitwise_from_is_wh(rows, &mut counters);
-    assert_eq!(collect(&[]), not_element("counters", 0));
-    assert_eq!(collect(&highest), not_element("counters", 0));
+    assert_eq!(collect(&[]), Ok(()));
+    assert_eq!(collect(&highest), not_element("counters", 5));
     for place in 0..6 {
         let mut rows = highest.clone();
         rows[place] += 1;
         assert_eq!(collect(&rows), not_element("rows", place as u64));
     }
-    for place in 0..6 {
+    // IsB20 of 0, which the padding sends, and of the highest count; IsHalfword of the highest.
+    for place in [5, 655_354, 10_485_755] {
         let mut counters = vec![0; NUM_COUNTERS];
         counters[place] = P;
         let refused = is_wh::collect_bitwise_from_is_wh(&highest, &mut counters);
         assert_eq!(refused, not_element("counters", place as u64));
     }
+    let mut counters = vec![P; NUM_COUNTERS];
+    for (place, count) in [(5, 2), (655_354, 6 * ((1 << 20) - 1)), (10_485_755, 2)] {
+        counters[place] = P - count;
+    }
+    assert_eq!(is_wh::collect_bitwise_from_is_wh(&highest, &mut counters), Ok(()));
+    for place in [5, 655_354, 10_485_755] {
+        assert_eq!(std::mem::replace(&mut counters[place], P), 0);
+    }
+    assert!(counters.iter().all(|word| *word == P));
 }
 
 /// The list, then the counters, the copy and what is written, then an address, then a counter.
@@ -335,19 +360,30 @@ fn a_core_table_before_a_round_table() {
     assert_eq!(verdict_line_alone(&[], &[], &mut []), too_short("line", 7));
 }
 
-/// The tables' rows, then the scratch, whichever part of it is short, then the tables' words, then the line.
+/// The tables' rows, then the line, then the scratch, whichever part of it is short, then the tables' words.
 #[test]
-fn a_scratch_before_the_words_of_tables_before_a_line() {
+fn a_line_before_a_scratch_before_the_words_of_tables() {
     let (mut core, mut round) = (vec![0; 486], vec![0; 2 * 1480]);
     core[9] = P;
     round[7] = P;
     let mut scratch = [0; 13];
     let not_whole = |argument, which| Err(Refusal::NotWhole { argument, which });
     let mut judge = |core: &[u64], round: &[u64], words: usize| {
-        let line = verdict_line_within(core, round, &mut [], &mut scratch[..words]).map(drop);
+        let mut line = [0; LINE_MOST];
         let verdict = verdict_within(core, round, &mut scratch[..words]).map(drop);
-        assert!(line == verdict || (line, verdict) == (too_short("line", 7), Ok(())));
-        line
+        let lined = verdict_line_within(core, round, &mut line, &mut scratch[..words]).map(drop);
+        assert_eq!(lined, verdict);
+        let short = verdict_line_within(core, round, &mut line[1..], &mut scratch[..words]).map(drop);
+        let rows = matches!(verdict, Err(Refusal::NotWhole { .. }));
+        assert_eq!(
+            short,
+            if rows {
+                verdict
+            } else {
+                too_short("line", LINE_MOST as u64)
+            }
+        );
+        verdict
     };
     assert_eq!(judge(&core[1..], &round[1..], 0), not_whole("core", Lent::Core));
     assert_eq!(judge(&core, &round[1..], 0), not_whole("round", Lent::Round));
@@ -359,8 +395,8 @@ fn a_scratch_before_the_words_of_tables_before_a_line() {
     assert_eq!(judge(&core, &round, 13), not_element("round", 7));
     round[7] = 0;
     assert_eq!(judge(&core, &round, 11), too_short("scratch", 12));
-    assert_eq!(judge(&core, &round, 12), too_short("line", 7));
-    assert_eq!(judge(&[], &[], 0), too_short("line", 7));
+    assert_eq!(judge(&core, &round, 12), Ok(()));
+    assert_eq!(judge(&[], &[], 0), Ok(()));
 }
 
 /// The tables' rows, then the counts, then the report, then a scratch, then the tables' words.

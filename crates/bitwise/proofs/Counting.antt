@@ -19,17 +19,17 @@ use Rattle.bitwise.proofs.Counters.{charge-row}
 use Rattle.bitwise.proofs.Refusals.{trace-accepted, merge-accepted, fill-accepted}
 use Rattle.bitwise.proofs.Histogram.{charge-first, charge-last, merged-elements}
 use Rattle.bitwise.proofs.Table.{filled-fixed, filled-past, filled-length, trace-mu}
-use Rattle.bitwise.proofs.Lookups.{lookup-lt, each-length, by-column, filled-at, filled-each, mu-is}
-use Rattle.bitwise.proofs.LookupRefusals.{Lookups, MuTable, add-accepted, update-accepted}
-
--- every lookup of a list that is accepted has a counter
-counters-of : (ops : List ℕ) → Lookups ops → (i : ℕ) → i < lookupCount ops → lookupCounter ops i < NUM-COUNTERS
-counters-of ops h i l = lookup-lt ops i (h .each i l)
+use Rattle.bitwise.proofs.Lookups.{each-length, by-column, filled-at, filled-each, mu-is}
+use Rattle.bitwise.proofs.LookupRefusals.{Lookups, ChargedBelow, counters-of, add-accepted, update-accepted}
 
 each-row : (at : ℕ → ℕ) (n : ℕ) (words : List ℕ) → ElementRow NUM-COUNTERS words → ElementRow NUM-COUNTERS (chargeEach at n words)
 unfolding chargeEach
 each-row at zero words e = e
 each-row at (suc i) words e = charge-row (chargeEach at i words) (at i) 1 NUM-COUNTERS (each-row at i words e)
+
+-- counters that are all below p take any list of lookups
+adds-to : (ops words : List ℕ) → ElementRow NUM-COUNTERS words → Lookups ops → addOpsRefusal words ops ≡ accepted
+adds-to ops words e h = add-accepted words ops .1 (e .long, h, λ i l. e .below (lookupCounter ops i) (counters-of ops h i l))
 
 -- ---- filled after counting is counted after filling
 module _ (counters table ops : List ℕ) (fits : fillRefusal counters table ≡ accepted) (adds : addOpsRefusal counters ops ≡ accepted) where
@@ -49,17 +49,17 @@ module _ (counters table ops : List ℕ) (fits : fillRefusal counters table ≡ 
       ap (λ (l : List ℕ). fillRefusal l table) (left (addedOps counters ops) counters adds)
       ∙ fill-accepted (addedOps counters ops) table .1 (each-row (lookupCounter ops) (lookupCount ops) counters row, whole)
 
-  filled-mus : MuTable (filled counters table)
-  filled-mus =
-      record {
-        long = omega (arith, filled-length counters table whole, whole);
-        below = λ i l. let e = filled-at table whole counters i l in omega (arith, e, row .below i l);
-      }
+  -- the multiplicities that the list charges are the counters'
+  mus-below : ChargedBelow (λ c. word (filled counters table) (muAt c)) ops
+  mus-below i l =
+      let b = counters-of ops list i l in
+      let e = filled-at table whole counters (lookupCounter ops i) b in
+      omega (arith, e, row .below (lookupCounter ops i) b)
 
   pub update-last : updateRefusal (fillAfter counters table) ops ≡ accepted
   update-last =
       ap (λ (l : List ℕ). updateRefusal l ops) (left (filled counters table) table fits)
-      ∙ update-accepted (filled counters table) ops .1 (filled-mus, list)
+      ∙ update-accepted (filled counters table) ops .1 (omega (arith, filled-length counters table whole, whole), list, mus-below)
 
   pub fill-updates : fillAfter (addOpsAfter counters ops) table ≡ updateAfter (fillAfter counters table) ops
   unfolding addedOps updatedMus
@@ -125,15 +125,12 @@ module _ (a b : List ℕ) (at : ℕ → ℕ) where
       charge-last a (chargeEach at i b) la (omega (arith, each-length at i b, lb)) (at i) 1 (h i (omega arith))
       ∙ ap (λ (l : List ℕ). charge l (at i) 1) (each-last i la lb (λ j l. h j (omega arith)))
 
-module _ (a b ops more : List ℕ) (adds : addOpsRefusal a ops ≡ accepted) (adds-more : addOpsRefusal b more ≡ accepted) where
+module _ (a b ops more : List ℕ) (merges : mergeRefusal a b ≡ accepted) (adds : addOpsRefusal a ops ≡ accepted) (adds-more : addOpsRefusal b more ≡ accepted) where
   row-a : ElementRow NUM-COUNTERS a
-  row-a = add-accepted a ops .0 adds .0
+  row-a = merge-accepted a b .0 merges .0
 
   row-b : ElementRow NUM-COUNTERS b
-  row-b = add-accepted b more .0 adds-more .0
-
-  merges : mergeRefusal a b ≡ accepted
-  merges = merge-accepted a b .1 (row-a, row-b)
+  row-b = merge-accepted a b .0 merges .1
 
   in-a : ElementRow NUM-COUNTERS (addedOps a ops)
   unfolding addedOps
@@ -161,9 +158,7 @@ module _ (a b ops more : List ℕ) (adds : addOpsRefusal a ops ≡ accepted) (ad
       row = merged-elements a b (row-a .long)
 
       once : addOpsRefusal (merged a b) ops ≡ accepted
-      once = add-accepted (merged a b) ops .1 (row, add-accepted a ops .0 adds .1)
+      once = adds-to ops (merged a b) row (add-accepted a ops .0 adds .1)
 
       twice : addOpsRefusal (addedOps (merged a b) ops) more ≡ accepted
-      twice =
-          add-accepted (addedOps (merged a b) ops) more .1
-          (each-row (lookupCounter ops) (lookupCount ops) (merged a b) row, add-accepted b more .0 adds-more .1)
+      twice = adds-to more (addedOps (merged a b) ops) (each-row (lookupCounter ops) (lookupCount ops) (merged a b) row) (add-accepted b more .0 adds-more .1)

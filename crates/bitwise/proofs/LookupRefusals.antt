@@ -7,24 +7,20 @@ use mathlib.Core.List.{List}
 use mathlib.Core.Option.{Option, none, some}
 use Prim.Native.Nat.{ℕ, _+_, _*_, _%_, _≤_, _<_}
 use native.Mathlib.Omega.{arith}
-use borrow.Author.Tests.{leb-false, ltb-false, le-leb, lt-leb, lt-ltb, le-ltb, eq-eqb, ne-eqb, eqb-true, not-false}
+use borrow.Author.Tests.{ltb-false, lt-ltb, le-ltb, eq-eqb, ne-eqb, eqb-true, not-false}
 use lib.Dec.{eqb}
 use lib.ListN.{length}
 use Rattle.lists.specs.Tab.{word}
 use Rattle.lists.specs.First.{first, firstAt}
-use Rattle.lists.proofs.First.{first-hit, first-none, at-clear, at-nothing, at-hit}
+use Rattle.lists.proofs.First.{first-hit, first-none}
 use Rattle.field.specs.Field.{p}
-use Rattle.field.specs.Elements.{ElementRow}
-use Rattle.field.proofs.NotElement.{all-elements, none-found, first-found}
 use Rattle.answer.specs.Refusal.{refuseIf, refuseAt, accepted, tooShort}
 use Rattle.answer.specs.declared.Refusal.{Refusal}
 use Rattle.answer.specs.declared.Refusal.the-variants.{PastEnd, NotWhole, TooShort, NotElement}
 use Rattle.answer.proofs.Laws.{refuse-yes, refuse-no, at-yes, at-no, passed-if, passed-at}
-use Rattle.bitwise.specs.Lookups.{Lookup, lookupCount, kindOf, xOf, yOf, zOf, pastAt, notByteAt, lookupPast, lookupsCut, lookupNotByte, addOpsRefusal, muAt, notElementMu, updateRefusal}
-use Rattle.bitwise.specs.Counters.{charge}
-use Rattle.bitwise.proofs.Counters.{charge-length, charge-below}
-use Rattle.bitwise.proofs.Refusals.{FirstLarge}
-use Rattle.bitwise.proofs.Lookups.{lookups-are, none-not-byte, past-kind, past-z, past-none, byte-x, byte-y, byte-none, mu-lt}
+use Rattle.bitwise.specs.Lookups.{Lookup, lookupCount, kindOf, xOf, yOf, zOf, pastAt, notByteAt, lookupPast, lookupsCut, lookupNotByte, lookupCounter, namedIn, addOpsRefusal, muAt, updateRefusal}
+use Rattle.bitwise.specs.Counters.{largeCharged}
+use Rattle.bitwise.proofs.Lookups.{lookups-are, none-not-byte, past-kind, past-z, past-none, byte-x, byte-y, byte-none, lookup-lt, named-clear, named-below, named-first}
 
 -- ---- the checks of a list, whatever the later ones say
 
@@ -57,12 +53,12 @@ Bytes ops n = (i : ℕ) → i < n → (xOf ops i < 256) × (yOf ops i < 256)
 bytes-none : (ops : List ℕ) (n : ℕ) → Bytes ops n → first (notByteAt ops) n ≡ none
 bytes-none ops n h = first-none (notByteAt ops) n (λ i l. byte-none ops i (h i l .0) (h i l .1))
 
-module _ (ops : List ℕ) (i : ℕ) (l : i < lookupCount ops) (e : Bytes ops i) where
-  pub list-x : 256 ≤ xOf ops i → lookupNotByte ops accepted ≡ some (NotElement (4 * i + 1))
-  list-x h = at-yes _ accepted (first-hit (notByteAt ops) i (lookupCount ops) (4 * i + 1) l (bytes-none ops i e) (byte-x ops i h))
+module _ (ops : List ℕ) (later : Option Refusal) (i : ℕ) (l : i < lookupCount ops) (e : Bytes ops i) where
+  pub list-x : 256 ≤ xOf ops i → lookupNotByte ops later ≡ some (NotElement (4 * i + 1))
+  list-x h = at-yes _ later (first-hit (notByteAt ops) i (lookupCount ops) (4 * i + 1) l (bytes-none ops i e) (byte-x ops i h))
 
-  pub list-y : xOf ops i < 256 → 256 ≤ yOf ops i → lookupNotByte ops accepted ≡ some (NotElement (4 * i + 2))
-  list-y x h = at-yes _ accepted (first-hit (notByteAt ops) i (lookupCount ops) (4 * i + 2) l (bytes-none ops i e) (byte-y ops i x h))
+  pub list-y : xOf ops i < 256 → 256 ≤ yOf ops i → lookupNotByte ops later ≡ some (NotElement (4 * i + 2))
+  list-y x h = at-yes _ later (first-hit (notByteAt ops) i (lookupCount ops) (4 * i + 2) l (bytes-none ops i e) (byte-y ops i x h))
 
 -- ---- a whole list of lookups
 pub record Lookups (ops : List ℕ) : Type 0 where
@@ -72,9 +68,26 @@ pub record Lookups (ops : List ℕ) : Type 0 where
 early : (ops : List ℕ) → Lookups ops → Early ops (lookupCount ops)
 early ops h i l = (h .each i l .kind-below, h .each i l .z-below)
 
+-- the counter of each lookup has a word below p
+abbrev pub ChargedBelow : (ℕ → ℕ) → List ℕ → Type 0
+ChargedBelow words ops = (i : ℕ) → i < lookupCount ops → words (lookupCounter ops i) < p
+
+-- lookup i has the first counter that is p or more
+pub record FirstCharged (words : ℕ → ℕ) (ops : List ℕ) (i : ℕ) : Type 0 where
+  pub there : i < lookupCount ops
+  pub large : p ≤ words (lookupCounter ops i)
+  pub lower : (j : ℕ) → j < lookupCount ops → lookupCounter ops j < lookupCounter ops i → words (lookupCounter ops j) < p
+
+module _ (ops : List ℕ) (h : Lookups ops) where
+  pub counters-of : (i : ℕ) → i < lookupCount ops → lookupCounter ops i < 10485760
+  counters-of i l = lookup-lt ops i (h .each i l)
+
+  found-first : (words : ℕ → ℕ) (i : ℕ) → FirstCharged words ops i → firstAt (largeCharged (namedIn ops (lookupCount ops)) words) 10485760 ≡ some (lookupCounter ops i)
+  found-first words i f = named-first ops words (lookupCount ops) 10485760 i (f .there) (counters-of i (f .there)) (f .large) (f .lower)
+
 -- ---- `add_ops`
 module _ (counters ops : List ℕ) where
-  pub add-accepted : (addOpsRefusal counters ops ≡ accepted) ↔ (ElementRow 10485760 counters × Lookups ops)
+  pub add-accepted : (addOpsRefusal counters ops ≡ accepted) ↔ ((10485760 ≤ length counters) × Lookups ops × ChargedBelow (word counters) ops)
   unfolding addOpsRefusal
   add-accepted = (
     (λ e.
@@ -82,15 +95,14 @@ module _ (counters ops : List ℕ) where
         let b = passed-if _ _ _ (a .1) in
         let c = passed-if _ _ _ (b .1) in
         let d = passed-at _ _ _ (c .1) in
-        let f = passed-at _ _ _ (d .1) in (
-          record { long = ltb-false (length counters) 10485760 (c .0); below = all-elements counters 10485760 (d .0) },
-          record { whole = eqb-true _ _ (not-false _ (b .0)); each = lookups-are ops (lookupCount ops) (a .0) (f .0) },
-        )),
+        let f = passed-at _ _ _ (d .1) in
+        let list : Lookups ops = record { whole = eqb-true _ _ (not-false _ (b .0)); each = lookups-are ops (lookupCount ops) (a .0) (d .0) } in
+        (ltb-false (length counters) 10485760 (c .0), list, named-clear ops (word counters) (lookupCount ops) 10485760 (counters-of ops list) (f .0))),
     λ h.
         list-clear ops _ (early ops (h .1)) (h .1 .whole)
-        (refuse-no _ (le-ltb (length counters) 10485760 (h .0 .long))
-        (at-no _ (none-found counters 10485760 (h .0 .below))
-        (at-no _ (none-not-byte ops (lookupCount ops) (h .1 .each)) refl))),
+        (refuse-no _ (le-ltb (length counters) 10485760 (h .0))
+        (at-no _ (none-not-byte ops (lookupCount ops) (h .1 .each))
+        (at-no _ (named-below ops (word counters) (lookupCount ops) 10485760 (h .2)) refl))),
   )
 
   -- behind the first two checks, which are the list's (`list-kind`, `list-z`, `list-cut`)
@@ -99,37 +111,26 @@ module _ (counters ops : List ℕ) where
     unfolding addOpsRefusal
     add-short h = list-clear ops _ e w (refuse-yes _ _ (lt-ltb (length counters) 10485760 h))
 
-    pub add-large : 10485760 ≤ length counters → (k : ℕ) → FirstLarge counters 10485760 k → addOpsRefusal counters ops ≡ some (NotElement k)
-    unfolding addOpsRefusal
-    add-large m k f =
-        list-clear ops _ e w
-        (refuse-no _ (le-ltb (length counters) 10485760 m)
-        (at-yes _ _ (first-found counters 10485760 k (f .there) (f .fails) (f .lower))))
-
     -- then the list by 5: `list-x`, `list-y`
-    pub add-bytes : ElementRow 10485760 counters → addOpsRefusal counters ops ≡ lookupNotByte ops accepted
+    pub add-bytes : {o : Option Refusal} → 10485760 ≤ length counters → ((later : Option Refusal) → lookupNotByte ops later ≡ o) → addOpsRefusal counters ops ≡ o
     unfolding addOpsRefusal
-    add-bytes h =
-        list-clear ops _ e w
-        (refuse-no _ (le-ltb (length counters) 10485760 (h .long))
-        (at-no _ (none-found counters 10485760 (h .below)) refl))
+    add-bytes h q = list-clear ops _ e w (refuse-no _ (le-ltb (length counters) 10485760 h) (q _))
+
+  -- then the first counter
+  pub add-large : 10485760 ≤ length counters → Lookups ops → (i : ℕ) → FirstCharged (word counters) ops i → addOpsRefusal counters ops ≡ some (NotElement (lookupCounter ops i))
+  unfolding addOpsRefusal
+  add-large m h i f =
+      list-clear ops _ (early ops h) (h .whole)
+      (refuse-no _ (le-ltb (length counters) 10485760 m)
+      (at-no _ (none-not-byte ops (lookupCount ops) (h .each)) (at-yes _ _ (found-first ops h (word counters) i f))))
 
 -- ---- `update_multiplicities`
--- the words of the table that are the counters'
-pub record MuTable (table : List ℕ) : Type 0 where
-  pub long : 22020096 ≤ length table
-  pub below : (i : ℕ) → i < 10485760 → word table (muAt i) < p
-
-mus-none : (table : List ℕ) (n : ℕ) → ((i : ℕ) → i < n → word table (muAt i) < p) → firstAt (notElementMu table) n ≡ none
-unfolding notElementMu
-mus-none table n h = at-nothing (notElementMu table) n (λ i l. lt-leb p (word table (muAt i)) (h i l))
-
-pub mus-clear : (table : List ℕ) (n : ℕ) → firstAt (notElementMu table) n ≡ none → (i : ℕ) → i < n → word table (muAt i) < p
-unfolding notElementMu
-mus-clear table n e i l = leb-false p (word table (muAt i)) (at-clear (notElementMu table) n i e l)
-
 module _ (table ops : List ℕ) where
-  pub update-accepted : (updateRefusal table ops ≡ accepted) ↔ (MuTable table × Lookups ops)
+  -- the words of the table that are the counters'
+  abbrev mus : ℕ → ℕ
+  mus c = word table (muAt c)
+
+  pub update-accepted : (updateRefusal table ops ≡ accepted) ↔ ((22020096 ≤ length table) × Lookups ops × ChargedBelow (λ c. word table (muAt c)) ops)
   unfolding updateRefusal
   update-accepted = (
     (λ e.
@@ -137,15 +138,14 @@ module _ (table ops : List ℕ) where
         let b = passed-if _ _ _ (a .1) in
         let c = passed-if _ _ _ (b .1) in
         let d = passed-at _ _ _ (c .1) in
-        let f = passed-at _ _ _ (d .1) in (
-          record { long = ltb-false (length table) 22020096 (c .0); below = mus-clear table 10485760 (d .0) },
-          record { whole = eqb-true _ _ (not-false _ (b .0)); each = lookups-are ops (lookupCount ops) (a .0) (f .0) },
-        )),
+        let f = passed-at _ _ _ (d .1) in
+        let list : Lookups ops = record { whole = eqb-true _ _ (not-false _ (b .0)); each = lookups-are ops (lookupCount ops) (a .0) (d .0) } in
+        (ltb-false (length table) 22020096 (c .0), list, named-clear ops mus (lookupCount ops) 10485760 (counters-of ops list) (f .0))),
     λ h.
         list-clear ops _ (early ops (h .1)) (h .1 .whole)
-        (refuse-no _ (le-ltb (length table) 22020096 (h .0 .long))
-        (at-no _ (mus-none table 10485760 (h .0 .below))
-        (at-no _ (none-not-byte ops (lookupCount ops) (h .1 .each)) refl))),
+        (refuse-no _ (le-ltb (length table) 22020096 (h .0))
+        (at-no _ (none-not-byte ops (lookupCount ops) (h .1 .each))
+        (at-no _ (named-below ops mus (lookupCount ops) 10485760 (h .2)) refl))),
   )
 
   module _ (e : Early ops (lookupCount ops)) (w : length ops % 4 ≡ 0) where
@@ -153,29 +153,17 @@ module _ (table ops : List ℕ) where
     unfolding updateRefusal
     update-short h = list-clear ops _ e w (refuse-yes _ _ (lt-ltb (length table) 22020096 h))
 
-    -- the detail is the place in the table
-    pub update-large : 22020096 ≤ length table → (i : ℕ) → i < 10485760 → p ≤ word table (muAt i) → ((j : ℕ) → j < i → word table (muAt j) < p)
-        → updateRefusal table ops ≡ some (NotElement (muAt i))
-    unfolding updateRefusal notElementMu
-    update-large m i l h lower =
-        list-clear ops _ e w
-        (refuse-no _ (le-ltb (length table) 22020096 m)
-        (at-yes _ _ (at-hit (notElementMu table) i 10485760 l (mus-none table i lower) (le-leb p (word table (muAt i)) h))))
-
-    pub update-bytes : MuTable table → updateRefusal table ops ≡ lookupNotByte ops accepted
+    pub update-bytes : {o : Option Refusal} → 22020096 ≤ length table → ((later : Option Refusal) → lookupNotByte ops later ≡ o) → updateRefusal table ops ≡ o
     unfolding updateRefusal
-    update-bytes h =
-        list-clear ops _ e w
-        (refuse-no _ (le-ltb (length table) 22020096 (h .long))
-        (at-no _ (mus-none table 10485760 (h .below)) refl))
+    update-bytes h q = list-clear ops _ e w (refuse-no _ (le-ltb (length table) 22020096 h) (q _))
 
--- one more on a word leaves it so
-pub mu-row : (table : List ℕ) (at n : ℕ) → MuTable table → MuTable (charge table at n)
-mu-row table at n h =
-    record {
-      long = omega (arith, charge-length table at n, h .long);
-      below = λ i l. charge-below table at n (muAt i) (omega (arith, mu-lt i l, h .long)) (h .below i l);
-    }
+  -- the detail is the place in the table
+  pub update-large : 22020096 ≤ length table → Lookups ops → (i : ℕ) → FirstCharged (λ c. word table (muAt c)) ops i → updateRefusal table ops ≡ some (NotElement (muAt (lookupCounter ops i)))
+  unfolding updateRefusal
+  update-large m h i f =
+      list-clear ops _ (early ops h) (h .whole)
+      (refuse-no _ (le-ltb (length table) 22020096 m)
+      (at-no _ (none-not-byte ops (lookupCount ops) (h .each)) (at-yes _ _ (found-first ops h mus i f))))
 
 -- ---- a call whose first three checks another function made
 module _ (ops : List ℕ) (room needed : ℕ) where

@@ -1,6 +1,6 @@
 -- Lookups that are counted: what the checks of a list say, and that counting into the counters and filling the table after it
 -- is counting into the table.
-use mathlib.Core.Path.{_≡_, refl, sym, ap, _∙_}
+use mathlib.Core.Path.{_≡_, refl, sym, ap, subst, _∙_}
 use mathlib.Core.Bool.{Bool, true, false}
 use mathlib.Core.List.{List}
 use mathlib.Core.Option.{none, some, orElse}
@@ -8,22 +8,23 @@ use Prim.Native.Nat.{ℕ, zero, suc, _+_, _-_, _*_, _/_, _%_, _≤_, _<_}
 use native.Mathlib.Nat.{add-zero, add-assoc, mod-add-mod, mod-eq-of-lt}
 use native.Mathlib.Numerals.{add-one}
 use native.Mathlib.Omega.{arith}
-use borrow.Author.Tests.{leb-false, le-leb, lt-leb, eq-eqb, ne-eqb}
+use borrow.Author.Tests.{leb-false, le-leb, lt-leb, eq-eqb, ne-eqb, eqb-true}
 use lib.Dec.{leb, eqb}
 use lib.ListN.{length}
 use lib.Seq.{ext-getD}
 use Rattle.lists.specs.Tab.{pick, word}
-use Rattle.lists.specs.First.{when, first, countBelow}
+use Rattle.lists.specs.First.{when, first, firstAt, countBelow}
 use Rattle.lists.proofs.Then.{by-le}
 use Rattle.lists.proofs.Kept.{by-eq}
 use Rattle.lists.proofs.First.{first-clear, first-none}
 use Rattle.field.specs.Field.{p}
 use Rattle.bitwise.specs.Columns.{NUM-ROWS, NUM-COUNTERS, TABLE-WORDS}
-use Rattle.bitwise.specs.Counters.{charge}
+use Rattle.bitwise.specs.Counters.{charge, largeCharged}
 use Rattle.bitwise.specs.Table.{filled}
-use Rattle.bitwise.specs.Lookups.{Lookup, kindOf, xOf, yOf, zOf, pastAt, notByteAt, chargeEach, lookupCounter, muAt}
+use Rattle.bitwise.specs.Lookups.{Lookup, kindOf, xOf, yOf, zOf, pastAt, notByteAt, chargeEach, lookupCounter, namedIn, muAt}
 use Rattle.bitwise.proofs.Numbers.{mu-column-at}
-use Rattle.bitwise.proofs.Counters.{counter-lt, charge-length, charge-same, charge-other}
+use Rattle.bitwise.proofs.Counters.{counter-lt, charge-length, charge-same, charge-other, charge-below}
+use Rattle.bitwise.proofs.Large.{large-none, large-clear, large-first, count-some, some-counted}
 use Rattle.bitwise.proofs.Table.{filled-count, filled-fixed, filled-past, filled-length}
 
 -- ---- one of two tests, the first before the second
@@ -99,6 +100,46 @@ none-not-byte ops n h = first-none (notByteAt ops) n (λ i l. byte-none ops i (h
 pub lookup-lt : (ops : List ℕ) (i : ℕ) → Lookup ops i → lookupCounter ops i < NUM-COUNTERS
 lookup-lt ops i l = counter-lt (kindOf ops i) (xOf ops i) (yOf ops i) (zOf ops i) (l .kind-below) (l .x-below) (l .y-below) (l .z-below)
 
+-- ---- the counters that a list charges
+module _ (ops : List ℕ) where
+  pub named-none : (c : ℕ) → namedIn ops 0 c ≡ 0
+  unfolding namedIn countBelow
+  named-none c = refl
+
+  pub named-more : (i c : ℕ) → namedIn ops i c + pick (eqb c (lookupCounter ops i)) 1 0 ≡ namedIn ops (i + 1) c
+  unfolding namedIn countBelow
+  named-more i c = one (eqb c (lookupCounter ops i)) (namedIn ops i c) ∙ ap (λ (n : ℕ). namedIn ops n c) (sym (add-one i))
+    where
+      one : (b : Bool) (n : ℕ) → n + pick b 1 0 ≡ pick b (n + 1) n
+      one true n = refl
+      one false n = add-zero n
+
+  -- the search finds nothing exactly where the word of each lookup's counter is below p
+  pub named-clear : (words : ℕ → ℕ) (n m : ℕ) → ((i : ℕ) → i < n → lookupCounter ops i < m) → firstAt (largeCharged (namedIn ops n) words) m ≡ none
+      → (i : ℕ) → i < n → words (lookupCounter ops i) < p
+  unfolding namedIn
+  named-clear words n m b e i l =
+      large-clear (namedIn ops n) words m e (lookupCounter ops i) (b i l)
+      (count-some (λ j. eqb (lookupCounter ops i) (lookupCounter ops j)) n i l (eq-eqb (lookupCounter ops i) (lookupCounter ops i) refl))
+
+  named-lower : (words : ℕ → ℕ) (n k : ℕ) → ((i : ℕ) → i < n → lookupCounter ops i < k → words (lookupCounter ops i) < p) → (c : ℕ) → c < k → 0 < namedIn ops n c → words c < p
+  unfolding namedIn
+  named-lower words n k h c l pos =
+      let x = some-counted (λ j. eqb c (lookupCounter ops j)) n pos in
+      let q : lookupCounter ops (x .0) ≡ c = sym (eqb-true c (lookupCounter ops (x .0)) (x .2)) in
+      subst (λ (j : ℕ). words j < p) q (h (x .0) (x .1) (subst (λ (j : ℕ). j < k) (sym q) l))
+
+  pub named-below : (words : ℕ → ℕ) (n m : ℕ) → ((i : ℕ) → i < n → words (lookupCounter ops i) < p) → firstAt (largeCharged (namedIn ops n) words) m ≡ none
+  named-below words n m h = large-none (namedIn ops n) words m (named-lower words n m (λ i l _. h i l))
+
+  pub named-first : (words : ℕ → ℕ) (n m i : ℕ) → i < n → lookupCounter ops i < m → p ≤ words (lookupCounter ops i)
+      → ((j : ℕ) → j < n → lookupCounter ops j < lookupCounter ops i → words (lookupCounter ops j) < p) → firstAt (largeCharged (namedIn ops n) words) m ≡ some (lookupCounter ops i)
+  unfolding namedIn
+  named-first words n m i l b big lower =
+      large-first (namedIn ops n) words m (lookupCounter ops i) b
+      (count-some (λ j. eqb (lookupCounter ops i) (lookupCounter ops j)) n i l (eq-eqb (lookupCounter ops i) (lookupCounter ops i) refl))
+      big (named-lower words n (lookupCounter ops i) lower)
+
 -- ---- one more on each of several words
 module _ (at : ℕ → ℕ) where
   pub each-more : (i : ℕ) (words : List ℕ) → charge (chargeEach at i words) (at i) 1 ≡ chargeEach at (i + 1) words
@@ -109,6 +150,12 @@ module _ (at : ℕ → ℕ) where
   unfolding chargeEach
   each-length zero words = refl
   each-length (suc i) words = charge-length (chargeEach at i words) (at i) 1 ∙ each-length i words
+
+  -- a word below p stays so
+  pub each-below : (n : ℕ) (words : List ℕ) (k : ℕ) → k < length words → word words k < p → word (chargeEach at n words) k < p
+  unfolding chargeEach
+  each-below zero words k b h = h
+  each-below (suc i) words k b h = charge-below (chargeEach at i words) (at i) 1 k (omega (arith, each-length i words, b)) (each-below i words k b h)
 
   -- a word below p is afterwards what it was and as often one more as it was named, mod p
   pub each-counts : (n : ℕ) (words : List ℕ) (k : ℕ) → k < length words → word words k < p

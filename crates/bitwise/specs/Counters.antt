@@ -1,10 +1,11 @@
 -- The counters of the lookups, ten to a row: `bump` and `bump_n`, which add to one of them, and `merge`.
 use Prim.Native.Nat.{ℕ, _+_, _*_}
+use mathlib.Core.Bool.{Bool, _&&_}
 use mathlib.Core.List.{List}
 use mathlib.Core.Option.{Option}
-use lib.Dec.{leb}
+use lib.Dec.{leb, ltb}
 use lib.ListN.{length, getD, set}
-use Rattle.lists.specs.Tab.{tab, word}
+use Rattle.lists.specs.Tab.{pick, tab, word}
 use Rattle.field.specs.Field.{p, fadd}
 use Rattle.field.specs.Elements.{firstNotElement}
 use Rattle.answer.specs.Refusal.{refuseIf, refuseAt, accepted, overwrite, afterwards, pastEnd, tooShort}
@@ -39,6 +40,14 @@ bumpNAfter counters kind x y z n =
 -- What `bump` leaves: "One call adds one to one counter mod p."
 abbrev pub bumpAfter : List ℕ → ℕ → ℕ → ℕ → ℕ → List ℕ
 bumpAfter counters kind x y z = bumpNAfter counters kind x y z 1
+
+-- "the counter charged is p or more", where several are: counter c, whose word is `words c`, if anything is added to it
+unfoldable pub largeCharged : (ℕ → ℕ) → (ℕ → ℕ) → ℕ → Bool
+largeCharged added words c = ltb 0 (added c) && leb p (words c)
+
+-- the lower of `least` and counter c, if its word w is p or more: how the first such counter is found while a list is gone through
+unfoldable pub lowerLarge : ℕ → ℕ → ℕ → ℕ
+lowerLarge w c least = pick (leb p w && ltb c least) c least
 
 -- "Merge another histogram into this one": each of the counters is the sum of the two, mod p.
 unfoldable pub merged : List ℕ → List ℕ → List ℕ

@@ -1,21 +1,19 @@
 -- Lookups lent as a flat list, four words each: kind, X, Y and Z; `add_ops`, which counts them into the counters, and
 -- `update_multiplicities`, which counts them into the table.
 use Prim.Native.Nat.{ℕ, zero, suc, _+_, _*_, _/_, _%_, _<_}
-use mathlib.Core.Bool.{Bool, not}
+use mathlib.Core.Bool.{not}
 use mathlib.Core.List.{List}
 use mathlib.Core.Option.{Option, orElse}
 use lib.Dec.{leb, eqb}
 use lib.ListN.{length}
 use Rattle.lists.specs.Tab.{word}
-use Rattle.lists.specs.First.{when, first, firstAt}
-use Rattle.field.specs.Field.{p}
-use Rattle.field.specs.Elements.{firstNotElement}
+use Rattle.lists.specs.First.{when, first, firstAt, countBelow}
 use Rattle.answer.specs.Refusal.{refuseIf, refuseAt, accepted, afterwards, tooShort}
 use Rattle.answer.specs.declared.Refusal.{Refusal}
 use Rattle.answer.specs.declared.Refusal.the-variants.{PastEnd, NotWhole, NotElement}
 use Rattle.bitwise.specs.Columns.{NUM-COLUMNS, NUM-LOOKUP-TYPES, NUM-COUNTERS, TABLE-WORDS, Z-END}
 use Rattle.bitwise.specs.Tuples.{kindAt, mu-column}
-use Rattle.bitwise.specs.Counters.{counterAt, charge}
+use Rattle.bitwise.specs.Counters.{counterAt, charge, largeCharged}
 
 -- The words of a lookup, and how many lookups a list has.
 abbrev pub LOOKUP-WORDS : ℕ
@@ -73,18 +71,23 @@ chargeEach at (suc i) words = charge (chargeEach at i words) (at i) 1
 abbrev pub lookupCounter : List ℕ → ℕ → ℕ
 lookupCounter ops i = counterAt (kindOf ops i) (xOf ops i) (yOf ops i) (zOf ops i)
 
+-- how many of the first n lookups counter c has
+unfoldable pub namedIn : List ℕ → ℕ → ℕ → ℕ
+namedIn ops n c = countBelow (λ i. eqb c (lookupCounter ops i)) n
+
 -- `add_ops`: "Fold a slice of lookups into the histogram."
 unfoldable pub addedOps : List ℕ → List ℕ → List ℕ
 addedOps counters ops = chargeEach (lookupCounter ops) (lookupCount ops) counters
 
--- What it refuses: 1 and 2 the list; 3 too few counters; 5 the first counter that is p or more, then the list.
+-- What it refuses: 1 and 2 the list; 3 too few counters; 5 the list, since no counter is charged by X or Y past a byte, then the first
+-- of the counters that are charged which is p or more. A counter that no lookup has may hold any word.
 unfoldable pub addOpsRefusal : List ℕ → List ℕ → Option Refusal
 addOpsRefusal counters ops =
     lookupPast ops
     (lookupsCut ops
     (tooShort (length counters) NUM-COUNTERS
-    (refuseAt (firstNotElement counters NUM-COUNTERS) NotElement
     (lookupNotByte ops
+    (refuseAt (firstAt (largeCharged (namedIn ops (lookupCount ops)) (word counters)) NUM-COUNTERS) NotElement
     accepted))))
 
 -- What it leaves: the counters charged, or the old ones where it is refused.
@@ -95,22 +98,19 @@ addOpsAfter counters ops = afterwards (addOpsRefusal counters ops) (addedOps cou
 unfoldable pub muAt : ℕ → ℕ
 muAt i = i / NUM-LOOKUP-TYPES * NUM-COLUMNS + mu-column (kindAt (i % NUM-LOOKUP-TYPES))
 
--- That word is p or more.
-unfoldable pub notElementMu : List ℕ → ℕ → Bool
-notElementMu table i = leb p (word table (muAt i))
-
 -- `update_multiplicities`: each lookup adds one to its row's column of its kind, mod p.
 unfoldable pub updatedMus : List ℕ → List ℕ → List ℕ
 updatedMus table ops = chargeEach (λ i. muAt (lookupCounter ops i)) (lookupCount ops) table
 
--- What it refuses: 1 and 2 the list; 3 a short table; 5 the first multiplicity that is p or more, then the list.
+-- What it refuses: 1 and 2 the list; 3 a short table; 5 the list, then the first of the multiplicities that are charged which is p or
+-- more.
 unfoldable pub updateRefusal : List ℕ → List ℕ → Option Refusal
 updateRefusal table ops =
     lookupPast ops
     (lookupsCut ops
     (tooShort (length table) TABLE-WORDS
-    (refuseAt (firstAt (notElementMu table) NUM-COUNTERS) (λ i. NotElement (muAt i))
     (lookupNotByte ops
+    (refuseAt (firstAt (largeCharged (namedIn ops (lookupCount ops)) (λ c. word table (muAt c))) NUM-COUNTERS) (λ c. NotElement (muAt c))
     accepted))))
 
 -- What it leaves: the table with the lookups counted, or the old words where it is refused.

@@ -11,7 +11,7 @@ ghost use lib.ListN.{length};
 ghost use Rattle.lists.specs.Tab.{word};
 ghost use Rattle.field.specs.Field.{p};
 ghost use Rattle.answer.specs.Refusal.{answerOf};
-ghost use Rattle.bitwise.specs.Counters.{charge, bumpRefusal, bumpNAfter, bumpAfter};
+ghost use Rattle.bitwise.specs.Counters.{charge, lowerLarge, bumpRefusal, bumpNAfter, bumpAfter};
 
 pub mod histogram;
 
@@ -22,6 +22,20 @@ pub fn charge_word(words: &mut [u64], at: usize, n: u64)
 {
     let sum = Fe { value: words[at] }.add(Fe { value: n % Fe::P });
     words[at] = sum.value;
+}
+
+// The lower of `least` and counter c, if the word that stands for it is P or more.
+pub fn lower_large(words: &[u64], at: usize, c: usize, least: usize) -> usize
+    requires { ⌜ at < length (now words) ⌝ }
+    ensures { λ r. ⌜ r ≡ lowerLarge (word (now (words .entry)) at) c least ⌝ }
+{
+    if words[at] < Fe::P {
+        return least;
+    }
+    if c >= least {
+        return least;
+    }
+    c
 }
 
 // n more, mod P, on the counter of a kind in the row of x, y and z.

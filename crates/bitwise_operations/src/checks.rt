@@ -1,4 +1,4 @@
-// The checks of a flat list of lookups, and of the table's multiplicities.
+// The checks of a flat list of lookups, and of the counters or multiplicities that it charges.
 use super::LOOKUP_WORDS;
 use answer::Answer;
 use answer::Refusal;
@@ -6,14 +6,17 @@ use bitwise::NUM_COLUMNS;
 use bitwise::NUM_COUNTERS;
 use bitwise::NUM_LOOKUP_TYPES;
 use bitwise::NUM_PRECOMPUTED_COLS;
-use field::Fe;
+use bitwise_counts::lower_large;
 use lists::Place;
 ghost use mathlib.Core.Path.{_≡_};
-ghost use Prim.Native.Nat.{_*_, _≤_, _<_};
+ghost use mathlib.Core.Option.{none};
+ghost use Prim.Native.Nat.{_+_, _*_, _≤_, _<_};
 ghost use lib.ListN.{length};
+ghost use Rattle.lists.specs.Tab.{word};
 ghost use Rattle.lists.specs.First.{first, firstAt, placeOf};
 ghost use Rattle.answer.specs.Refusal.{accepted, answerOf, tooShort};
-ghost use Rattle.bitwise.specs.Lookups.{pastAt, notByteAt, lookupPast, lookupsCut, muAt, notElementMu};
+ghost use Rattle.bitwise.specs.Counters.{largeCharged};
+ghost use Rattle.bitwise.specs.Lookups.{Lookup, pastAt, notByteAt, lookupPast, lookupsCut, lookupCounter, namedIn, muAt};
 
 // The least number refused, of the first of n lookups whose kind, or else whose z, is past its end.
 fn first_past(ops: &[u64], n: usize) -> Place
@@ -76,18 +79,51 @@ pub fn mu_at(i: usize) -> usize
     i / NUM_LOOKUP_TYPES * NUM_COLUMNS + (NUM_PRECOMPUTED_COLS + i % NUM_LOOKUP_TYPES)
 }
 
-// The first counter whose word of the table is P or more.
-pub fn first_large_mu(table: &[u64]) -> Place
-    requires { ⌜ 22020096 ≤ length (now table) ⌝ }
-    ensures { λ r. ⌜ r ≡ placeOf (firstAt (notElementMu (now (table .entry))) 10485760) ⌝ }
+// The counter of lookup i.
+pub fn counter_of(ops: &[u64], i: usize) -> usize
+    requires { ⌜ (4 * i + 4 ≤ length (now ops)) × Lookup (now ops) i ⌝ }
+    ensures { λ r. ⌜ r ≡ lookupCounter (now (ops .entry)) i ⌝ }
 {
+    let at = LOOKUP_WORDS * i;
+    let kind = ops[at];
+    let x = ops[at + 1];
+    let y = ops[at + 2];
+    let z = ops[at + 3];
+    ((x + y * 256 + z * 65536) * 10 + kind) as usize
+}
+
+// The first of the counters of n lookups that is P or more.
+pub fn first_counter(counters: &[u64], ops: &[u64], n: usize) -> Place
+    requires { ⌜ (4 * n ≤ length (now ops)) × (first (pastAt (now ops)) n ≡ none) × (first (notByteAt (now ops)) n ≡ none) × (10485760 ≤ length (now counters)) ⌝ }
+    ensures { λ r. ⌜ r ≡ placeOf (firstAt (largeCharged (namedIn (now (ops .entry)) n) (word (now (counters .entry)))) 10485760) ⌝ }
+{
+    let mut least: usize = NUM_COUNTERS;
     let mut i: usize = 0;
-    while i < NUM_COUNTERS {
-        let at = mu_at(i);
-        if table[at] >= Fe::P {
-            return Place::At(i);
-        }
+    while i < n {
+        let c = counter_of(ops, i);
+        least = lower_large(counters, c, c, least);
         i += 1;
+    }
+    if least < NUM_COUNTERS {
+        return Place::At(least);
+    }
+    Place::Nowhere
+}
+
+// The first of them whose word of the table is P or more.
+pub fn first_mu(table: &[u64], ops: &[u64], n: usize) -> Place
+    requires { ⌜ (4 * n ≤ length (now ops)) × (first (pastAt (now ops)) n ≡ none) × (first (notByteAt (now ops)) n ≡ none) × (22020096 ≤ length (now table)) ⌝ }
+    ensures { λ r. ⌜ r ≡ placeOf (firstAt (largeCharged (namedIn (now (ops .entry)) n) (λ c. word (now (table .entry)) (muAt c))) 10485760) ⌝ }
+{
+    let mut least: usize = NUM_COUNTERS;
+    let mut i: usize = 0;
+    while i < n {
+        let c = counter_of(ops, i);
+        least = lower_large(table, mu_at(c), c, least);
+        i += 1;
+    }
+    if least < NUM_COUNTERS {
+        return Place::At(least);
     }
     Place::Nowhere
 }

@@ -12,7 +12,7 @@
 use mathlib.Core.List.{List}
 use mathlib.Core.Logic.{_↔_}
 use mathlib.Core.Path.{_≡_, refl, sym, subst}
-use Prim.Native.Nat.{ℕ, _*_, _≤_}
+use Prim.Native.Nat.{ℕ, _*_, _^_, _≤_}
 use native.Mathlib.Nat.{mul-le-mul}
 use native.Mathlib.Omega.{arith}
 use Rattle.answer.specs.Limits.{MAX-OPS}
@@ -65,11 +65,11 @@ module _ (nr : ℕ) (core round : List ℕ) (w : Fillings) (others : Bus → Lis
       sums-claims few stamps floor = demand3-at nr floor some most core (record { passes = sums-core; few = few; apart = apart; stamps = stamps })
 
 -- ---- exactly
-module _ (nr : ℕ) (core round : List ℕ) (few-core : rows coreLayout core ≤ MAX-ROWS) (few-round : rows roundLayout round ≤ MAX-ROWS) where
+module _ (nr : ℕ) (core round : List ℕ) (few-core : rows coreLayout core ≤ 2 ^ 35) (few-round : rows roundLayout round ≤ 2 ^ 35) where
   pub sums-exactly : Filled nr core round ↔ (Passes (coreKind nr) core × Answers nr core round)
   sums-exactly = (
     (λ (w, f, h). (sums-core nr core round w nobody h, sums-answer nr core round w nobody h)),
-    (λ (c, a). complete nr core round c a few-core few-round),
+    (λ (c, a). complete nr core round c a (omega (arith, few-core)) (omega (arith, few-round))),
   )
 
   -- the verdict holds exactly where there are fillings and the timestamps differ

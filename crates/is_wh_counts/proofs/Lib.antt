@@ -1,2 +1,4 @@
+pub mod Grown
 pub mod Charging
+pub mod Searching
 pub mod Refusals

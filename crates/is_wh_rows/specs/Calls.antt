@@ -15,7 +15,7 @@ abbrev pub keyCount : List ℕ → ℕ
 keyCount keys = length keys / KEY-SIZE
 
 -- `codes`, `spare` and `rows` words are lent. 3: one word a key in the first two; three words a key for the rows, of which
--- there are no more than keys (proofs/Few.antt: `rows-few`)
+-- there are no more than keys (proofs/Refusals.antt: `rows-few`)
 unfoldable pub dedupRefusal : ℕ → ℕ → ℕ → List ℕ → Option Refusal
 dedupRefusal codes spare rows keys =
     tooManyIn KEY-SIZE keys

@@ -6,5 +6,8 @@ pub mod Within
 pub mod Turns
 pub mod Whole
 pub mod Together
+pub mod Misfiled
+pub mod Filed
+pub mod Shared
 pub mod Tied
 pub mod TiedWithin

@@ -1,12 +1,14 @@
 -- The checks of the call.
 --     split-odd, split-core, split-rest   the three tests of the counts, one after the other
 --     split-decides     the counts split the tables exactly where they are pairs with the tables' rows as whole sums
+--     is-split, not-split   so the test passes, or fails
+--     core-ragged, round-ragged   2 on a table, with its detail
 --     rounds-refused, rows-refused, counts-refused, room-refused   each refusal before those of the words, after those before it
 --     job-still, job-passed, job-later   these checks refuse, or the later ones decide
 --     first-refused, words-decide   the same of the call, whose later ones are those of the words
 --     job-accepted      the call is accepted exactly where none of the conditions is met
 use mathlib.Core.Path.{_≡_, refl, sym, ap, _∙_}
-use mathlib.Core.Bool.{true, false, not}
+use mathlib.Core.Bool.{Bool, true, false, not}
 use mathlib.Core.Logic.{_↔_}
 use mathlib.Core.Option.{Option, some}
 use mathlib.Core.List.{List}
@@ -25,6 +27,7 @@ use Rattle.answer.proofs.Laws.{refuse-yes, refuse-no, passed-if, still-if, none
 use Rattle.answer.proofs.Refusals.{rounds-later, rounds-passed, rounds-still}
 use Rattle.verdict.specs.Kind.{rows, Whole, Elements}
 use Rattle.verdict.specs.CoreAndRound.{coreLayout, roundLayout}
+use Rattle.verdict.specs.Verdict.{ragged}
 use Rattle.judge.specs.Checks.{notRows, notWords}
 use Rattle.judge.proofs.Passed.{rows-still, rows-passed, rows-later, words-passed, words-later}
 use Rattle.job.specs.Report.{COUNT-WORDS, VERDICT-WORDS, segmentCount, addsUp, splits, Split, AcceptableJob, notJob, jobRefusal}
@@ -48,6 +51,24 @@ module _ (core round counts : List ℕ) where
   split-decides =
       decides-map (λ h. record { pairs = h .0; core-sum = h .1 .0; round-sum = h .1 .1 }) (λ h. (h .pairs, (h .core-sum, h .round-sum)))
       (decides-and (decides-eq _ _) (decides-and (decides-eq _ _) (decides-eq _ _)))
+
+  pub is-split : Split core round counts → splits core round counts ≡ true
+  is-split h = T-true (splits core round counts) (split-decides .from h)
+
+  pub not-split : (Split core round counts → ⊥) → splits core round counts ≡ false
+  not-split h = go (splits core round counts) refl
+    where
+      go : (b : Bool) → splits core round counts ≡ b → splits core round counts ≡ false
+      go true e = absurd (h (split-decides .to (T-of (splits core round counts) e)))
+      go false e = e
+
+  pub core-ragged : (Whole coreLayout core → ⊥) → notRows core round accepted ≡ some (NotWhole 0)
+  unfolding ragged
+  core-ragged h = refuse-yes _ _ (ap not (ne-eqb (length core % 486) 0 h))
+
+  pub round-ragged : Whole coreLayout core → (Whole roundLayout round → ⊥) → notRows core round accepted ≡ some (NotWhole 1)
+  unfolding ragged
+  round-ragged whole h = refuse-no _ (ap not (eq-eqb (length core % 486) 0 whole)) (refuse-yes _ _ (ap not (ne-eqb (length round % 1480) 0 h)))
 
 -- ---- the checks, one after the other
 module _ (nr : ℕ) (core round counts : List ℕ) (room : ℕ) where
@@ -114,7 +135,7 @@ module _ (nr : ℕ) (core round counts : List ℕ) (room : ℕ) where
         )
 
     pub job-later : Reportable → notJob nr core round counts room later ≡ later
-    job-later h = later-decide (h .some, h .most) (h .core-whole, h .round-whole) (T-true _ (split-decides core round counts .from (h .split))) (h .long)
+    job-later h = later-decide (h .some, h .most) (h .core-whole, h .round-whole) (is-split core round counts (h .split)) (h .long)
 
   -- with words below p it is a job that is accepted, and the other way
   pub acceptable : Reportable → Elements core → Elements round → AcceptableJob nr core round counts room

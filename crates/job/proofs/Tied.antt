@@ -3,10 +3,10 @@
 --     Reported         a call of `job` for nr rounds on a core table, a round table, a list of counts and a slice that was not refused, and
 --                      what the slice holds when it ends
 --     segment-words, job-words, words-past    the report: four words for each segment in order, four for the job, the old words past them
---     reported-*       the statements of Together.antt, of these words
+--     reported-*       the statements of Together.antt and Misfiled.antt, of these words
 --     some-reported    nothing else is asked of a call
 use mathlib.Core.Path.{_≡_, refl, sym, ap, subst, _∙_}
-use mathlib.Core.Logic.{_⊎_, inl, inr}
+use mathlib.Core.Logic.{_⊎_, inl, inr, _↔_}
 use mathlib.Core.List.{List, [], _∷_}
 use Prim.Native.Nat.{ℕ, _+_, _*_, _≤_, _<_}
 use native.Mathlib.Omega.{arith}
@@ -24,7 +24,7 @@ use Rattle.answer.specs.declared.Answer.the-variants.{Done}
 use Rattle.answer.proofs.Laws.{is-done, accepts, new-word, old-words}
 use Rattle.verdict.specs.Kind.{row, Active, SameTimestamp}
 use Rattle.verdict.specs.Verdict.{verdictWords}
-use Rattle.verdict.specs.CoreAndRound.{coreLayout, verdictAt}
+use Rattle.verdict.specs.CoreAndRound.{coreLayout, roundLayout, verdictAt}
 use Rattle.verdict.specs.Claims.{EachActive, Computed, Addressed}
 use Rattle.verdict.specs.Failures.{RepeatsAt}
 use Rattle.verdict.specs.declared.Verdict.{Verdict}
@@ -34,6 +34,8 @@ use Rattle.job.proofs.Words.{words-length, zero-holds}
 use Rattle.job.proofs.Refusals.{job-accepted}
 use Rattle.job.proofs.Turns.{report-length}
 use Rattle.job.proofs.Together.{part-checked, together, shared-named, held-apart, held-computed, held-balance, place-most}
+use Rattle.job.proofs.Misfiled.{IsUnbalanced, holds-only, stranger-fails, misfiled-fails, bothCores, bothRounds, misfiledCounts, both-hold, two-filed}
+use Rattle.job.proofs.Filed.{filed-holds}
 use Rattle.job.proofs.job.Kinds as kinds
 use Rattle.job.proofs.job.Reads as reads
 
@@ -105,6 +107,9 @@ module _ {nr : ℕ} {core round counts before after : List ℕ} (c : Reported nr
   abbrev coreOf : ℕ → List ℕ
   coreOf i = jobSegment core round counts i .core-table
 
+  abbrev roundOf : ℕ → List ℕ
+  roundOf i = jobSegment core round counts i .round-table
+
   segment-word : (i k : ℕ) → i < n → k < 4 → word after (i * 4 + k) ≡ word (verdictWords (verdictOn nr core round counts i)) k
   segment-word i k l h = sym (word-rowAt 4 after i k h) ∙ ap (λ (x : List ℕ). word x k) (segment-words i l)
 
@@ -142,17 +147,43 @@ module _ {nr : ℕ} {core round counts before after : List ℕ} (c : Reported nr
   pub reported-computed : word after (n * 4) ≡ 0 → (i : ℕ) → i < n → EachActive (λ x. Computed nr x × Addressed x) (coreOf i)
   reported-computed z = held-computed nr core round counts (known .tables) (known .split) _ (job-hold z) (known .some) (known .most)
 
+  -- the first word of a segment's verdict, and of one that names an unbalanced tuple
+  verdict-word : (i : ℕ) → i < n → (v : Verdict) → verdictOn nr core round counts i ≡ v → word after (i * 4) ≡ word (verdictWords v) 0
+  verdict-word i l v e = first-word i ∙ segment-word i 0 l (omega arith) ∙ ap (λ (x : Verdict). word (verdictWords x) 0) e
+
+  unbalanced-word : (i : ℕ) → i < n → IsUnbalanced (verdictOn nr core round counts i) → word after (i * 4) ≡ 6
+  unbalanced-word i l x = elim (x .2) [
+    | inl e ↦ verdict-word i l _ e
+    | inr e ↦ verdict-word i l _ e
+  ]
+
   pub reported-balance : word after (n * 4) ≡ 0 → (i : ℕ) → i < n → (word after (i * 4) ≡ 0) ⊎ (word after (i * 4) ≡ 6)
   reported-balance z i l =
-      let first : (v : Verdict) → verdictOn nr core round counts i ≡ v → word after (i * 4) ≡ word (verdictWords v) 0 =
-      λ v e. first-word i ∙ segment-word i 0 l (omega arith) ∙ ap (λ (x : Verdict). word (verdictWords x) 0) e in
       elim (held-balance nr core round counts (known .tables) (known .split) _ (job-hold z) i l) [
-        | inl e ↦ inl (first _ e)
-        | inr x ↦ elim (x .2) [
-          | inl e ↦ inr (first _ e)
-          | inr e ↦ inr (first _ e)
-        ]
+        | inl e ↦ inl (verdict-word i l _ e)
+        | inr x ↦ inr (unbalanced-word i l x)
       ]
+
+  pub reported-stranger : word after (n * 4) ≡ 0 → (i : ℕ) → i < n → (q : ℕ) → Active roundLayout (roundOf i) q →
+      ((r : ℕ) → Active coreLayout (coreOf i) r → SameTimestamp (row roundLayout (roundOf i) q) (row coreLayout (coreOf i) r) → ⊥) → word after (i * 4) ≡ 6
+  reported-stranger z i l q a alone =
+      unbalanced-word i l (stranger-fails nr (known .some) (known .most) core round counts (known .tables) (known .split) _ (job-hold z) i l q a alone)
+
+  pub reported-misfiled : word after (n * 4) ≡ 0 → (i j : ℕ) → i < n → j < n → (i ≡ j → ⊥) → (q r : ℕ) → Active roundLayout (roundOf i) q → Active coreLayout (coreOf j) r →
+      SameTimestamp (row roundLayout (roundOf i) q) (row coreLayout (coreOf j) r) → (word after (i * 4) ≡ 6) × (word after (j * 4) ≡ 6)
+  reported-misfiled z i j l g differ q r a b e =
+      let f = misfiled-fails nr (known .some) (known .most) core round counts (known .tables) (known .split) _ (job-hold z) i j l g differ q r a b e in
+      (unbalanced-word i l (f .0), unbalanced-word j g (f .1))
+
+  -- the segments of a job that holds do so exactly where each active round row was filed with a core row of its timestamp
+  pub reported-filed : word after (n * 4) ≡ 0 → ((i : ℕ) → i < n → word after (i * 4) ≡ 0)
+      ↔ ((i : ℕ) → i < n → (q : ℕ) → Active roundLayout (roundOf i) q →
+      (r : ℕ) × Active coreLayout (coreOf i) r × SameTimestamp (row roundLayout (roundOf i) q) (row coreLayout (coreOf i) r))
+  unfolding verdictOn
+  reported-filed z = (
+    (λ h i l q a. holds-only nr (known .some) (known .most) (coreOf i) (roundOf i) (word after (i * 4 + 1)) (hold h i l) q a),
+    λ filed i l. verdict-word i l _ (filed-holds nr core round counts (known .tables) (known .split) _ (job-hold z) filed i l),
+  )
 
   pub reported-places : (i : ℕ) → i ≤ n → word after (i * 4) ≤ 6
   reported-places i l =
@@ -165,6 +196,11 @@ module _ {nr : ℕ} {core round counts before after : List ℕ} (c : Reported nr
     where
       segment-most : (i : ℕ) → i < n → word (verdictWords (verdictOn nr core round counts i)) 0 ≤ 6
       segment-most i h = on-segment nr core round counts i (part-checked nr core round counts (known .tables) (known .split) i h)
+
+-- two written segments, the second one's first round row filed with the first
+pub reported-two : {before after : List ℕ} → Reported 24 bothCores bothRounds misfiledCounts before after →
+    (word after 0 ≡ 6) × (word after 4 ≡ 6) × (rowAt 4 after 2 ≡ 0 ∷ 2 ∷ 0 ∷ 0 ∷ [])
+reported-two c = (unbalanced-word c 0 (omega arith) (two-filed .0), unbalanced-word c 1 (omega arith) (two-filed .1), job-words c ∙ ap verdictWords both-hold)
 
 -- however the rows are filed, the job's words are the same
 pub reported-refiled : {nr : ℕ} {core round counts before after counts′ before′ after′ : List ℕ} → Reported nr core round counts before after →

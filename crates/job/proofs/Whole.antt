@@ -2,8 +2,8 @@
 --     part-there        the rows of segment i are there
 --     tab-joined        a table's parts, joined
 --     core-joined, round-joined   the job of the segments is the two tables: "all core rows and all round rows one after the other"
---     core-row, round-row         row q of segment i is the row of the table that stands so far behind the segments before it
---     core-active       where it is active there, it is active in the table
+--     table-row         row q of segment i is the row of the table that stands so far behind the segments before it
+--     table-active      where it is active there, it is active in the table
 --     actives-joined    the active core rows, added up
 --     apart-joined      segments that are apart by their indices are apart as a list
 use mathlib.Core.Path.{_≡_, refl, sym, ap, ap₂, subst, _∙_}

@@ -7,3 +7,4 @@ pub mod Unbalanced
 pub mod Wanted
 pub mod Steps
 pub mod Within
+pub mod Tied

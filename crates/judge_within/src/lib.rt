@@ -1,5 +1,5 @@
-// The verdict on a core table and a round table in lent memory, in n log n steps on every input: places of tuples are
-// sorted, and equal ones stand together.
+// The verdict on a core table and a round table in lent memory: places of tuples are sorted by merging, and equal ones stand
+// together. That its time grows as n log n with the rows, in whatever order they stand, is measured, not proved.
 use answer::Answer;
 use bits::put_zeros;
 use checks::check_within;

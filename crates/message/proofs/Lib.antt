@@ -3,3 +3,4 @@ pub mod Message
 pub mod Refusals
 pub mod Judging
 pub mod Digest
+pub mod Tied

@@ -45,7 +45,7 @@ operationFrom m address timestamp i s =
     }
 
 -- the state before it: what the blocks before it left, "the first starting from zero". That it is the previous output:
--- proofs/Message.antt, `first-input`, `next-input`
+-- proofs/Digest.antt, `list-chained`
 abbrev pub messageOp : List ℕ → ℕ → ℕ → ℕ → KeccakOperation
 messageOp m address timestamp i = operationFrom m address timestamp i (absorbed m i)
 
@@ -122,7 +122,7 @@ pub record IsMessage (m ops : List ℕ) : Type 0 where
   pub list : ops ≡ messageList m (addressAt ops 0) (opAt ops 0 .timestamp)
   pub stamps : opAt ops 0 .timestamp + (blocks m - 1) < 2 ^ 64
 
--- the same as a test (proofs/Message.antt: `message-decides`)
+-- the same as a test (proofs/Judging.antt: `message-decides`)
 unfoldable pub isMessage : List ℕ → List ℕ → Bool
 isMessage m ops =
     not (isLate m (opAt ops 0 .timestamp)) && wordsTest ops (messageList m (addressAt ops 0) (opAt ops 0 .timestamp))

@@ -8,3 +8,4 @@ pub mod Steps
 pub mod Alone
 pub mod AddUp
 pub mod Needed
+pub mod SegmentNumbers

@@ -1,4 +1,5 @@
 pub mod Agree
+pub mod Answered
 pub mod Cells
 pub mod Equal
 pub mod Refusals

@@ -10,3 +10,4 @@ pub mod Segments
 pub mod SegmentNumbers
 pub mod Refusals
 pub mod Looking
+pub mod Tied

@@ -99,14 +99,14 @@ silent n m t c off =
     pick-zero false = refl
 
 -- a table, all of whose tuples that are sent are found where they are counted
-abbrev AllSound : Kind → List ℕ → Type 0
+abbrev pub AllSound : Kind → List ℕ → Type 0
 AllSound K ws = (r i : ℕ) → r < rows (K .layout) ws → i < K .tuples → (tupleAt K ws r i .multiplicity ≡ 0 → ⊥) → Sound (tupleAt K ws r i)
 
 -- what it adds to counter c
 abbrev pub adds : Kind → List ℕ → ℕ → ℕ
 adds K ws c = charged (rows (K .layout) ws) (K .tuples) (tupleAt K ws) c
 
-lookups-sound : (K : Kind) (ws : List ℕ) → Lookups K ws → AllSound K ws
+pub lookups-sound : (K : Kind) (ws : List ℕ) → Lookups K ws → AllSound K ws
 unfolding tupleAt
 lookups-sound K ws ok r i lr li some e = matched-sound (tupleAt K ws r i .bus) (tupleAt K ws r i .values) (ok r i lr li some) e
 

@@ -1,12 +1,13 @@
 -- An honest segment passes on every bus: the five tables of right operations, the bitwise counters charged with `charge` and then with
 -- `collect_bitwise_from_is_wh` from zeros and the constants updated by the number of operations, are as a prover's check wants them.
+--     constant-is      each constant is counted as often as it is sent, whatever stands in the IS_WH table
 --     segment-holds    the sums of every bus agree, with nothing left to choose
-use mathlib.Core.Bool.{Bool, not, _&&_}
+use mathlib.Core.Bool.{Bool, true, _&&_}
 use mathlib.Core.List.{List, [], _∷_}
 use mathlib.Core.Option.{none}
 use mathlib.Core.Path.{_≡_, refl, sym, ap, ap₂, _∙_}
 use Prim.Native.Nat.{ℕ, suc, _+_, _-_, _*_, _/_, _%_, _^_, _≤_, _<_}
-use native.Mathlib.Nat.{zero-add, mod-eq-of-lt}
+use native.Mathlib.Nat.{add-zero, zero-add, mod-eq-of-lt}
 use native.Mathlib.Omega.{arith}
 use borrow.Author.Tests.{eq-eqb, ne-eqb}
 use lib.Dec.{eqb}
@@ -15,15 +16,14 @@ use Rattle.lists.specs.Tab.{pick, word, rowAt}
 use Rattle.lists.specs.Sum.{sumBelow}
 use Rattle.lists.specs.First.{firstAt}
 use Rattle.lists.proofs.Count.{count-hit}
-use Rattle.lists.proofs.Sum.{sum-same}
 use Rattle.lists.proofs.Tests.{true-and}
 use Rattle.lists.proofs.Then.{by-le}
 use Rattle.field.specs.Field.{p}
 use Rattle.answer.specs.Limits.{MAX-OPS}
-use Rattle.tuple.specs.declared.Bus.the-variants.{KeccakRc}
-use Rattle.tuple.specs.declared.Side.the-variants.{Sender}
+use Rattle.tuple.specs.declared.Bus.the-variants.{IsWh, KeccakRc}
+use Rattle.tuple.specs.declared.Side.the-variants.{Sender, Receiver}
 use Rattle.bitwise.specs.Columns.{NUM-COUNTERS}
-use Rattle.bitwise.specs.Charge.{chargedRow, charged, chargedCounters}
+use Rattle.bitwise.specs.Charge.{charged, chargedCounters}
 use Rattle.bitwise.proofs.Charge.{Sound}
 use Rattle.bitwise.proofs.Charged.{charged-at, charged-twice}
 use Rattle.keccak_rc.specs.Row.{rcRow}
@@ -35,40 +35,35 @@ use Rattle.is_wh_rows.specs.Lists.{badAt, GoodList}
 use Rattle.is_wh_rows.specs.Meaning.{timesSent, timesCounted}
 use Rattle.is_wh_rows.proofs.Lists.{none-bad}
 use Rattle.is_wh_rows.proofs.Counts.{all-counted}
-use Rattle.keccak.specs.Height.{height}
-use Rattle.keccak.specs.Row.{coreRowAt, coreTable, keyWords}
-use Rattle.keccak.specs.Tuples.{coreTuple}
+use Rattle.keccak.specs.Row.{coreTable, keyWords}
 use Rattle.keccak.specs.declared.KeccakOperation.{KeccakOperation}
 use Rattle.keccak.proofs.Height.{height-le}
 use Rattle.keccak.proofs.Keys.{length-keys}
-use Rattle.keccak.proofs.Table.{core-table-row}
+use Rattle.keccak.proofs.Cells.{pad-mu}
+use Rattle.keccak.proofs.Table.{core-table-row, core-row-pad}
 use Rattle.is_wh_trace.specs.Trace.{rowCount, isWhHeight, isWhTable}
 use Rattle.is_wh_trace.proofs.Deduped.{rows-counted}
 use Rattle.is_wh_counts.specs.Counts.{sendingRows, isWhCharged}
-use Rattle.keccak_rnd.specs.Row.{roundRowAt, roundTable, roundHeight}
-use Rattle.keccak_rnd.specs.Tuples.{roundTuple}
+use Rattle.keccak_rnd.specs.Row.{roundTable}
 use Rattle.keccak_rnd.proofs.Rows.{few-rows}
-use Rattle.keccak_rnd.proofs.Table.{round-table-row}
-use Rattle.segment_counts.specs.Segment.{sentRows, segmentCharged}
+use Rattle.segment_counts.specs.Segment.{segmentCharged}
 use Rattle.verdict.specs.Kind.{rows, row}
 use Rattle.verdict.specs.Failures.{Says}
-use Rattle.verdict.specs.CoreAndRound.{coreLayout, roundLayout, coreKind, roundKind}
+use Rattle.verdict.specs.CoreAndRound.{coreLayout, coreKind, roundKind}
 use Rattle.verdict.specs.Honest.{RightOperation}
 use Rattle.verdict.specs.declared.Verdict.the-variants.{Holds}
 use Rattle.verdict.proofs.Failures.{verdict-says}
 use Rattle.verdict.proofs.Honest.{table-holds}
 use Rattle.verdict.proofs.Tables.{table-rows}
-use Rattle.bus_sums.specs.Sums.{tupleAt, tableShare, isWhLayout, isWhKind, Constrained, SumsHold, nobody, MAX-PAIRS}
-use Rattle.bus_sums.proofs.Buses.{no-core, no-is-wh}
+use Rattle.bus_sums.specs.Buses.{coreLine}
+use Rattle.bus_sums.specs.Sums.{shares, tupleAt, tableShare, isWhLayout, isWhKind, Constrained, SumsHold, nobody, MAX-PAIRS}
+use Rattle.bus_sums.proofs.Shares.{no-line}
+use Rattle.bus_sums.proofs.Buses.{core-line, no-core, no-is-wh}
 use Rattle.bus_sums.proofs.Filling.{sentOn}
 use Rattle.is_wh_sums.proofs.Sent.{keys-good, list-good, pairs-balanced, row-sound, rows-sent}
 use Rattle.segment_sums.proofs.Counters.{adds, PairsFound, total, counted-hold}
+use Rattle.segment_sums.proofs.Sent.{core-height, round-height, both-add}
 use Rattle.segment_sums.proofs.Constants.{constant-used, constant-unused}
-
--- all rows send where there is an operation
-sent-some : (shipped : Bool) (n h : ℕ) → (n ≡ 0 → ⊥) → sentRows shipped n h ≡ h
-unfolding sentRows
-sent-some shipped n h d = ap (λ (t : Bool). pick (t && not shipped) 0 h) (ne-eqb n 0 d)
 
 -- the rows of the keys of some operation
 module _ (n : ℕ) (op : ℕ → KeccakOperation) (has : 1 ≤ n) (none-refused : firstAt (badAt 2 (keyWords n op)) (length (keyWords n op)) ≡ none) where
@@ -89,7 +84,7 @@ module _ (n : ℕ) (op : ℕ → KeccakOperation) (has : 1 ≤ n) (none-refused 
       go [] q z = omega (arith, first-sent, all-counted keys none-refused (word keys 0) (word keys 1), ap (timesCounted (word keys 0) (word keys 1)) q)
       go (r ∷ rs) q z = let l : length (rowsOf (codes keys)) ≡ suc (length rs) = ap length q in omega (arith, l, z)
 
-module _ (nr floor n : ℕ) (some : 1 ≤ nr) (most : nr ≤ 24) (low-floor : floor ≤ 65536) (few : n ≤ MAX-OPS) (has : 1 ≤ n) (op : ℕ → KeccakOperation)
+module _ (nr floor n : ℕ) (some : 1 ≤ nr) (most : nr ≤ 24) (low-floor : floor ≤ 65536) (few : n ≤ MAX-OPS) (op : ℕ → KeccakOperation)
     (right : (i : ℕ) → i < n → RightOperation nr (op i)) (differ : (i j : ℕ) → i < j → j < n → op i .timestamp ≡ op j .timestamp → ⊥) where
   abbrev pub core : List ℕ
   core = coreTable floor n op
@@ -97,97 +92,24 @@ module _ (nr floor n : ℕ) (some : 1 ≤ nr) (most : nr ≤ 24) (low-floor : fl
   abbrev pub round : List ℕ
   round = roundTable nr floor n op
 
-  -- the rows of the IS_WH table, and the table
-  abbrev pub list : List ℕ
-  list = flat (rowsOf (codes (keyWords n op)))
-
-  abbrev pub is-wh : List ℕ
-  is-wh = isWhTable list
-
-  fits : (i : ℕ) → i < n → op i .«state_addr» + 192 < 2 ^ 64
-  fits i l = omega (arith, right i l .low)
-
-  good : GoodList 3 list
-  good = list-good n op few fits
-
-  some-list : rowCount list ≡ 0 → ⊥
-  some-list = some-rows n op has (none-bad 2 (keyWords n op) (keys-good n op few fits .below))
-
-  holds : Says (coreKind nr) roundKind core round (Holds n)
+  pub holds : Says (coreKind nr) roundKind core round (Holds n)
   holds = verdict-says nr core round (Holds n) .0 (table-holds nr floor n some most few op right differ)
 
-  -- ---- how many rows
-  core-height : rows coreLayout core ≡ height floor n
-  unfolding coreTable
-  core-height = table-rows coreLayout (omega arith) (height floor n) (coreRowAt n op)
-
-  round-height : rows roundLayout round ≡ roundHeight nr floor n
-  unfolding roundTable
-  round-height = table-rows roundLayout (omega arith) (roundHeight nr floor n) (roundRowAt nr n op)
-
-  pairs-height : rows isWhLayout is-wh ≡ isWhHeight list
-  unfolding isWhTable
-  pairs-height = table-rows isWhLayout (omega arith) (isWhHeight list) _
-
-  core-constrained : Constrained (coreKind nr) core
+  pub core-constrained : Constrained (coreKind nr) core
   core-constrained =
       let h = holds .0 in
-      record { whole = h .whole; below = h .below; values = h .values; few = omega (arith, core-height, height-le floor n, low-floor, few) }
+      record { whole = h .whole; below = h .below; values = h .values; few = omega (arith, core-height nr floor n op, height-le floor n, low-floor, few) }
 
-  round-constrained : Constrained roundKind round
+  pub round-constrained : Constrained roundKind round
   round-constrained =
       let h = holds .2 in
-      record { whole = h .whole; below = h .below; values = h .values; few = omega (arith, round-height, height-le floor (n * nr), low-floor, few-rows nr n most few) }
+      record { whole = h .whole; below = h .below; values = h .values; few = omega (arith, round-height nr floor n op, height-le floor (n * nr), low-floor, few-rows nr n most few) }
 
-  few-pairs : rows isWhLayout is-wh ≤ MAX-PAIRS
-  few-pairs = omega (arith, pairs-height, height-le 4 (rowCount list), good .few)
-
-  -- ---- what is added
-  not-none : n ≡ 0 → ⊥
-  not-none e = omega (arith, e, has)
-
-  core-adds : (shipped : Bool) (c : ℕ) → adds (coreKind nr) core c ≡ charged (sentRows shipped n (height floor n)) 84 (λ r. coreTuple nr 0 (coreRowAt n op r)) c
-  unfolding charged tupleAt
-  core-adds shipped c =
-      ap (λ (k : ℕ). sumBelow k (λ r. chargedRow 84 (tupleAt (coreKind nr) core r) c)) core-height
-      ∙ sum-same (height floor n) (λ r. chargedRow 84 (tupleAt (coreKind nr) core r) c) (λ r. chargedRow 84 (coreTuple nr 0 (coreRowAt n op r)) c)
-      (λ r l. ap (λ (x : List ℕ). chargedRow 84 (coreTuple nr 0 x) c) (core-table-row n op floor r l))
-      ∙ ap (λ (k : ℕ). sumBelow k (λ r. chargedRow 84 (coreTuple nr 0 (coreRowAt n op r)) c)) (sym (sent-some shipped n (height floor n) not-none))
-
-  round-adds : (shipped : Bool) (c : ℕ) → adds roundKind round c ≡ charged (sentRows shipped n (roundHeight nr floor n)) 1031 (λ q. roundTuple (roundRowAt nr n op q)) c
-  unfolding charged tupleAt
-  round-adds shipped c =
-      ap (λ (k : ℕ). sumBelow k (λ q. chargedRow 1031 (tupleAt roundKind round q) c)) round-height
-      ∙ sum-same (roundHeight nr floor n) (λ q. chargedRow 1031 (tupleAt roundKind round q) c) (λ q. chargedRow 1031 (roundTuple (roundRowAt nr n op q)) c)
-      (λ q l. ap (λ (x : List ℕ). chargedRow 1031 (roundTuple x) c) (round-table-row nr n op floor q l))
-      ∙ ap (λ (k : ℕ). sumBelow k (λ q. chargedRow 1031 (roundTuple (roundRowAt nr n op q)) c)) (sym (sent-some shipped n (roundHeight nr floor n) not-none))
-
-  pairs-adds : (c : ℕ) → adds isWhKind is-wh c ≡ isWhCharged list c
-  unfolding isWhCharged sendingRows tupleAt
-  pairs-adds c =
-      ap (λ (k : ℕ). charged k 5 (λ r. isWhTuple (rowAt 4 is-wh r)) c) (pairs-height ∙ sym (ap (λ (t : Bool). pick t 0 (isWhHeight list)) (ne-eqb (rowCount list) 0 some-list)))
-
-  -- ---- the tables' lookups
-  pair-sound : (r i : ℕ) → Sound (tupleAt isWhKind is-wh r i)
-  unfolding tupleAt
-  pair-sound r i = row-sound (row isWhLayout is-wh r) i
-
-  pairs-found : PairsFound is-wh
-  unfolding tupleAt
-  pairs-found r i l g e = rows-sent list good r i (omega (arith, l, pairs-height)) g e
-
-  abbrev all : ℕ → ℕ
-  all = total nr core round is-wh (holds .0 .lookups) (holds .2 .lookups) pair-sound pairs-found
-
-  all-is : (shipped : Bool) (c : ℕ) → all c ≡ segmentCharged nr floor shipped n op c + isWhCharged list c
-  unfolding total segmentCharged
-  all-is shipped c = ap₂ _+_ (ap₂ _+_ (core-adds shipped c) (round-adds shipped c)) (pairs-adds c)
-
-  -- ---- the constants: of a table whose rows past round 23 count nothing
+  -- ---- the constants: of a table whose rows past round 23 count nothing, beside any IS_WH table
   module _ (K : List ℕ) (room : 320 ≤ length K) (late-zero : (r : ℕ) → 24 ≤ r → r < 32 → word K (r * 10 + 9) ≡ 0) where
-    constant-is : (r : ℕ) → r < 32 → word (updated nr n K) (r * 10 + 9) ≡ sentOn nr core round is-wh KeccakRc (rcRow r)
+    pub constant-is : (is-wh : List ℕ) (r : ℕ) → r < 32 → word (updated nr n K) (r * 10 + 9) ≡ sentOn nr core round is-wh KeccakRc (rcRow r)
     unfolding sentOn
-    constant-is r l =
+    constant-is is-wh r l =
         by-le 24 r
         (λ late. updated-late nr n K r late ∙ late-zero r late l ∙ sym (sends 0 (constant-unused nr n floor op most r (λ _ h. omega (arith, late, h))) (omega arith)))
         (λ real. by-le (24 - nr) r
@@ -200,6 +122,51 @@ module _ (nr floor n : ℕ) (some : 1 ≤ nr) (most : nr ≤ 24) (low-floor : fl
             let s : tableShare Sender KeccakRc (rcRow r) (coreKind nr) core + tableShare Sender KeccakRc (rcRow r) roundKind round + tableShare Sender KeccakRc (rcRow r) isWhKind is-wh ≡ m =
             omega (arith, e, no-core Sender KeccakRc (rcRow r) (λ m. refl) nr core, no-is-wh Sender KeccakRc (rcRow r) (λ m. refl) is-wh) in
             ap (λ (k : ℕ). k % p) s ∙ mod-eq-of-lt b
+
+  -- ---- a segment with an operation: the rows of the IS_WH table, and the table
+  module _ (has : 1 ≤ n) where
+    abbrev pub list : List ℕ
+    list = flat (rowsOf (codes (keyWords n op)))
+
+    abbrev pub is-wh : List ℕ
+    is-wh = isWhTable list
+
+    fits : (i : ℕ) → i < n → op i .«state_addr» + 192 < 2 ^ 64
+    fits i l = omega (arith, right i l .low)
+
+    good : GoodList 3 list
+    good = list-good n op few fits
+
+    some-list : rowCount list ≡ 0 → ⊥
+    some-list = some-rows n op has (none-bad 2 (keyWords n op) (keys-good n op few fits .below))
+
+    pairs-height : rows isWhLayout is-wh ≡ isWhHeight list
+    unfolding isWhTable
+    pairs-height = table-rows isWhLayout (omega arith) (isWhHeight list) _
+
+    few-pairs : rows isWhLayout is-wh ≤ MAX-PAIRS
+    few-pairs = omega (arith, pairs-height, height-le 4 (rowCount list), good .few)
+
+    pairs-adds : (c : ℕ) → adds isWhKind is-wh c ≡ isWhCharged list c
+    unfolding isWhCharged sendingRows tupleAt
+    pairs-adds c =
+        ap (λ (k : ℕ). charged k 5 (λ r. isWhTuple (rowAt 4 is-wh r)) c) (pairs-height ∙ sym (ap (λ (t : Bool). pick t 0 (isWhHeight list)) (ne-eqb (rowCount list) 0 some-list)))
+
+    -- ---- the tables' lookups
+    pair-sound : (r i : ℕ) → Sound (tupleAt isWhKind is-wh r i)
+    unfolding tupleAt
+    pair-sound r i = row-sound (row isWhLayout is-wh r) i
+
+    pairs-found : PairsFound is-wh
+    unfolding tupleAt
+    pairs-found r i l g e = rows-sent list good r i (omega (arith, l, pairs-height)) g e
+
+    abbrev all : ℕ → ℕ
+    all = total nr core round is-wh (holds .0 .lookups) (holds .2 .lookups) pair-sound pairs-found
+
+    all-is : (shipped : Bool) (c : ℕ) → all c ≡ segmentCharged nr floor shipped n op c + isWhCharged list c
+    unfolding total
+    all-is shipped c = ap₂ _+_ (both-add nr floor n op shipped (λ e. absurd (omega (arith, e, has))) c) (pairs-adds c)
 
     -- ---- the counters, from zero
     module _ (shipped : Bool) (Z : List ℕ) (long : NUM-COUNTERS ≤ length Z) (zeros : (c : ℕ) → c < NUM-COUNTERS → word Z c ≡ 0) where
@@ -215,10 +182,53 @@ module _ (nr floor n : ℕ) (some : 1 ≤ nr) (most : nr ≤ 24) (low-floor : fl
           ∙ ap (λ (k : ℕ). k % p) (zero-add (both c) ∙ sym (all-is shipped c))
 
       -- wherever a prover keeps these words
-      pub segment-holds : (mu : ℕ → ℕ → ℕ) (constant : ℕ → ℕ) → ((i k : ℕ) → i < 1048576 → k < 10 → mu i k ≡ word counters (i * 10 + k))
+      pub segment-holds : (K : List ℕ) → 320 ≤ length K → ((r : ℕ) → 24 ≤ r → r < 32 → word K (r * 10 + 9) ≡ 0)
+          → (mu : ℕ → ℕ → ℕ) (constant : ℕ → ℕ) → ((i k : ℕ) → i < 1048576 → k < 10 → mu i k ≡ word counters (i * 10 + k))
           → ((r : ℕ) → r < 32 → constant r ≡ word (updated nr n K) (r * 10 + 9))
           → SumsHold nr core round (record { bitwise = mu; constants = constant; is-wh = is-wh }) nobody
-      segment-holds mu constant mu-is row-is =
+      segment-holds K room late-zero mu constant mu-is row-is =
           counted-hold nr core round is-wh (holds .0 .lookups) (holds .2 .lookups) pair-sound pairs-found mu constant
-          (λ i k li lk. mu-is i k li lk ∙ counter-is (i * 10 + k) (omega arith)) (λ r l. row-is r l ∙ constant-is r l)
+          (λ i k li lk. mu-is i k li lk ∙ counter-is (i * 10 + k) (omega arith)) (λ r l. row-is r l ∙ constant-is K room late-zero is-wh r l)
           core-constrained round-constrained (holds .3) few-pairs (pairs-balanced n op few fits nr floor)
+
+  -- ---- no operation, shipped: "No sends, no table" (tables/is_wh.rs), so there is no IS_WH table
+  module _ (none-made : n ≡ 0) where
+    -- no row of it sends
+    none-sound : (r i : ℕ) → Sound (tupleAt isWhKind [] r i)
+    unfolding tupleAt
+    none-sound r i = row-sound (row isWhLayout [] r) i
+
+    none-found : PairsFound []
+    none-found r i l g e = absurd (omega (arith, l))
+
+    abbrev alone : ℕ → ℕ
+    alone = total nr core round [] (holds .0 .lookups) (holds .2 .lookups) none-sound none-found
+
+    alone-is : (c : ℕ) → alone c ≡ segmentCharged nr floor true n op c
+    unfolding total charged sumBelow
+    alone-is c = add-zero (adds (coreKind nr) core c + adds roundKind round c) ∙ both-add nr floor n op true (λ e. refl) c
+
+    -- a row of the core table is a padding row, and sends no pair
+    none-paired : (v : List ℕ) → tableShare Receiver IsWh v isWhKind [] ≡ tableShare Sender IsWh v (coreKind nr) core
+    unfolding shares sumBelow tupleAt
+    none-paired v =
+        sym (no-line Sender IsWh v (rows coreLayout core) 84 (tupleAt (coreKind nr) core)
+        (λ r l. core-line Sender IsWh nr (row coreLayout core r)
+        ∙ ap (coreLine Sender IsWh) (ap (λ (x : List ℕ). word x 485) (core-table-row n op floor r (omega (arith, l, core-height nr floor n op)) ∙ core-row-pad n op r (omega (arith, none-made))) ∙ pad-mu)))
+
+    module _ (Z : List ℕ) (zeros : (c : ℕ) → c < NUM-COUNTERS → word Z c ≡ 0) (K : List ℕ) (room : 320 ≤ length K)
+        (late-zero : (r : ℕ) → 24 ≤ r → r < 32 → word K (r * 10 + 9) ≡ 0) where
+      pub empty-holds : (mu : ℕ → ℕ → ℕ) (constant : ℕ → ℕ)
+          → ((i k : ℕ) → i < 1048576 → k < 10 → mu i k ≡ word (chargedCounters Z (segmentCharged nr floor true n op)) (i * 10 + k))
+          → ((r : ℕ) → r < 32 → constant r ≡ word (updated nr n K) (r * 10 + 9))
+          → SumsHold nr core round (record { bitwise = mu; constants = constant; is-wh = [] }) nobody
+      empty-holds mu constant mu-is row-is =
+          counted-hold nr core round [] (holds .0 .lookups) (holds .2 .lookups) none-sound none-found mu constant
+          (λ i k li lk.
+          let c = i * 10 + k in
+          let l : c < NUM-COUNTERS = omega arith in
+          mu-is i k li lk ∙ charged-at Z (segmentCharged nr floor true n op) c l
+          ∙ ap (λ (z : ℕ). (z + segmentCharged nr floor true n op c) % p) (zeros c l)
+          ∙ ap (λ (m : ℕ). m % p) (zero-add (segmentCharged nr floor true n op c) ∙ sym (alone-is c)))
+          (λ r l. row-is r l ∙ constant-is K room late-zero [] r l)
+          core-constrained round-constrained (holds .3) (omega arith) none-paired

@@ -1,7 +1,8 @@
--- The statements of the project on one page, each beside the sentence that asks for it. Each is proved in the crate
+-- The statements of the project, each beside the sentence that asks for it; those on lines, segments, calls, jobs, files and messages stand in the
+-- files beside this one. Each is proved in the crate
 -- that it is about and only cited here, so what a reader reads is what the gate has checked.
--- Not here: demand 1, and "tables, values, tuples, counts and verdict match definitions", are the contracts of the
--- calls (docs/PROOFS.md).
+-- Demand 1, and "tables, values, tuples, counts and verdict match definitions", are the contracts of the calls: those that a host
+-- links are in Exports.antt, all in docs/PROOFS.md.
 --     Lanes s            the 25 words of s are below 2^64
 --     bits s, Agree      their 1,600 bits as FIPS 202's state array; two such arrays have the same bits
 --     roundRow t r s     the row that is written for timestamp words t 0 and t 1, round r and the lanes s of START
@@ -29,7 +30,6 @@ use Rattle.answer.specs.Refusal.{accepted, refusalNumber, notRounds, notFloor, 
 use Rattle.answer.specs.declared.Refusal.{Refusal}
 use Rattle.answer.specs.declared.Refusal.the-variants.{TooShort, HighAddress, PastEnd, Unaligned, Rounds, Floor, Register, NotElement, BadRecord}
 use Rattle.answer.proofs.Refusals.{rounds-later, no-rounds-refused, many-rounds-refused, floor-refused, floor-most, both-later}
-use Rattle.answer.specs.declared.Number.the-variants.{Is}
 use Rattle.fips202.specs.Fips.{Agree, offset, walk, MetOnce, RHO, rnd, keccakF, keccakP}
 use Rattle.tuple.specs.Tuple.{busSum}
 use Rattle.tuple.specs.declared.Bus.{Bus}
@@ -101,7 +101,7 @@ use Rattle.verdict.proofs.Honest.{written-passes, written-supposed, written-hol
 use Rattle.verdict.proofs.Instances.{exchanged-named, late-unbalanced}
 use Rattle.verdict.proofs.Late.{late-row}
 use Rattle.bus_sums.specs.Buses.{coreLine, roundLine, isWhLine, bitwiseLine, constantLine}
-use Rattle.bus_sums.specs.Sums.{Fillings, bitwiseAt, constantAt, Constrained, SumsHold, Filled, MAX-ROWS}
+use Rattle.bus_sums.specs.Sums.{Fillings, bitwiseAt, constantAt, Constrained, SumsHold, Filled}
 use Rattle.bus_sums.specs.Sums.{tableShare, isWhKind}
 use Rattle.bus_sums.proofs.Buses.{core-line, round-line, is-wh-line, bitwise-line, constant-line}
 use Rattle.bus_sums.proofs.Receipt.{sums-core, sums-answer, sums-verdict, sums-computed, sums-claims, sums-exactly}
@@ -137,7 +137,7 @@ use Rattle.op_list.proofs.RoundTrip.{list-left, file-left}
 use Rattle.op_file.proofs.Laws.{reads-pieces}
 use Rattle.text.specs.Text.{decimalOf}
 use Rattle.tally_arguments.specs.Arguments.{shipped-word, isShipped, digitsOnly, floorIn, argumentsOf}
-use Rattle.tally_arguments.proofs.Cases.{leading, floor-back, floor-over, digits-are, floor-other, floor-none}
+use Rattle.tally_arguments.proofs.Cases.{floor-back, floor-over, digits-are, floor-other, floor-none}
 use Rattle.tally_arguments.proofs.Cases.{AllShipped, NoneShipped, absent-floor, last-floor, shipped-anywhere, never-shipped}
 use Rattle.sort.specs.Compared.{mostCompared}
 use Rattle.sort.proofs.Compared.{most-compared, halved-enough}
@@ -145,13 +145,8 @@ use Rattle.sort_places.specs.Places.{placeCount}
 use Rattle.judge_within.specs.Within.{withinRefusal, withinFor, withinAfter}
 use Rattle.judge_within.proofs.Within.{Passed, within-same, after-refused}
 use Rattle.verdict_line.specs.Lent.{SaysLent}
-use Rattle.verdict_line.proofs.Lent.{lent-passed, lent-says, lent-left, judged-same, lines-same, line-lent-accepted, line-lent-says}
-use Rattle.verdict_line.specs.Line.{Judged, shownAt, lineAt, lineRefusal, lineAnswer, lineAfter}
-use Rattle.verdict_line.specs.Line.{withinLineRefusal, withinLineAnswer, withinLineAfter}
-use Rattle.verdict_line.proofs.Tells.{lines-tell}
-use Rattle.verdict_line.proofs.Most.{line-most}
-use Rattle.verdict_line.proofs.Refusals.{line-accepted}
-use Rattle.verdict_line.proofs.Tied.{Lined, lines-written}
+use Rattle.verdict_line.proofs.Lent.{lent-passed, lent-says, lent-left, judged-same}
+use Rattle.verdict_line.specs.Line.{Judged}
 use Rattle.judge.proofs.Tied.{Answered, Wrote, answered-at, answered-computed, holds-answered, ours-written, written-answers}
 use Rattle.answer.specs.Refusal.{overwrite}
 use Rattle.tuple.specs.declared.Bus.the-variants.{ByteAlu, IsHalfword}
@@ -289,79 +284,34 @@ pub each-answer : (core round : List ℕ) (v : Verdict) →
     (verdictOf core round ≡ v) ↔ Says (coreKind 24) roundKind core round v
 each-answer = verdict-says 24
 
--- ---- the verdict as a line (verdict_line/specs/Line.antt)
--- "Two lines are equal exactly when the verdicts and the shown tuples are equal."
-pub equal-lines : (nr nr′ : ℕ) (core round core′ round′ : List ℕ) → Judged (verdictFor nr core round) → Judged (verdictFor nr′ core′ round′) →
-    (lineAt nr core round ≡ lineAt nr′ core′ round′)
-    ↔ ((verdictFor nr core round ≡ verdictFor nr′ core′ round′) × (shownAt nr core round ≡ shownAt nr′ core′ round′))
-equal-lines = lines-tell
-
--- and so it is of the bytes that two calls leave, each of which answered a length (`Lined`, verdict_line/proofs/Tied.antt)
-pub equal-lines-written : {nr nr′ : ℕ} {core round before after core′ round′ before′ after′ : List ℕ} {n m : ℕ} →
-    Lined nr core round before after (Is n) → Lined nr′ core′ round′ before′ after′ (Is m) →
-    (take n after ≡ take m after′)
-    ↔ ((verdictFor nr core round ≡ verdictFor nr′ core′ round′) × (shownAt nr core round ≡ shownAt nr′ core′ round′))
-equal-lines-written = lines-written
-
--- "A line that doesn't fit the lent bytes is a short slice, refused after 5": the call is accepted exactly where the
--- verdict is no refusal and the line fits
-pub line-taken : (nr : ℕ) (core round : List ℕ) (room : ℕ) →
-    (lineRefusal nr core round room ≡ accepted)
-    ↔ (Judged (verdictFor nr core round) × (length (lineAt nr core round) ≤ room))
-line-taken = line-accepted
-
--- and 4,335 bytes are always enough, for tables that fit in memory
-pub enough-for-a-line : (nr : ℕ) (core round : List ℕ) → length core < 18446744073709551616 → length round < 18446744073709551616 →
-    length (lineAt nr core round) ≤ 4335
-enough-for-a-line = line-most
-
--- ---- the verdict in lent memory (judge_within/specs/Within.antt), and its line
--- "beside it comes one that is lent a scratch and answers the same": slices of `scratch` and of `spare` words, each of
--- "a small fixed number of words for each row of both tables"
+-- ---- the verdict in lent memory (judge_within/specs/Within.antt; its line: Lines.antt)
+-- Beside `verdict` stands a call that is lent a scratch and answers the same: slices of `scratch` and of `spare` words, each of a
+-- small fixed number of words for each row of both tables
 pub lent-words : (core round : List ℕ) → placeCount core round ≡ 2 * (rows coreLayout core + rows roundLayout round)
 unfolding placeCount
 lent-words core round = refl
 
 module _ (nr : ℕ) (core round : List ℕ) (scratch spare : ℕ) where
-  -- the same on every input, refused or not, where both slices have room ..
+  -- the same on every input, refused or not, where both slices have room
   pub lent-same : placeCount core round ≤ scratch → placeCount core round ≤ spare →
       withinFor nr core round scratch spare ≡ verdictFor nr core round
   lent-same = within-same nr core round scratch spare
-
-  -- .. and so are the lines' lengths, or refusals, and the bytes left
-  pub lent-same-line : placeCount core round ≤ scratch → placeCount core round ≤ spare → (bytes : List ℕ) →
-      (withinLineAnswer nr core round scratch spare bytes ≡ lineAnswer nr core round bytes)
-      × (withinLineAfter nr core round scratch spare bytes ≡ lineAfter nr core round bytes)
-  lent-same-line = lines-same nr core round scratch spare
 
   -- so where it is no refusal it is the verdict of `verdict`, whatever was lent
   pub lent-judged-same : Judged (withinFor nr core round scratch spare) → withinFor nr core round scratch spare ≡ verdictFor nr core round
   lent-judged-same = judged-same nr core round scratch spare
 
-  -- "refusals 8 2 3 5": accepted exactly where nr is from 1 to 24, both tables are whole rows of words below p, and both slices have room
-  -- (`Passed`, judge_within/proofs/Within.antt); the line exactly where it fits too
+  -- the refusals are 8, 2, 3 and 5, in this order: accepted exactly where nr is from 1 to 24, both tables are whole rows of words
+  -- below p, and both slices have room (`Passed`, judge_within/proofs/Within.antt)
   pub lent-taken : (withinRefusal nr core round scratch spare ≡ accepted) ↔ Passed nr core round scratch spare
   lent-taken = lent-passed nr core round scratch spare
-
-  pub lent-line-taken : (room : ℕ) →
-      (withinLineRefusal nr core round scratch spare room ≡ accepted)
-      ↔ (Passed nr core round scratch spare × (length (lineAt nr core round) ≤ room))
-  lent-line-taken = line-lent-accepted nr core round scratch spare
 
   -- every answer, and each refusal with its detail (`SaysLent`, verdict_line/specs/Lent.antt): after 8 and 2 and before 5, 3 with the length
   -- needed where a slice is shorter; else as `each-answer-for` has it
   pub lent-answers : (v : Verdict) → (withinFor nr core round scratch spare ≡ v) ↔ SaysLent nr core round scratch spare v
   lent-answers = lent-says nr core round scratch spare
 
-  -- the line is refused as the verdict is, then by 3 with its length
-  pub lent-line-refusals : (room : ℕ) (r : Refusal) →
-      (withinLineRefusal nr core round scratch spare room ≡ some r)
-      ↔ ((withinFor nr core round scratch spare ≡ judge.Refused r)
-      ⊎ (Passed nr core round scratch spare × (room < length (lineAt nr core round)) × (r ≡ TooShort (length (lineAt nr core round)))))
-  lent-line-refusals = line-lent-says nr core round scratch spare
-
-  -- "what the scratch holds at exit: zeros where it was used, untouched where refused"; the words past them stay, and a line that is too short
-  -- changes nothing in it
+  -- what the scratch holds at exit: zeros where it was used, its old words where the verdict is refused; the words past them stay
   pub lent-zeros : Passed nr core round scratch spare → (old : List ℕ) →
       (take (placeCount core round) (withinAfter nr core round scratch spare old) ≡ tab (placeCount core round) (λ k. 0))
       × (drop (placeCount core round) (withinAfter nr core round scratch spare old) ≡ drop (placeCount core round) old)
@@ -371,10 +321,9 @@ module _ (nr : ℕ) (core round : List ℕ) (scratch spare : ℕ) where
       withinAfter nr core round scratch spare old ≡ old
   lent-untouched e old = sym (after-refused nr core round old scratch spare e)
 
--- ".. in n log n on every input": places are sorted by a merge sort, and one of n places, n at most 2^k, compares two of them at most 2 k n
--- times. That is said of `mostCompared` (sort/specs/Compared.antt), whatever the places are, a definition whose shape is that of `merge_sort` in
--- sort_places/src/lib.rt as in sort/src/lib.rt; no contract ties the code to it, and runs show the rest. Where n is at most 2^k more halvings
--- compare none
+-- How the verdict's time grows in lent memory is measured, not proved. What is proved is of a definition in the shape of the sort of places:
+-- `mostCompared` (sort/specs/Compared.antt), whose shape is that of `merge_sort` in sort_places/src/lib.rt as in sort/src/lib.rt, is at most 2 k n
+-- for n places, n at most 2^k, whatever they are; no contract ties the code to it. Where n is at most 2^k more halvings compare none
 pub sort-compares : (k n : ℕ) → n ≤ 2 ^ k → mostCompared k n ≤ 2 * k * n
 sort-compares = most-compared
 
@@ -967,7 +916,7 @@ tally-of-4 shipped = file.floor-counts 4 shipped file.four
 
 -- "(digits only, zeros may lead)": the floor that a word tells is its number, whatever zeros stand before it, "or a decimal
 -- above 2^64 − 1, is floor 0"
-pub floor-told : (zeros n : ℕ) → (n ≤ 18446744073709551615 → floorIn (leading zeros (decimalOf n)) ≡ n) × (18446744073709551615 < n → floorIn (leading zeros (decimalOf n)) ≡ 0)
+pub floor-told : (zeros n : ℕ) → (n ≤ 18446744073709551615 → floorIn (replicate zeros 48 ++ decimalOf n) ≡ n) × (18446744073709551615 < n → floorIn (replicate zeros 48 ++ decimalOf n) ≡ 0)
 floor-told zeros n = (floor-back zeros n, floor-over zeros n)
 
 -- "an argument that is neither .. is floor 0": a byte of it is no digit, or it has none
@@ -1137,7 +1086,8 @@ module _ (a b : List ℕ) (but : ButSegments a b) where
   pub charges-free : (nr floor : ℕ) (shipped : Bool) → listCharged nr floor shipped a ≡ listCharged nr floor shipped b
   charges-free nr floor = charge-free.charged-free a b but nr floor
 
-  -- .. and where no segment word is refused, every call refuses both lists alike and leaves the same
+  -- .. and where no segment word is refused, the calls that write rows, tables and keys, and the charge and its look, leave the same of both. That
+  -- they refuse both alike, the same of the charge and the look through a register, and which two calls do depend on segment numbers: Segments.antt
   module _ (short-a : ShortSegments a) (short-b : ShortSegments b) where
     pub core-calls-free : (floor index : ℕ) (out : List ℕ) →
         (coreRowAfter a index out ≡ coreRowAfter b index out) × (coreRowsAfter a out ≡ coreRowsAfter b out)
@@ -1161,10 +1111,6 @@ module _ (a b : List ℕ) (but : ButSegments a b) where
     charge-calls-free nr floor shipped counters copy out =
         let look = charge-free.look-call-free a b but nr floor short-a short-b shipped counters copy out in
         (charge-free.charge-call-free a b but nr floor short-a short-b shipped counters .1, look .1, look .2)
-
-    -- what they refuse, of the room that n operations need
-    pub refusals-free : (room : ℕ) (needed : ℕ → ℕ) → operationsRefusal room (needed (opCount a)) a ≡ operationsRefusal room (needed (opCount b)) b
-    refusals-free = core-free.refusal-free a b but short-a short-b
 
 -- "Refused: 11, a segment word of 2^32 or more in a list, detail the first such word": where nothing earlier refuses and operation i is the
 -- first with such a word; accepted exactly where there is none, `none-refused` above
@@ -1565,26 +1511,26 @@ page-to-receipt = left-digest
 -- The sentences are those of docs/WHY.md, 'As a prover checks it'; nr is any number of rounds from 1 to 24.
 module _ (nr : ℕ) (some : 1 ≤ nr) (most : nr ≤ 24) where
   module _ (core round : List ℕ) (w : Fillings) (others : Bus → List ℕ → ℕ) (h : SumsHold nr core round w others) where
-    -- "Then both tables pass their lookups, and the Keccak bus balances by counting."
+    -- Then both tables pass their lookups, and the Keccak bus balances by counting.
     pub sums-pass : Passes (coreKind nr) core × Answers nr core round
     sums-pass = (sums-core nr core round w others h, sums-answer nr core round w others h)
 
     module _ (apart : DistinctTimestamps coreLayout core) where
-      -- "Where timestamps differ the verdict is 'holds', and every active core row is computed, at its addresses."
+      -- Where timestamps differ the verdict is 'holds', and every active core row is computed, at its addresses.
       pub sums-right : (verdictAt nr core round ≡ Holds (actives coreLayout core)) × EachActive (λ x. Computed nr x × Addressed x) core
       sums-right = (sums-verdict nr core round w others h apart, sums-computed nr core round w others h apart some most)
 
-      -- "With demand 3's two bounds all is so that demand 3 claims."
+      -- With demand 3's two bounds all is so that demand 3 claims.
       pub sums-all : actives coreLayout core ≤ MAX-OPS → EachActive ShortTimestamp core → (floor : ℕ) → ClaimsAt nr floor core
       sums-all = sums-claims nr core round w others h apart some most
 
-  -- "Where both tables pass and balance there are fillings, all words below p, for which every sum agrees."
-  pub sums-made : (core round : List ℕ) → rows coreLayout core ≤ MAX-ROWS → rows roundLayout round ≤ MAX-ROWS →
+  -- Where both tables pass and balance there are fillings, all words below p, for which every sum agrees.
+  pub sums-made : (core round : List ℕ) → rows coreLayout core ≤ 2 ^ 35 → rows roundLayout round ≤ 2 ^ 35 →
       Filled nr core round ↔ (Passes (coreKind nr) core × Answers nr core round)
   sums-made = sums-exactly nr
 
-  -- "For a core table of which its constraints alone are known, a round table and fillings exist exactly when its
-  -- lookups pass and every active row is computed."
+  -- For a core table of which its constraints alone are known, a round table and fillings exist exactly when its
+  -- lookups pass and every active row is computed.
   pub sums-exist : (core : List ℕ) → Constrained (coreKind nr) core → actives coreLayout core ≤ MAX-OPS →
       DistinctTimestamps coreLayout core → EachActive ShortTimestamp core →
       ((round : List ℕ) × Filled nr core round) ↔ (Lookups (coreKind nr) core × EachActive (Computed nr) core)
@@ -1609,9 +1555,9 @@ module _ (s : Side) (b : Bus) where
 
 -- ---- the IS_WH table: what the calls leave, for a list of operations that `is_wh_keys` accepts
 module _ (ops out : List ℕ) (wrote-keys : keysRefusal (length out) ops ≡ accepted) where
-  -- "One row per distinct `(word, half)` pair, with `μ` counting its sends.": of the keys that are left in `out`, the rows
+  -- 'One row per distinct `(word, half)` pair, with `μ` counting its sends.' (the Rust's is_wh.rs): of the keys that are left in `out`, the rows
   -- that `dedup_is_wh_rows` leaves, and their table, each list of values is received on IsWh exactly as often as the
-  -- core table that `generate_keccak_trace` leaves sends it
+  -- core table that `generate_keccak_trace` leaves sends it (which rows there are, in which order: `pairs-counted` .., Segments.antt)
   pub pairs-received : (C S R : List ℕ) (wrote-rows : dedupRefusal (length C) (length S) (length R) (keysOf ops out wrote-keys) ≡ accepted) →
       (T core : List ℕ) → isWhTraceRefusal (length T) (rowsWritten ops out wrote-keys C S R wrote-rows) ≡ accepted →
       (floor : ℕ) → coreTraceRefusal floor (length core) ops ≡ accepted →
@@ -1638,7 +1584,7 @@ pair-rows-charged = collected-is-sent
 -- ---- an honest segment: of a list of right operations (`RightOperation`, verdict/specs/Honest.antt) whose timestamps differ, the
 -- five tables as the calls leave them pass on every bus, with no word left to choose: core and round table, the IS_WH table of the
 -- list's keys, the constants after `update_multiplicities`, and the bitwise table filled from counters that were zero, charged by
--- `charge` and then by `collect_bitwise_from_is_wh`. Of an empty list there is no IS_WH table, and nothing is said here.
+-- `charge` and then by `collect_bitwise_from_is_wh`. Of an empty list: `empty-segment-passes` (Segments.antt).
 pub segment-passes : (nr floor : ℕ) (ops : List ℕ) → 1 ≤ opCount ops → ((i : ℕ) → i < opCount ops → RightOperation nr (opAt ops i)) →
     ((i j : ℕ) → i < j → j < opCount ops → opAt ops i .timestamp ≡ opAt ops j .timestamp → ⊥) →
     (T U : List ℕ) → coreTraceRefusal floor (length T) ops ≡ accepted → roundTraceRefusal nr floor (length U) ops ≡ accepted →
@@ -1657,30 +1603,31 @@ pub segment-passes : (nr floor : ℕ) (ops : List ℕ) → 1 ≤ opCount ops →
     }) nobody
 segment-passes = calls-hold
 
--- "The written tables of an operation have such fillings."
+-- The written tables of an operation have such fillings.
 pub sums-met : Filled 24 (oneCore witness) (oneRound witness)
 sums-met = witness-sums
 
--- "MU is 0 or 1": where its value, 51 of a core row and 140 of a round row, is 0, though p is nowhere known to be prime
+-- MU is 0 or 1 where its value, 51 of a core row and 140 of a round row, is 0, though p is nowhere known to be prime
 pub mu-bit : (r : ℕ) → r < p → isBit r ≡ 0 → r < 2
 mu-bit = bit-is
 
--- "Without IsB20": a segment that meets all the rest, and whose active core row has a lane elsewhere
+-- Without IsB20: a segment that meets all the rest, and whose active core row has a lane elsewhere
 pub without-twenty : (w : Fillings) × Forgery bentCore bentRound w
 without-twenty = twenty-needed
 
--- "Without a bit for MU": two core rows that cancel on every bus, all values 0 but the second row's 51
+-- Without a bit for MU: two core rows that cancel on every bus, all values 0 but the second row's 51
 pub without-bit : Slips twoRows ×
     ((r i : ℕ) → r < 2 → i < 52 → (r ≡ 1 → i ≡ 51 → ⊥) → ZeroAt (coreKind 24) twoRows r i)
 without-bit = mu-needed
 
--- "With p rows or more": p core rows that cancel on every bus, all values 0
+-- With p rows or more: p core rows that cancel on every bus, all values 0
 pub without-few : Slips manyRows × Values (coreKind 24) manyRows
 without-few = few-needed
 
 -- ---- beyond the demands: the counters of the bitwise lookups
--- "The histogram is a commutative monoid: increments and [`merge`](Self::merge) are order-independent" (tables/bitwise.rs):
--- of counters that `merge` accepts; the words past the 10,485,760 counters are those of the first slice
+-- 'The histogram is a commutative monoid: increments and [`merge`](Self::merge) are order-independent' (the Rust's bitwise.rs):
+-- of counters that `merge` accepts; the words past the 10,485,760 counters are those of the first slice (its neutral element,
+-- and lists in any order: `merging-zeros`, `lookups-in-any-order`, Segments.antt)
 module _ (a b : List ℕ) (passed : mergeRefusal a b ≡ accepted) where
   pub merging-commutes : Alike 10485760 (mergeAfter a b) (mergeAfter b a)
   merging-commutes = merge-commutes a b passed
@@ -1696,13 +1643,13 @@ module _ (a b : List ℕ) (passed : mergeRefusal a b ≡ accepted) where
         × (mergeAfter a (bumpNAfter b kind x y z n) ≡ bumpNAfter (mergeAfter a b) kind x y z n)
     bump-then-merge = (bump-first a b passed kind x y z n hk hx hy hz, bump-last a b passed kind x y z n hk hx hy hz)
 
--- ".. so per-thread histograms can be tree-reduced": two lists of lookups counted into two histograms that are then merged
+-- '.. so per-thread histograms can be tree-reduced' (the same): two lists of lookups counted into two histograms that are then merged
 -- are counted into one
-pub lists-then-merge : (a b ops more : List ℕ) → addOpsRefusal a ops ≡ accepted → addOpsRefusal b more ≡ accepted →
+pub lists-then-merge : (a b ops more : List ℕ) → mergeRefusal a b ≡ accepted → addOpsRefusal a ops ≡ accepted → addOpsRefusal b more ≡ accepted →
     mergeAfter (addOpsAfter a ops) (addOpsAfter b more) ≡ addOpsAfter (addOpsAfter (mergeAfter a b) ops) more
 lists-then-merge = counted-merged
 
--- ".. where it produces exactly the same MU columns as calling [`update_multiplicities`] with the full op vector": from
+-- '.. where it produces exactly the same MU columns as calling [`update_multiplicities`] with the full op vector' (the same): from
 -- counters that are 0, into a table as `generate_bitwise_trace` leaves it
 pub filling-updates : (counters table : List ℕ) → 10485760 ≤ length counters →
     ((k : ℕ) → k < 10485760 → word counters k ≡ 0) → 22020096 ≤ length table →
@@ -1734,21 +1681,21 @@ module _ (nr : ℕ) (some : 1 ≤ nr) (most : nr ≤ 24) (core : List ℕ) (supp
         Answers nr core (take size after) × (v ≡ Holds (actives coreLayout core))
     code-answers = written-answers nr some most core supposed floor power
 
-    -- "The round table that the writer makes has fillings too."
-    pub code-filled : rows coreLayout core ≤ MAX-ROWS → EachActive (Computed nr) core →
+    -- The round table that the writer makes has fillings too.
+    pub code-filled : rows coreLayout core ≤ 2 ^ 35 → EachActive (Computed nr) core →
         (before after : List ℕ) → size ≤ length before → Wrote nr floor (operations core) before after →
         Filled nr core (take size after)
     code-filled few right before after e w =
         let c = supposed .passes in
         subst (Filled nr core) (sym (ours-written nr some most core supposed floor power before after e w .0))
         (ours-filled nr some most core
-        (record { whole = c .whole; below = c .below; values = c .values; few = few })
+        (record { whole = c .whole; below = c .below; values = c .values; few = omega (arith, few) })
         (supposed .few) (supposed .apart) (supposed .stamps) floor (floor-most floor power) (c .lookups) right)
 
--- "The call `verdict` answers 'holds' exactly where there are such fillings and timestamps differ": of what it answers, on
+-- The call `verdict` answers 'holds' exactly where there are such fillings and timestamps differ: of what it answers, on
 -- tables of at most 2^35 rows each
 module _ (nr : ℕ) (some : 1 ≤ nr) (most : nr ≤ 24) where
-  pub code-sums : (core round : List ℕ) → rows coreLayout core ≤ MAX-ROWS → rows roundLayout round ≤ MAX-ROWS →
+  pub code-sums : (core round : List ℕ) → rows coreLayout core ≤ 2 ^ 35 → rows roundLayout round ≤ 2 ^ 35 →
       (v : Verdict) → Answered nr core round v →
       (v ≡ Holds (actives coreLayout core)) ↔ (Filled nr core round × DistinctTimestamps coreLayout core)
   code-sums core round few-core few-round v a =
@@ -1830,7 +1777,7 @@ pub job-refiled : {nr : ℕ} {core round counts before after counts′ before′
     Reported nr core round counts′ before′ after′ → rowAt 4 after (segmentCount counts) ≡ rowAt 4 after′ (segmentCount counts′)
 job-refiled = reported-refiled
 
--- The same report in lent memory (job/specs/Within.antt): "The same for `verdict_line` and `job`, so that the host never needs the slow one."
+-- The same report in lent memory (job/specs/Within.antt), so that a host never needs the slow one.
 -- What is checked of `job` before the tables' words is checked first, then 3 on scratch and 3 on spare, whose detail is 2 words a row of both
 -- tables (`placeCount`), then 5; accepted exactly where `job` is and both slices have room
 module _ (nr : ℕ) (core round counts : List ℕ) (room scratch spare : ℕ) where

@@ -1,2 +1,1 @@
-// No code: proofs/Statements.antt has the statements of the project on one page, each beside the sentence that asks for
-// it.
+// No code: proofs/ has the statements of the project, each beside the sentence that asks for it.

@@ -11,7 +11,7 @@ use mathlib.Core.Logic.{_↔_}
 use mathlib.Core.List.{List, [], _∷_, _++_}
 use native.Mathlib.Omega.{arith}
 use lib.Dec.{ltb, leb}
-use lib.ListN.{length, getD}
+use lib.ListN.{length, getD, replicate}
 use borrow.Author.Tests.{le-leb, lt-ltb}
 use Rattle.lists.specs.Tab.{pick}
 use Rattle.lists.specs.Select.{wordsTest}
@@ -50,33 +50,29 @@ decimal-digits-only (suc k) n =
     (λ l. ap digitsOnly (digits-one k n l) ∙ one-digit n l)
 
 -- "zeros may lead": k of them
-unfoldable pub leading : ℕ → List ℕ → List ℕ
-leading zero s = s
-leading (suc k) s = 48 ∷ leading k s
-
 module _ (s : List ℕ) where
-  lead-number : (k : ℕ) → numberIn (leading k s) ≡ numberIn s
-  unfolding leading numberIn readOn
+  lead-number : (k : ℕ) → numberIn (replicate k 48 ++ s) ≡ numberIn s
+  unfolding numberIn readOn
   lead-number zero = refl
   lead-number (suc k) = lead-number k
 
-  lead-digits : (k : ℕ) → digitsOnly (leading k s) ≡ digitsOnly s
-  unfolding leading digitsOnly isDigit
+  lead-digits : (k : ℕ) → digitsOnly (replicate k 48 ++ s) ≡ digitsOnly s
+  unfolding digitsOnly isDigit
   lead-digits zero = refl
   lead-digits (suc k) = lead-digits k
 
 module _ (k n : ℕ) where
-  written : numberIn (leading k (decimalOf n)) ≡ n
+  written : numberIn (replicate k 48 ++ decimalOf n) ≡ n
   written = lead-number (decimalOf n) k ∙ decimal-back n
 
-  pub floor-back : n ≤ MOST → floorIn (leading k (decimalOf n)) ≡ n
+  pub floor-back : n ≤ MOST → floorIn (replicate k 48 ++ decimalOf n) ≡ n
   unfolding decimalOf
   floor-back h =
-      let w = leading k (decimalOf n) in
+      let w = replicate k 48 ++ decimalOf n in
       sym (decimal-is w (lead-digits (decimalOf n) k ∙ decimal-digits-only (suc n) n) (omega (arith, h, written))) ∙ written
 
-  pub floor-over : MOST < n → floorIn (leading k (decimalOf n)) ≡ 0
-  floor-over h = sym (too-large (leading k (decimalOf n)) (omega (arith, h, written)))
+  pub floor-over : MOST < n → floorIn (replicate k 48 ++ decimalOf n) ≡ 0
+  floor-over h = sym (too-large (replicate k 48 ++ decimalOf n) (omega (arith, h, written)))
 
 -- what a word of digits only is, byte by byte
 digits-at : (w : List ℕ) → digitsOnly w ≡ true → (i : ℕ) → i < length w → (48 ≤ getD w i 0) × (getD w i 0 ≤ 57)

@@ -1,112 +1,103 @@
 -- `is_wh_counts::charge_row` meets its contract: four counters, one after the other.
 use mathlib.Core.List.{List}
-use mathlib.Core.Path.{sym, ap, subst, _∙_}
+use mathlib.Core.Path.{ap, _∙_}
 use Prim.Native.Nat.{ℕ, _+_, _*_, _/_, _%_}
 use native.Mathlib.Omega.{arith}
 use borrow.Author.Needs.{needs}
-use Rattle.field.specs.Elements.{ElementRow}
-use Rattle.bitwise.specs.Columns.{NUM-COUNTERS}
-use Rattle.bitwise.specs.Counters.{charge}
-use Rattle.bitwise.proofs.Charge.{elements-add, may-add}
+use Rattle.is_wh_counts.specs.Steps.{chargeSome, chargedByRow}
+use Rattle.is_wh_counts.proofs.Grown.{Kept, kept-one, kept-more, kept-there}
 use Rattle.is_wh_counts.proofs.charge_row.Statement.{statement}
 use Rattle.is_wh_counts.proofs.charge_row.Tie as tie
 
--- the counters after each of the first three
-one : (a : tie.After-charge-word) → ElementRow NUM-COUNTERS (a .charge-word .last .0)
-one a =
-    let s = a .before .before .before in
-    subst (ElementRow NUM-COUNTERS) (sym (a .charge-word .ensures)) (elements-add (s .args .mu * 10 + 5) 1 (s .pre .0) (omega (arith, s .pre .3)))
+-- the counters after each of the first three are as many, and those below p stay so
+one : (a : tie.After-charge-some) → let C = a .before .before .before .args .counters .now in Kept C (a .charge-some .last .0)
+one a = kept-one _ _ (a .charge-some .ensures)
 
-two : (a : tie.After-charge-word2) → ElementRow NUM-COUNTERS (a .charge-word2 .last .0)
-two a =
-    let b = a .before .before .before .before in
-    let s = b .before .before .before in
-    subst (ElementRow NUM-COUNTERS) (sym (a .charge-word2 .ensures)) (elements-add (s .args .half * 10 + 4) (s .args .mu) (one b) (omega (arith, s .pre .2)))
+two : (a : tie.After-charge-some2) → let C = a .before .before .before .before .before .before .before .args .counters .now in Kept C (a .charge-some2 .last .0)
+two a = kept-more (one (a .before .before .before .before)) _ _ (a .charge-some2 .ensures)
 
-three : (a : tie.After-charge-word3) → ElementRow NUM-COUNTERS (a .charge-word3 .last .0)
-three a =
-    let b = a .before .before .before .before in
-    let s = b .before .before .before .before .before .before .before in
-    subst (ElementRow NUM-COUNTERS) (sym (a .charge-word3 .ensures)) (elements-add (s .args .word % 65536 * 10 + 4) (s .args .mu) (two b) (omega arith))
+three : (a : tie.After-charge-some3) → let C = a .before .before .before .before .before .before .before .before .before .before .before .args .counters .now in Kept C (a .charge-some3 .last .0)
+three a = kept-more (two (a .before .before .before .before)) _ _ (a .charge-some3 .ensures)
 
-mul-charge-word : tie.Need-mul-charge-word
-mul-charge-word c = search needs
+mul-charge-some : tie.Need-mul-charge-some
+mul-charge-some c = search needs
 
-add-charge-word : tie.Need-add-charge-word
-add-charge-word c = search needs
+add-charge-some : tie.Need-add-charge-some
+add-charge-some c = search needs
 
-charge-word-requires : tie.Need-charge-word-requires
-charge-word-requires c κs =
+charge-some-requires : tie.Need-charge-some-requires
+charge-some-requires c κs =
     let s = c .before .before in
-    may-add (s .args .mu * 10 + 5) (s .pre .0) (omega (arith, s .pre .3))
+    (omega (arith, s .pre .0, s .pre .4), λ _. s .pre .1 .twenty)
 
-mul-charge-word-2 : tie.Need-mul-charge-word-2
-mul-charge-word-2 c = search needs
+mul-charge-some-2 : tie.Need-mul-charge-some-2
+mul-charge-some-2 c = search needs
 
-add-charge-word-2 : tie.Need-add-charge-word-2
-add-charge-word-2 c = search needs
+add-charge-some-2 : tie.Need-add-charge-some-2
+add-charge-some-2 c = search needs
 
-charge-word-requires-2 : tie.Need-charge-word-requires-2
-charge-word-requires-2 c κs =
+charge-some-requires-2 : tie.Need-charge-some-requires-2
+charge-some-requires-2 c κs =
     let a = c .before .before .before in
     let s = a .before .before .before in
-    may-add (s .args .half * 10 + 4) (one a) (omega (arith, s .pre .2))
+    kept-there (one a) (s .args .half * 10 + 4) (omega (arith, s .pre .0, s .pre .3)) (s .pre .1 .half)
 
-mul-charge-word-3 : tie.Need-mul-charge-word-3
-mul-charge-word-3 c = search needs
+mul-charge-some-3 : tie.Need-mul-charge-some-3
+mul-charge-some-3 c = search needs
 
-add-charge-word-3 : tie.Need-add-charge-word-3
-add-charge-word-3 c = search needs
+add-charge-some-3 : tie.Need-add-charge-some-3
+add-charge-some-3 c = search needs
 
-charge-word-requires-3 : tie.Need-charge-word-requires-3
-charge-word-requires-3 c κs =
+charge-some-requires-3 : tie.Need-charge-some-requires-3
+charge-some-requires-3 c κs =
     let a = c .before .before .before in
     let s = a .before .before .before .before .before .before .before in
-    may-add (s .args .word % 65536 * 10 + 4) (two a) (omega arith)
+    kept-there (two a) (s .args .word % 65536 * 10 + 4) (omega (arith, s .pre .0)) (s .pre .1 .low)
 
-mul-charge-word-4 : tie.Need-mul-charge-word-4
-mul-charge-word-4 c = search needs
+mul-charge-some-4 : tie.Need-mul-charge-some-4
+mul-charge-some-4 c = search needs
 
-add-charge-word-4 : tie.Need-add-charge-word-4
-add-charge-word-4 c = search needs
+add-charge-some-4 : tie.Need-add-charge-some-4
+add-charge-some-4 c = search needs
 
-charge-word-requires-4 : tie.Need-charge-word-requires-4
-charge-word-requires-4 c κs =
+charge-some-requires-4 : tie.Need-charge-some-requires-4
+charge-some-requires-4 c κs =
     let a = c .before .before .before in
     let s = a .before .before .before .before .before .before .before .before .before .before .before in
-    may-add (s .args .word / 65536 * 10 + 4) (three a) (omega (arith, s .pre .1))
+    kept-there (three a) (s .args .word / 65536 * 10 + 4) (omega (arith, s .pre .0, s .pre .2)) (s .pre .1 .high)
 
 same-length : tie.Need-same-length
 same-length c = search needs
 
 returns : tie.Need-returns
+unfolding chargedByRow
 returns c =
     let d = c .before .before in
     let b = d .before .before .before .before in
     let e = b .before .before .before .before in
     let a = e .before .before .before .before in
     let s = a .before .before .before in
-    d .charge-word4 .ensures
-    ∙ ap (λ (C : List ℕ). charge C (s .args .word / 65536 * 10 + 4) (s .args .mu))
-    (b .charge-word3 .ensures
-    ∙ ap (λ (C : List ℕ). charge C (s .args .word % 65536 * 10 + 4) (s .args .mu))
-    (e .charge-word2 .ensures ∙ ap (λ (C : List ℕ). charge C (s .args .half * 10 + 4) (s .args .mu)) (a .charge-word .ensures)))
+    d .charge-some4 .ensures
+    ∙ ap (λ (C : List ℕ). chargeSome C (s .args .word / 65536 * 10 + 4) (s .args .mu))
+    (b .charge-some3 .ensures
+    ∙ ap (λ (C : List ℕ). chargeSome C (s .args .word % 65536 * 10 + 4) (s .args .mu))
+    (e .charge-some2 .ensures ∙ ap (λ (C : List ℕ). chargeSome C (s .args .half * 10 + 4) (s .args .mu)) (a .charge-some .ensures)))
 
 pub charge-row-spec : {M : Type 1} → statement M
 charge-row-spec =
     tie.close
     (tie.spec
-    mul-charge-word
-    add-charge-word
-    charge-word-requires
-    mul-charge-word-2
-    add-charge-word-2
-    charge-word-requires-2
-    mul-charge-word-3
-    add-charge-word-3
-    charge-word-requires-3
-    mul-charge-word-4
-    add-charge-word-4
-    charge-word-requires-4
+    mul-charge-some
+    add-charge-some
+    charge-some-requires
+    mul-charge-some-2
+    add-charge-some-2
+    charge-some-requires-2
+    mul-charge-some-3
+    add-charge-some-3
+    charge-some-requires-3
+    mul-charge-some-4
+    add-charge-some-4
+    charge-some-requires-4
     same-length
     returns)

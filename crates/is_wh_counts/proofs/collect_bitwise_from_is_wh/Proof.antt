@@ -1,17 +1,14 @@
 -- `is_wh_counts::collect_bitwise_from_is_wh` meets its contract: the checks, then the rows, then the padding (Refusals.antt).
 use mathlib.Core.Option.{none}
-use mathlib.Core.Path.{_≡_, refl, sym, subst, _∙_}
+use mathlib.Core.Path.{_≡_, refl, sym, _∙_}
 use Prim.Native.Nat.{_-_, _/_}
 use native.Mathlib.Omega.{arith}
 use borrow.Author.Needs.{needs}
 use lib.ListN.{length}
-use Rattle.field.specs.Elements.{ElementRow}
 use Rattle.answer.proofs.Laws.{is-refused, is-done}
-use Rattle.bitwise.specs.Columns.{NUM-COUNTERS}
 use Rattle.keccak.proofs.Height.{height-ge}
 use Rattle.is_wh_counts.specs.Counts.{collectRefusal}
-use Rattle.bitwise.proofs.Charge.{may-add, charged-elements}
-use Rattle.is_wh_counts.proofs.Refusals.{collect-passed, collect-refused, none-done, rows-done}
+use Rattle.is_wh_counts.proofs.Refusals.{collect-passed, collect-refused, none-done, rows-below, padding-charge, rows-done}
 use Rattle.is_wh_counts.proofs.collect_bitwise_from_is_wh.Statement.{statement}
 use Rattle.is_wh_counts.proofs.collect_bitwise_from_is_wh.Tie as tie
 
@@ -54,22 +51,24 @@ table-height-requires c κs = search needs
 charge-rows-requires : tie.Need-charge-rows-requires
 charge-rows-requires c κs =
     let t = c .before .before .before in
-    let a = collect-passed (start t .args .rows .now) (start t .args .counters .now) (passed t) in
-    (a .1, a .0, refl)
+    let s = start t in
+    let a = collect-passed (s .args .rows .now) (s .args .counters .now) (passed t) in
+    (a .1 .long, rows-below (s .args .rows .now) (s .args .counters .now) (passed t) (c .before .before .if1 .left), a .0, refl)
 
-sub-charge-word : tie.Need-sub-charge-word
-sub-charge-word c =
+sub-charge-some : tie.Need-sub-charge-some
+sub-charge-some c =
     let h = c .before .before .before .before .before in
     let s = start (h .before .before) in
     omega (arith, h .table-height .ensures, height-ge 4 (length (s .args .rows .now) / 3))
 
-charge-word-requires : tie.Need-charge-word-requires
-charge-word-requires c κs =
+charge-some-requires : tie.Need-charge-some-requires
+charge-some-requires c κs =
     let r = c .before .before .before in
-    let t = r .before .before .before .before in
+    let h = r .before .before in
+    let t = h .before .before in
     let s = start t in
-    let a = collect-passed (s .args .rows .now) (s .args .counters .now) (passed t) in
-    may-add 5 (subst (ElementRow NUM-COUNTERS) (sym (r .charge-rows .ensures)) (charged-elements (s .args .counters .now) _ (a .1 .long))) (omega arith)
+    let a = padding-charge (s .args .rows .now) (s .args .counters .now) (passed t) (h .before .if1 .left) (h .table-height .ensures) (r .charge-rows .ensures) in
+    (a .0, λ q. a .1 (omega (arith, q)))
 
 same-length-3 : tie.Need-same-length-3
 same-length-3 c = search needs
@@ -80,7 +79,7 @@ returns-3 c =
     let r = a .before .before .before .before in
     let h = r .before .before in
     let t = h .before .before in
-    rows-done (start t .args .rows .now) (start t .args .counters .now) (passed t) (h .before .if1 .left) (h .table-height .ensures) (r .charge-rows .ensures) (a .charge-word .ensures)
+    rows-done (start t .args .rows .now) (start t .args .counters .now) (passed t) (h .before .if1 .left) (h .table-height .ensures) (r .charge-rows .ensures) (a .charge-some .ensures)
 
 pub collect-bitwise-from-is-wh-spec : {M : Type 1} → statement M
 collect-bitwise-from-is-wh-spec =
@@ -95,7 +94,7 @@ collect-bitwise-from-is-wh-spec =
     returns-2
     table-height-requires
     charge-rows-requires
-    sub-charge-word
-    charge-word-requires
+    sub-charge-some
+    charge-some-requires
     same-length-3
     returns-3)

@@ -66,7 +66,7 @@ charge-ledger-requires c κs =
     let t = c .before .before .before .before .before .before in
     let x = start t .args in
     let k = charge-known (x .nr) (x .floor) (x .register) (x .ops .now) (x .counters .now) (x .ledgers .now) (passed t) in (
-      k .1,
+      omega (arith, k .1),
       λ j l. subst (λ (n : ℕ). n < p) (word-rowAt 10 (x .ledgers .now) (x .register) j l) (k .2 .below j l),
     )
 

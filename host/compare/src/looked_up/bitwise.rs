@@ -6,7 +6,7 @@ use keccak_tables::{P, bitwise};
 use oracle::tables::bitwise::BitwiseOperation;
 use oracle::{BitwiseTable, Counters, Lookup};
 
-use super::{added, at_counter, charged, counters, elements, longer};
+use super::{added, at_counter, charged, counters, elements, longer, wild};
 use crate::comparison::Comparison;
 use crate::inputs::Words;
 use crate::lent::Lent;
@@ -170,7 +170,8 @@ fn merge(
     other.kept(comparison, |place| at_counter("the other counters", place));
 }
 
-/// A list of lookups on counters of zeros, on counters about p, on a table of elements, and on one whose fixed columns are none.
+/// A list of lookups on counters of zeros, on counters about p, on ones that are no elements where they are not charged, and on a table
+/// likewise, whose fixed columns are none.
 fn lists(comparison: &mut Comparison, words: &mut Words, length: usize) {
     let lookups: Vec<Lookup> = (0..length).map(|_| lookup(words)).collect();
     let theirs: Vec<BitwiseOperation> = lookups.iter().map(|lookup| lookup.operation()).collect();
@@ -183,7 +184,7 @@ fn lists(comparison: &mut Comparison, words: &mut Words, length: usize) {
     let what = format!("a list of {length} lookups");
     let input = |place| at_counter(&what, place);
     let mut ops = Lent::new(&list, words);
-    for before in [vec![0; NUM_COUNTERS], counters(words)] {
+    for before in [vec![0; NUM_COUNTERS], counters(words), wild(words, &counts)] {
         let expected = charged(&before, &counts);
         let mut lent = Lent::new(&longer(words, before), words);
         comparison.done(|| what.clone(), bitwise::add_ops(lent.slice(), ops.slice()));
@@ -198,6 +199,12 @@ fn lists(comparison: &mut Comparison, words: &mut Words, length: usize) {
         let cells = row * NUM_COLUMNS..row * NUM_COLUMNS + NUM_PRECOMPUTED_COLS;
         before[cells.clone()].fill(u64::MAX);
         expected[cells].fill(u64::MAX);
+    }
+    // Nor is a multiplicity that is not charged.
+    for place in (0..NUM_COUNTERS).step_by(2).filter(|place| counts[*place] == 0) {
+        let cell = place / 10 * NUM_COLUMNS + NUM_PRECOMPUTED_COLS + place % 10;
+        before[cell] = u64::MAX;
+        expected[cell] = u64::MAX;
     }
     let mut lent = Lent::new(&longer(words, before), words);
     comparison.done(

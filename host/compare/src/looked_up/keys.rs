@@ -6,7 +6,7 @@ use keccak_tables::bitwise;
 use keccak_tables::is_wh::{self, IS_WH_MU_MAX, IsWhRows, MAX_KEYS, NUM_COLUMNS, ROW_WORDS};
 use oracle::{Bus, Counters, Lookup, Side};
 
-use super::{at_counter, charged, counters, longer};
+use super::{at_counter, charged, counters, longer, wild};
 use crate::comparison::Comparison;
 use crate::inputs::Words;
 use crate::lent::Lent;
@@ -245,7 +245,7 @@ fn table(comparison: &mut Comparison, words: &mut Words, rows: &[u64]) {
     lent.kept(comparison, |_| input());
 }
 
-/// What is charged to counters of zeros, and to counters about p: the Rust's counts, and the sums over the tuples of its table.
+/// What is charged to counters of zeros, to counters about p, and to ones that are no elements where they are not charged: the Rust's counts, and the sums over the tuples of its table.
 fn lookups(comparison: &mut Comparison, words: &mut Words, rows: &[u64]) {
     let mut counts = Counters::new();
     counts.collect_is_wh(rows);
@@ -262,7 +262,7 @@ fn lookups(comparison: &mut Comparison, words: &mut Words, rows: &[u64]) {
         );
     }
     let mut list = Lent::new(rows, words);
-    for before in [vec![0; bitwise::NUM_COUNTERS], counters(words)] {
+    for before in [vec![0; bitwise::NUM_COUNTERS], counters(words), wild(words, &counts)] {
         let expected = charged(&before, &counts);
         let mut lent = Lent::new(&longer(words, before), words);
         let answer = is_wh::collect_bitwise_from_is_wh(list.slice(), lent.slice());

@@ -27,7 +27,22 @@ fn added(a: u64, b: u64) -> u64 {
 
 /// What each word is when a count is added to it, mod p.
 pub(crate) fn charged(before: &[u64], counts: &[u64]) -> Vec<u64> {
-    before.iter().zip(counts).map(|(&a, &b)| added(a, b)).collect()
+    before
+        .iter()
+        .zip(counts)
+        .map(|(&a, &b)| if b == 0 { a } else { added(a, b) })
+        .collect()
+}
+
+/// Counters about p; those that are not charged hold any word.
+pub(crate) fn wild(words: &mut Words, counts: &[u64]) -> Vec<u64> {
+    let mut before = counters(words);
+    for (word, count) in before.iter_mut().zip(counts) {
+        if *count == 0 {
+            *word |= u64::MAX << 32;
+        }
+    }
+    before
 }
 
 /// So many elements, half of them just below p.

@@ -113,6 +113,33 @@ fn drawn_or_none(words: &mut Words, none: bool) -> Spoilt<'static> {
     SPOILT_COUNTERS[if none { 0 } else { drawn }]
 }
 
+/// Counters that are no elements: up to two of those that are charged, and sometimes one that is not; or nothing.
+fn spoilt_among(words: &mut Words, charged: &[usize], none: bool) -> Vec<(usize, u64)> {
+    if none {
+        return vec![];
+    }
+    let uncharged = words.below(2) == 0;
+    let mut spoilt = drawn_or_none(words, !uncharged).to_vec();
+    for _ in 0..words.below(3) {
+        if let Some(&place) = charged.get(words.below(charged.len().max(1) as u64) as usize) {
+            if spoilt.iter().all(|(other, _)| *other != place) {
+                spoilt.push((place, [P - 1, P, u64::MAX][words.below(3) as usize]));
+            }
+        }
+    }
+    spoilt
+}
+
+/// The first counter that is charged and is no element.
+fn first_charged(spoilt: Spoilt, charged: &[usize]) -> Option<u64> {
+    let read: Vec<(usize, u64)> = spoilt
+        .iter()
+        .filter(|(place, _)| charged.contains(place))
+        .copied()
+        .collect();
+    first_not_element(&read, NUM_COUNTERS)
+}
+
 pub(crate) fn short(length: usize, needed: usize) -> (bool, u64, u64) {
     (length < needed, 3, needed as u64)
 }
@@ -260,9 +287,9 @@ fn lists(comparison: &mut Comparison, words: &mut Words, long: &mut Long) {
                 whole: ops.len(),
             };
             for which in 0..6 {
-                let spoilt = drawn_or_none(words, which == 2);
-                on.counters(comparison, words, long, which, spoilt);
-                on.table(comparison, words, long, which, spoilt);
+                let spoilt = spoilt_among(words, &on.charged(), which == 2);
+                on.counters(comparison, words, long, which, &spoilt);
+                on.table(comparison, words, long, which, &spoilt);
             }
         }
     }
@@ -275,13 +302,21 @@ struct OnLookups<'a> {
 }
 
 impl OnLookups<'_> {
-    /// The refusal on a slice of `length` words, of which the first that is no element is at a place.
+    /// The counters of its lookups.
+    fn charged(&self) -> Vec<usize> {
+        let counter = |lookup: &[u64]| ((lookup[1] + 256 * lookup[2] + 65_536 * lookup[3]) * 10 + lookup[0]) as usize;
+        let lookups = self.ops[..self.whole].chunks_exact(4);
+        let sound = lookups.filter(|word| word[0] < 10 && word[1] < 256 && word[2] < 256 && word[3] < 16);
+        sound.map(counter).collect()
+    }
+
+    /// The refusal on a slice of `length` words, of which the first that is charged and no element is at a place.
     fn expected(&self, length: usize, needed: usize, bad: Option<u64>) -> Option<(u64, u64)> {
         past_end(&self.ops[..self.whole]).or(first(&[
             (self.ops.len() != self.whole, 2, 2),
             short(length, needed),
-            not_element(bad),
             not_element(no_byte(self.ops)),
+            not_element(bad),
         ]))
     }
 
@@ -294,7 +329,7 @@ impl OnLookups<'_> {
             NUM_COUNTERS,
             NUM_COUNTERS + 1,
         ][which];
-        let expected = self.expected(length, NUM_COUNTERS, first_not_element(spoilt, NUM_COUNTERS));
+        let expected = self.expected(length, NUM_COUNTERS, first_charged(spoilt, &self.charged()));
         if expected.is_none() && !self.ops.is_empty() {
             return;
         }
@@ -318,12 +353,13 @@ impl OnLookups<'_> {
             TABLE_WORDS + 1,
         ][which];
         let cell = |place: usize| place / 10 * NUM_COLUMNS + bitwise::NUM_PRECOMPUTED_COLS + place % 10;
+        let bad = first_charged(spoilt, &self.charged()).map(|place| cell(place as usize) as u64);
         let spoilt: Vec<(usize, u64)> = spoilt
             .iter()
             .filter(|(place, _)| *place < NUM_COUNTERS)
             .map(|&(place, word)| (cell(place), word))
             .collect();
-        let expected = self.expected(length, TABLE_WORDS, first_not_element(&spoilt, TABLE_WORDS));
+        let expected = self.expected(length, TABLE_WORDS, bad);
         if expected.is_none() && !self.ops.is_empty() {
             return;
         }
@@ -402,6 +438,28 @@ fn dedup(
     }
 }
 
+/// The counters that the table of rows charges: 20 bits of each count, that of 0 for the padding, and the halves of each key that is
+/// counted.
+fn charged_by_rows(rows: &[u64]) -> Vec<usize> {
+    let n = rows.len() / 3;
+    let mut charged = if n == 0 || n.next_power_of_two().max(4) == n {
+        vec![]
+    } else {
+        vec![5]
+    };
+    for row in rows.chunks_exact(3) {
+        let (word, half, mu) = (row[0], row[1], row[2]);
+        if word >= 1 << 32 || half >= 1 << 16 || mu >= 1 << 20 {
+            continue;
+        }
+        charged.push(mu as usize * 10 + 5);
+        if mu > 0 {
+            charged.extend([half, word % 65_536, word / 65_536].map(|half| half as usize * 10 + 4));
+        }
+    }
+    charged
+}
+
 /// The two calls on rows. On the counters the list that is accepted is the empty one, which charges nothing.
 fn rows(comparison: &mut Comparison, words: &mut Words, long: &mut Long) {
     let limits = [1 << 32, 1 << 16, 1 << 20];
@@ -424,13 +482,14 @@ fn rows(comparison: &mut Comparison, words: &mut Words, long: &mut Long) {
                 }
             }
             for length in [0, NUM_COUNTERS - 1, NUM_COUNTERS, NUM_COUNTERS + 1] {
-                let spoilt = drawn_or_none(words, length == NUM_COUNTERS);
-                let counter = not_element(first_not_element(spoilt, NUM_COUNTERS));
+                let charged = charged_by_rows(&rows);
+                let spoilt = spoilt_among(words, &charged, false);
+                let counter = not_element(first_charged(&spoilt, &charged));
                 let expected = first(&[(past != 0, 2, 2), short(length, NUM_COUNTERS), bad, counter]);
                 if expected.is_none() && !rows.is_empty() {
                     continue;
                 }
-                let answer = spoiling(&mut long.counters, spoilt, |counters| {
+                let answer = spoiling(&mut long.counters, &spoilt, |counters| {
                     is_wh::collect_bitwise_from_is_wh(lent.slice(), &mut counters[..length])
                 });
                 let input = || format!("the lookups of the rows {list:?} on {length} counters, {spoilt:?}");

@@ -1,31 +1,30 @@
 -- `bitwise_operations::counted::add_lookups` meets its contract: after i turns the first i lookups are counted.
-use mathlib.Core.Path.{_≡_, refl, sym, ap, subst, _∙_}
+use mathlib.Core.Path.{_≡_, refl, ap, _∙_}
 use mathlib.Core.List.{List}
 use Prim.Native.Nat.{ℕ, _+_, _-_, _≤_, _<_}
 use native.Mathlib.Omega.{arith}
 use lib.ListN.{length}
-use Rattle.field.specs.Elements.{ElementRow}
-use Rattle.field.proofs.NotElement.{all-elements}
+use Rattle.lists.specs.Tab.{word}
 use Rattle.bitwise.specs.Counters.{charge}
 use Rattle.bitwise.specs.Lookups.{Lookup, chargeEach, lookupCounter}
-use Rattle.bitwise.proofs.Counters.{charge-length, charge-row}
+use Rattle.bitwise.proofs.Counters.{charge-length}
 use Rattle.bitwise.proofs.Lookups.{lookups-are, lookup-lt, each-more}
+use Rattle.bitwise_operations.proofs.Charging.{may-charge, still-below}
 use Rattle.bitwise_operations.proofs.counted.add_lookups.Statement.{statement}
 use Rattle.bitwise_operations.proofs.counted.add_lookups.Tie as tie
 
 -- a turn: one more lookup is counted
-turn : (ops l : List ℕ) {n i : ℕ} {row row′ : List ℕ} → (i ≤ n) × (length row ≡ length l) × (row ≡ chargeEach (lookupCounter ops) i l) × ElementRow 10485760 row → i < n
-    → row′ ≡ charge row (lookupCounter ops i) 1 → (i + 1 ≤ n) × (length row′ ≡ length l) × (row′ ≡ chargeEach (lookupCounter ops) (i + 1) l) × ElementRow 10485760 row′
+turn : (ops l : List ℕ) {n i : ℕ} {row row′ : List ℕ} → (i ≤ n) × (length row ≡ length l) × (row ≡ chargeEach (lookupCounter ops) i l) → i < n
+    → row′ ≡ charge row (lookupCounter ops i) 1 → (i + 1 ≤ n) × (length row′ ≡ length l) × (row′ ≡ chargeEach (lookupCounter ops) (i + 1) l)
 turn ops l {i = i} {row} h b e = (
   omega arith,
   ap length e ∙ charge-length row (lookupCounter ops i) 1 ∙ h .1,
   e ∙ ap (λ (r : List ℕ). charge r (lookupCounter ops i) 1) (h .2) ∙ each-more (lookupCounter ops) i l,
-  subst (ElementRow 10485760) (sym e) (charge-row row (lookupCounter ops i) 1 10485760 (h .3)),
 )
 
 abbrev Inv-loop : tie.InvT-loop
 Inv-loop counters₀ ops n i₀ counters i =
-    (i ≤ n) × (length counters ≡ length counters₀) × (counters ≡ chargeEach (lookupCounter ops) i counters₀) × ElementRow 10485760 counters
+    (i ≤ n) × (length counters ≡ length counters₀) × (counters ≡ chargeEach (lookupCounter ops) i counters₀)
 
 abbrev μ-loop : tie.MeasureT-loop
 μ-loop counters₀ ops n i₀ counters i = n - i
@@ -38,9 +37,7 @@ lookup k =
 
 loop-holds : tie.Need-loop-holds Inv-loop μ-loop
 unfolding chargeEach
-loop-holds c =
-    let start = c .before .before in
-    (omega arith, refl, refl, record { long = start .pre .3; below = all-elements (start .args .counters .now) 10485760 (start .pre .4) })
+loop-holds c = (omega arith, refl, refl)
 
 counter-of-requires : tie.Need-counter-of-requires Inv-loop μ-loop
 counter-of-requires c κs = (omega arith, lookup c)
@@ -49,10 +46,13 @@ charge-word-requires : tie.Need-charge-word-requires Inv-loop μ-loop
 charge-word-requires c κs =
     let in-loop = c .before .before in
     let l = in-loop .before .loop in
-    let ops = in-loop .before .before .before .before .args .ops .now in
+    let start = in-loop .before .before .before .before in
+    let ops = start .args .ops .now in
+    let first = start .args .counters .now in
     let e = c .before .counter-of .ensures in
     let b = lookup-lt ops (l .i) (lookup in-loop) in
-    (omega (arith, e, b, l .inv .3 .long), rw e (l .inv .3 .below (lookupCounter ops (l .i)) b))
+    let h = may-charge ops (word first) (start .args .n) (start .pre .1) (start .pre .2) (start .pre .4) (l .i) (in-loop .loop-test .taken) in
+    (omega (arith, e, b, l .inv .1, start .pre .3), rw e (still-below (lookupCounter ops) (l .i) first (l .inv .2) (omega (arith, b, start .pre .3)) h))
 
 add-i : tie.Need-add-i Inv-loop μ-loop
 add-i c = omega arith

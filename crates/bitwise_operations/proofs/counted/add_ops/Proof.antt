@@ -6,11 +6,12 @@ use Prim.Native.Nat.{ℕ}
 use native.Mathlib.Omega.{arith}
 use borrow.Author.Needs.{needs}
 use lib.ListN.{length}
-use Rattle.lists.specs.First.{first}
+use Rattle.lists.specs.Tab.{word}
+use Rattle.lists.specs.First.{first, firstAt}
 use Rattle.lists.proofs.First.{place-at, place-nowhere}
-use Rattle.field.specs.Elements.{firstNotElement}
 use Rattle.answer.proofs.Laws.{at-yes, at-no, refused, done, is-refused, is-done}
-use Rattle.bitwise.specs.Lookups.{lookupCount, notByteAt, addedOps, addOpsRefusal}
+use Rattle.bitwise.specs.Counters.{largeCharged}
+use Rattle.bitwise.specs.Lookups.{lookupCount, notByteAt, namedIn, addedOps, addOpsRefusal}
 use Rattle.bitwise.proofs.LookupRefusals.{Checked, checked, checked-later, three-refused}
 use Rattle.bitwise_operations.proofs.counted.add_ops.Statement.{statement}
 use Rattle.bitwise_operations.proofs.counted.add_ops.Tie as tie
@@ -26,11 +27,12 @@ Ops k = k .before .before .before .before .before .args .ops .now
 known : (k : tie.After-enum-told) → Checked (Ops k) (length (Counters k)) 10485760
 known k = checked _ _ _ (is-done _ (sym (k .enum-told .given .1) ∙ k .before .before .check-lookups .ensures))
 
-elements : (k : tie.After-enum-told2) → firstNotElement (Counters (k .before .before .before .before)) 10485760 ≡ none
-elements k = place-nowhere _ (sym (k .enum-told2 .given .1) ∙ k .before .before .first-not-element .ensures)
+bytes : (k : tie.After-enum-told2) → let ops = Ops (k .before .before .before) in first (notByteAt ops) (lookupCount ops) ≡ none
+bytes k = place-nowhere _ (sym (k .enum-told2 .given .1) ∙ k .before .before .first-not-byte .ensures)
 
-bytes : (k : tie.After-enum-told3) → let ops = Ops (k .before .before .before .before .before .before .before) in first (notByteAt ops) (lookupCount ops) ≡ none
-bytes k = place-nowhere _ (sym (k .enum-told3 .given .1) ∙ k .before .before .first-not-byte .ensures)
+below : (k : tie.After-enum-told3) → let start = k .before .before .before .before .before .before .before in
+    firstAt (largeCharged (namedIn (Ops start) (lookupCount (Ops start))) (word (Counters start))) 10485760 ≡ none
+below k = place-nowhere _ (sym (k .enum-told3 .given .1) ∙ k .before .before .first-counter .ensures)
 
 check-lookups-requires : tie.Need-check-lookups-requires
 check-lookups-requires c κs = search needs
@@ -45,41 +47,41 @@ returns c = refused _ _ (three-refused _ _ _ _ _ _ _ (is-refused _ (sym (c .befo
 enum-told : tie.Need-enum-told
 enum-told c = search needs
 
-first-not-element-requires : tie.Need-first-not-element-requires
-first-not-element-requires c κs = known (c .before) .fits
+first-not-byte-requires : tie.Need-first-not-byte-requires
+first-not-byte-requires c κs = search needs
 
 enum-known-k : tie.Need-enum-known-k
 enum-known-k c = search needs
-
-same-length : tie.Need-same-length
-same-length c = search needs
 
 returns-2 : tie.Need-returns-2
 unfolding addOpsRefusal
 returns-2 c =
     let called = c .before .before .before in
-    refused _ _ (checked-later _ _ _ (known (called .before .before)) (at-yes _ _ (place-at _ (sym (c .before .k .given .1) ∙ called .first-not-element .ensures))))
+    refused _ _ (checked-later _ _ _ (known (called .before)) (at-yes _ _ (place-at _ (sym (c .before .k .given .1) ∙ called .first-not-byte .ensures))))
 
 enum-told-2 : tie.Need-enum-told-2
 enum-told-2 c = search needs
 
-first-not-byte-requires : tie.Need-first-not-byte-requires
-first-not-byte-requires c κs = search needs
+first-counter-requires : tie.Need-first-counter-requires
+first-counter-requires c κs =
+    let told = c .before in
+    let k = known (told .before .before .before) in
+    (omega arith, k .past, bytes told, k .fits)
 
-enum-known-k-2 : tie.Need-enum-known-k-2
-enum-known-k-2 c = search needs
+enum-known-c : tie.Need-enum-known-c
+enum-known-c c = search needs
 
-same-length-2 : tie.Need-same-length-2
-same-length-2 c = search needs
+same-length : tie.Need-same-length
+same-length c = search needs
 
 returns-3 : tie.Need-returns-3
 unfolding addOpsRefusal
 returns-3 c =
     let called = c .before .before .before in
-    let told = called .before in
+    let told = called .before .before in
     refused _ _
-    (checked-later _ _ _ (known (told .before .before .before .before))
-    (at-no _ (elements told) (at-yes _ _ (place-at _ (sym (c .before .k2 .given .1) ∙ called .first-not-byte .ensures)))))
+    (checked-later _ _ _ (known (told .before .before .before))
+    (at-no _ (bytes told) (at-yes _ _ (place-at _ (sym (c .before .c .given .1) ∙ called .first-counter .ensures)))))
 
 enum-told-3 : tie.Need-enum-told-3
 enum-told-3 c = search needs
@@ -87,22 +89,21 @@ enum-told-3 c = search needs
 add-lookups-requires : tie.Need-add-lookups-requires
 add-lookups-requires c κs =
     let last = c .before in
-    let told = last .before .before .before in
-    let first-told = told .before .before .before .before in
-    let k = known first-told in
-    (omega arith, k .past, bytes last, k .fits, elements told)
+    let told = last .before .before .before .before in
+    let k = known (told .before .before .before) in
+    (omega arith, k .past, bytes told, k .fits, below last)
 
-same-length-3 : tie.Need-same-length-3
-same-length-3 c = search needs
+same-length-2 : tie.Need-same-length-2
+same-length-2 c = search needs
 
 returns-4 : tie.Need-returns-4
 unfolding addOpsRefusal addedOps
 returns-4 c =
     let called = c .before .before in
     let last = called .before .before in
-    let told = last .before .before .before in
+    let told = last .before .before .before .before in
     done _
-    (checked-later _ _ _ (known (told .before .before .before .before)) (at-no _ (elements told) (at-no _ (bytes last) refl)))
+    (checked-later _ _ _ (known (told .before .before .before)) (at-no _ (bytes told) (at-no _ (below last) refl)))
     (called .add-lookups .ensures)
 
 pub add-ops-spec : {M : Type 1} → statement M
@@ -113,16 +114,15 @@ add-ops-spec =
     enum-known-refusal
     returns
     enum-told
-    first-not-element-requires
+    first-not-byte-requires
     enum-known-k
-    same-length
     returns-2
     enum-told-2
-    first-not-byte-requires
-    enum-known-k-2
-    same-length-2
+    first-counter-requires
+    enum-known-c
+    same-length
     returns-3
     enum-told-3
     add-lookups-requires
-    same-length-3
+    same-length-2
     returns-4)

@@ -1,14 +1,15 @@
 -- `bitwise_operations::counted::update_lookups` meets its contract: after i turns the first i lookups are counted.
-use mathlib.Core.Path.{_≡_, refl, sym, ap, subst, _∙_}
+use mathlib.Core.Path.{_≡_, refl, ap, _∙_}
 use mathlib.Core.List.{List}
 use Prim.Native.Nat.{ℕ, _+_, _-_, _≤_, _<_}
 use native.Mathlib.Omega.{arith}
 use lib.ListN.{length}
+use Rattle.lists.specs.Tab.{word}
 use Rattle.bitwise.specs.Counters.{charge}
 use Rattle.bitwise.specs.Lookups.{Lookup, chargeEach, lookupCounter, muAt}
 use Rattle.bitwise.proofs.Counters.{charge-length}
 use Rattle.bitwise.proofs.Lookups.{lookups-are, lookup-lt, each-more, mu-lt}
-use Rattle.bitwise.proofs.LookupRefusals.{MuTable, mus-clear, mu-row}
+use Rattle.bitwise_operations.proofs.Charging.{may-charge, still-below}
 use Rattle.bitwise_operations.proofs.counted.update_lookups.Statement.{statement}
 use Rattle.bitwise_operations.proofs.counted.update_lookups.Tie as tie
 
@@ -17,17 +18,16 @@ abbrev place : List ℕ → ℕ → ℕ
 place ops i = muAt (lookupCounter ops i)
 
 -- a turn: one more lookup is counted
-turn : (ops l : List ℕ) {n i : ℕ} {row row′ : List ℕ} → (i ≤ n) × (length row ≡ length l) × (row ≡ chargeEach (place ops) i l) × MuTable row → i < n
-    → row′ ≡ charge row (place ops i) 1 → (i + 1 ≤ n) × (length row′ ≡ length l) × (row′ ≡ chargeEach (place ops) (i + 1) l) × MuTable row′
+turn : (ops l : List ℕ) {n i : ℕ} {row row′ : List ℕ} → (i ≤ n) × (length row ≡ length l) × (row ≡ chargeEach (place ops) i l) → i < n
+    → row′ ≡ charge row (place ops i) 1 → (i + 1 ≤ n) × (length row′ ≡ length l) × (row′ ≡ chargeEach (place ops) (i + 1) l)
 turn ops l {i = i} {row} h b e = (
   omega arith,
   ap length e ∙ charge-length row (place ops i) 1 ∙ h .1,
   e ∙ ap (λ (r : List ℕ). charge r (place ops i) 1) (h .2) ∙ each-more (place ops) i l,
-  subst MuTable (sym e) (mu-row row (place ops i) 1 (h .3)),
 )
 
 abbrev Inv-loop : tie.InvT-loop
-Inv-loop table₀ ops n i₀ table i = (i ≤ n) × (length table ≡ length table₀) × (table ≡ chargeEach (place ops) i table₀) × MuTable table
+Inv-loop table₀ ops n i₀ table i = (i ≤ n) × (length table ≡ length table₀) × (table ≡ chargeEach (place ops) i table₀)
 
 abbrev μ-loop : tie.MeasureT-loop
 μ-loop table₀ ops n i₀ table i = n - i
@@ -44,9 +44,7 @@ counter k = let e = k .counter-of .ensures in omega (arith, e, lookup-lt (k .bef
 
 loop-holds : tie.Need-loop-holds Inv-loop μ-loop
 unfolding chargeEach
-loop-holds c =
-    let start = c .before .before in
-    (omega arith, refl, refl, record { long = start .pre .3; below = mus-clear (start .args .table .now) 10485760 (start .pre .4) })
+loop-holds c = (omega arith, refl, refl)
 
 counter-of-requires : tie.Need-counter-of-requires Inv-loop μ-loop
 counter-of-requires c κs = (omega arith, lookup c)
@@ -59,10 +57,13 @@ charge-word-requires c κs =
     let found = c .before in
     let in-loop = found .before .before in
     let l = in-loop .before .loop in
-    let e = found .mu-at .ensures in
-    let i = found .before .counter-of .result in
-    let b = counter (found .before) in
-    (omega (arith, e, mu-lt i b, l .inv .3 .long), rw e (l .inv .3 .below i b))
+    let start = in-loop .before .before .before .before in
+    let ops = start .args .ops .now in
+    let first = start .args .table .now in
+    let e = found .mu-at .ensures ∙ ap muAt (found .before .counter-of .ensures) in
+    let b = mu-lt (lookupCounter ops (l .i)) (lookup-lt ops (l .i) (lookup in-loop)) in
+    let h = may-charge ops (λ k. word first (muAt k)) (start .args .n) (start .pre .1) (start .pre .2) (start .pre .4) (l .i) (in-loop .loop-test .taken) in
+    (omega (arith, e, b, l .inv .1, start .pre .3), rw e (still-below (place ops) (l .i) first (l .inv .2) (omega (arith, b, start .pre .3)) h))
 
 add-i : tie.Need-add-i Inv-loop μ-loop
 add-i c = omega arith

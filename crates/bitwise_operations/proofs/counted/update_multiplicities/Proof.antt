@@ -6,10 +6,12 @@ use Prim.Native.Nat.{ℕ}
 use native.Mathlib.Omega.{arith}
 use borrow.Author.Needs.{needs}
 use lib.ListN.{length}
+use Rattle.lists.specs.Tab.{word}
 use Rattle.lists.specs.First.{first, firstAt}
 use Rattle.lists.proofs.First.{place-at, place-nowhere, at-found}
 use Rattle.answer.proofs.Laws.{at-yes, at-no, refused, done, is-refused, is-done}
-use Rattle.bitwise.specs.Lookups.{lookupCount, notByteAt, notElementMu, updatedMus, updateRefusal}
+use Rattle.bitwise.specs.Counters.{largeCharged}
+use Rattle.bitwise.specs.Lookups.{lookupCount, notByteAt, namedIn, muAt, updatedMus, updateRefusal}
 use Rattle.bitwise.proofs.LookupRefusals.{Checked, checked, checked-later, three-refused}
 use Rattle.bitwise_operations.proofs.counted.update_multiplicities.Statement.{statement}
 use Rattle.bitwise_operations.proofs.counted.update_multiplicities.Tie as tie
@@ -25,15 +27,17 @@ Ops k = k .before .before .before .before .before .args .ops .now
 known : (k : tie.After-enum-told) → Checked (Ops k) (length (Table k)) 22020096
 known k = checked _ _ _ (is-done _ (sym (k .enum-told .given .1) ∙ k .before .before .check-lookups .ensures))
 
-elements : (k : tie.After-enum-told2) → firstAt (notElementMu (Table (k .before .before .before .before))) 10485760 ≡ none
-elements k = place-nowhere _ (sym (k .enum-told2 .given .1) ∙ k .before .before .first-large-mu .ensures)
+bytes : (k : tie.After-enum-told2) → let ops = Ops (k .before .before .before) in first (notByteAt ops) (lookupCount ops) ≡ none
+bytes k = place-nowhere _ (sym (k .enum-told2 .given .1) ∙ k .before .before .first-not-byte .ensures)
 
-bytes : (k : tie.After-enum-told3) → let ops = Ops (k .before .before .before .before .before .before .before) in first (notByteAt ops) (lookupCount ops) ≡ none
-bytes k = place-nowhere _ (sym (k .enum-told3 .given .1) ∙ k .before .before .first-not-byte .ensures)
+below : (k : tie.After-enum-told3) → let start = k .before .before .before .before .before .before .before in
+    firstAt (largeCharged (namedIn (Ops start) (lookupCount (Ops start))) (λ c. word (Table start) (muAt c))) 10485760 ≡ none
+below k = place-nowhere _ (sym (k .enum-told3 .given .1) ∙ k .before .before .first-mu .ensures)
 
 -- the counter that the search found
-found : (k : tie.After-i) → firstAt (notElementMu (Table (k .before .before .before .before))) 10485760 ≡ some (k .i .given .0 .0)
-found k = place-at _ (sym (k .i .given .1) ∙ k .before .before .first-large-mu .ensures)
+found : (k : tie.After-c) → let start = k .before .before .before .before .before .before .before in
+    firstAt (largeCharged (namedIn (Ops start) (lookupCount (Ops start))) (λ c. word (Table start) (muAt c))) 10485760 ≡ some (k .c .given .0 .0)
+found k = place-at _ (sym (k .c .given .1) ∙ k .before .before .first-mu .ensures)
 
 check-lookups-requires : tie.Need-check-lookups-requires
 check-lookups-requires c κs = search needs
@@ -48,44 +52,42 @@ returns c = refused _ _ (three-refused _ _ _ _ _ _ _ (is-refused _ (sym (c .befo
 enum-told : tie.Need-enum-told
 enum-told c = search needs
 
-first-large-mu-requires : tie.Need-first-large-mu-requires
-first-large-mu-requires c κs = known (c .before) .fits
-
-enum-known-i : tie.Need-enum-known-i
-enum-known-i c = search needs
-
-mu-at-requires : tie.Need-mu-at-requires
-mu-at-requires c κs = at-found (notElementMu (Table (c .before .before .before .before .before))) _ _ (found (c .before)) .0
-
-same-length : tie.Need-same-length
-same-length c = search needs
-
-returns-2 : tie.Need-returns-2
-unfolding updateRefusal
-returns-2 c =
-    let named = c .before .before in
-    rw (c .mu-at .ensures) (refused _ _ (checked-later _ _ _ (known (named .before .before .before .before)) (at-yes _ _ (found named))))
-
-enum-told-2 : tie.Need-enum-told-2
-enum-told-2 c = search needs
-
 first-not-byte-requires : tie.Need-first-not-byte-requires
 first-not-byte-requires c κs = search needs
 
 enum-known-k : tie.Need-enum-known-k
 enum-known-k c = search needs
 
-same-length-2 : tie.Need-same-length-2
-same-length-2 c = search needs
+returns-2 : tie.Need-returns-2
+unfolding updateRefusal
+returns-2 c =
+    let called = c .before .before .before in
+    refused _ _ (checked-later _ _ _ (known (called .before)) (at-yes _ _ (place-at _ (sym (c .before .k .given .1) ∙ called .first-not-byte .ensures))))
+
+enum-told-2 : tie.Need-enum-told-2
+enum-told-2 c = search needs
+
+first-mu-requires : tie.Need-first-mu-requires
+first-mu-requires c κs =
+    let told = c .before in
+    let k = known (told .before .before .before) in
+    (omega arith, k .past, bytes told, k .fits)
+
+enum-known-c : tie.Need-enum-known-c
+enum-known-c c = search needs
+
+mu-at-requires : tie.Need-mu-at-requires
+mu-at-requires c κs = at-found (largeCharged _ _) _ _ (found (c .before)) .0
+
+same-length : tie.Need-same-length
+same-length c = search needs
 
 returns-3 : tie.Need-returns-3
 unfolding updateRefusal
 returns-3 c =
-    let called = c .before .before .before in
-    let told = called .before in
-    refused _ _
-    (checked-later _ _ _ (known (told .before .before .before .before))
-    (at-no _ (elements told) (at-yes _ _ (place-at _ (sym (c .before .k .given .1) ∙ called .first-not-byte .ensures)))))
+    let named = c .before .before in
+    let told = named .before .before .before .before in
+    rw (c .mu-at .ensures) (refused _ _ (checked-later _ _ _ (known (told .before .before .before)) (at-no _ (bytes told) (at-yes _ _ (found named)))))
 
 enum-told-3 : tie.Need-enum-told-3
 enum-told-3 c = search needs
@@ -93,21 +95,21 @@ enum-told-3 c = search needs
 update-lookups-requires : tie.Need-update-lookups-requires
 update-lookups-requires c κs =
     let last = c .before in
-    let told = last .before .before .before in
-    let k = known (told .before .before .before .before) in
-    (omega arith, k .past, bytes last, k .fits, elements told)
+    let told = last .before .before .before .before in
+    let k = known (told .before .before .before) in
+    (omega arith, k .past, bytes told, k .fits, below last)
 
-same-length-3 : tie.Need-same-length-3
-same-length-3 c = search needs
+same-length-2 : tie.Need-same-length-2
+same-length-2 c = search needs
 
 returns-4 : tie.Need-returns-4
 unfolding updateRefusal updatedMus
 returns-4 c =
     let called = c .before .before in
     let last = called .before .before in
-    let told = last .before .before .before in
+    let told = last .before .before .before .before in
     done _
-    (checked-later _ _ _ (known (told .before .before .before .before)) (at-no _ (elements told) (at-no _ (bytes last) refl)))
+    (checked-later _ _ _ (known (told .before .before .before)) (at-no _ (bytes told) (at-no _ (below last) refl)))
     (called .update-lookups .ensures)
 
 pub update-multiplicities-spec : {M : Type 1} → statement M
@@ -118,17 +120,16 @@ update-multiplicities-spec =
     enum-known-refusal
     returns
     enum-told
-    first-large-mu-requires
-    enum-known-i
-    mu-at-requires
-    same-length
-    returns-2
-    enum-told-2
     first-not-byte-requires
     enum-known-k
-    same-length-2
+    returns-2
+    enum-told-2
+    first-mu-requires
+    enum-known-c
+    mu-at-requires
+    same-length
     returns-3
     enum-told-3
     update-lookups-requires
-    same-length-3
+    same-length-2
     returns-4)

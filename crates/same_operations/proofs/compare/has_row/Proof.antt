@@ -21,7 +21,7 @@ returns c = held-no _ _ _ (c .before .same-words .ensures ∙ rows-test _ _ _) (
 
 is-active-requires : tie.Need-is-active-requires
 unfolding layoutOf
-is-active-requires c κs = c .before .before .before .pre .1
+is-active-requires c κs = search needs
 
 returns-2 : tie.Need-returns-2
 unfolding layoutOf

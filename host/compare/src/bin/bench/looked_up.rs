@@ -5,8 +5,8 @@
 //! counters into the multiplicities of a table that is kept, none of them being 0; in `fill-few` 26 of 27 are 0, where the Rust writes
 //! nothing and ours the zeros. `merge` adds counters to counters, ours mod p and with the checks. `dedup` makes the rows of the keys of
 //! 2,730 operations at drawn addresses, `dedup-in-order` of as many whose addresses rise; ours into memory that is kept, from words, the
-//! Rust's into a vector of its own, from keys. `is-wh-table` and `is-wh-lookups` are of the rows of `dedup`; the latter's time is that of
-//! checking every counter.
+//! Rust's into a vector of its own, from keys. `is-wh-table` and `is-wh-lookups` are of the rows of `dedup`; of the latter ours looks at
+//! each counter that is charged before it charges any.
 
 use compare::say;
 use std::hint::black_box;
@@ -164,7 +164,7 @@ fn of_rows(ours: &IsWhRows, theirs: &[(IsWhKey, u64)]) {
         "is-wh-lookups",
         KEY_RUNS,
         theirs.len(),
-        ("ours, which checks every counter", || {
+        ("ours, which first looks at what it charges", || {
             ours.charge(black_box(&mut counters))
         }),
         ("the Rust", || counts.collect_is_wh_rows(black_box(theirs))),

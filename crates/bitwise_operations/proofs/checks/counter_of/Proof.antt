@@ -1,8 +1,8 @@
--- `bitwise_operations::counted::counter_of` meets its contract: the words of a lookup are small.
+-- `bitwise_operations::checks::counter_of` meets its contract: the words of a lookup are small.
 use mathlib.Core.Path.{refl}
 use native.Mathlib.Omega.{arith}
-use Rattle.bitwise_operations.proofs.counted.counter_of.Statement.{statement}
-use Rattle.bitwise_operations.proofs.counted.counter_of.Tie as tie
+use Rattle.bitwise_operations.proofs.checks.counter_of.Statement.{statement}
+use Rattle.bitwise_operations.proofs.checks.counter_of.Tie as tie
 
 mul-at : tie.Need-mul-at
 mul-at c = omega arith

@@ -1,4 +1,4 @@
--- `is_wh_counts::check_collect` meets its contract: the checks of the rows, then the counters.
+-- `is_wh_counts::checks::check_collect` meets its contract: the checks of the rows, then the counters.
 use mathlib.Core.Path.{_≡_, sym, _∙_}
 use Prim.Native.Nat.{_≤_}
 use borrow.Author.Needs.{needs}
@@ -10,8 +10,8 @@ use Rattle.bitwise.specs.Columns.{NUM-COUNTERS}
 use Rattle.is_wh_rows.specs.Lists.{GoodList}
 use Rattle.is_wh_rows.proofs.Lists.{rows-passed}
 use Rattle.is_wh_counts.proofs.Refusals.{rows-refused, counter-refused, counters-pass}
-use Rattle.is_wh_counts.proofs.check_collect.Statement.{statement}
-use Rattle.is_wh_counts.proofs.check_collect.Tie as tie
+use Rattle.is_wh_counts.proofs.checks.check_collect.Statement.{statement}
+use Rattle.is_wh_counts.proofs.checks.check_collect.Tie as tie
 
 abbrev start : tie.After-enum-told → tie.Start
 start t = t .before .before .before .before .before
@@ -31,8 +31,8 @@ returns c = answers (rows-refused _ _ (is-refused _ (sym (c .before .refusal .gi
 enum-told : tie.Need-enum-told
 enum-told c = search needs
 
-first-not-element-requires : tie.Need-first-not-element-requires
-first-not-element-requires c κs = passed c .1
+first-charged-requires : tie.Need-first-charged-requires
+first-charged-requires c κs = (passed c .0, passed c .1)
 
 enum-known-c : tie.Need-enum-known-c
 enum-known-c c = search needs
@@ -41,7 +41,7 @@ returns-2 : tie.Need-returns-2
 returns-2 c =
     let f = c .before .before .before in
     let a = passed (f .before) in
-    answers (counter-refused _ _ (a .0) (a .1) _ (place-at _ (sym (c .before .c .given .1) ∙ f .first-not-element .ensures)))
+    answers (counter-refused _ _ (a .0) (a .1) _ (place-at _ (sym (c .before .c .given .1) ∙ f .first-charged .ensures)))
 
 enum-told-2 : tie.Need-enum-told-2
 enum-told-2 c = search needs
@@ -50,7 +50,7 @@ returns-3 : tie.Need-returns-3
 returns-3 c =
     let f = c .before .before in
     let a = passed (f .before) in
-    accepts (counters-pass _ _ (a .0) (a .1) (place-nowhere _ (sym (c .enum-told2 .given .1) ∙ f .first-not-element .ensures)))
+    accepts (counters-pass _ _ (a .0) (a .1) (place-nowhere _ (sym (c .enum-told2 .given .1) ∙ f .first-charged .ensures)))
 
 pub check-collect-spec : {M : Type 1} → statement M
 check-collect-spec =
@@ -60,7 +60,7 @@ check-collect-spec =
     enum-known-refusal
     returns
     enum-told
-    first-not-element-requires
+    first-charged-requires
     enum-known-c
     returns-2
     enum-told-2
