@@ -9,7 +9,7 @@ use std::process::Command;
 
 use keccak_tables::{
     Bus, FLOOR, Lent, MAX_FLOOR, MAX_OPS, OP_WORDS, P, Refusal, SEGMENT_WORD, Side, bitwise, is_wh, job, keccak,
-    keccak_rc, keccak_rnd, message, month, operation_file, registers, segment, verdict,
+    keccak_rc, keccak_rnd, message, month, operation_file, permutation, registers, segment, verdict,
 };
 
 #[test]
@@ -61,6 +61,7 @@ fn sizes() -> BTreeMap<String, u64> {
         ("MAX_REGISTERS", registers::MAX_REGISTERS as u64),
         ("LEDGER_WORDS", registers::LEDGER_WORDS as u64),
         ("REGISTER_LOOK_WORDS", registers::REGISTER_LOOK_WORDS as u64),
+        ("LANES", permutation::LANES as u64),
         ("RATE", message::RATE as u64),
         ("MAX_MESSAGE", message::MAX_MESSAGE as u64),
         ("DIGEST_BYTES", message::DIGEST_BYTES as u64),
@@ -122,9 +123,10 @@ fn the_header_and_the_bindings_have_the_same_numbers() {
         ),
         ("ALU_", numbered(&["AND", "OR", "XOR"])),
         ("KIND_", kinds()),
-        ("VERDICT_", numbered(&VERDICTS)),
+        ("VERDICT_", from_one(&VERDICTS)),
+        ("REPORT_", numbered(&["HOLDS"])),
         ("TABLE_", numbered(&["CORE", "ROUND"])),
-        ("AGREEMENT_", numbered(&["SAME", "RECORD", "ROW"])),
+        ("AGREEMENT_", from_one(&["RECORD", "ROW", "SAME"])),
         ("CORE_", core_columns()),
         ("ROUND_", round_columns()),
         ("MONTH_", month_words()),
@@ -139,17 +141,21 @@ fn the_header_and_the_bindings_have_the_same_numbers() {
     assert_eq!(keccak::MAX_TUPLE_LENGTH, keccak_rnd::MAX_TUPLE_LENGTH);
 }
 
-/// The kinds of verdict, in the order of the definition's words (`verdictWords`); `verdict.rs` reads them by these numbers.
-const VERDICTS: [&str; 8] = [
-    "HOLDS",
+/// The kinds of verdict in the order of their numbers, which begin at 1; `verdict.rs` reads them by these.
+const VERDICTS: [&str; 7] = [
     "CORE_VALUE",
     "CORE_LOOKUP",
     "TIMESTAMP",
     "ROUND_VALUE",
     "ROUND_LOOKUP",
     "BALANCE",
-    "REFUSED",
+    "HOLDS",
 ];
+
+/// Kinds of which 0 is none.
+fn from_one(names: &[&str]) -> Vec<(String, u64)> {
+    names.iter().map(|name| name.to_string()).zip(1..).collect()
+}
 
 fn numbered(names: &[&str]) -> Vec<(String, u64)> {
     names.iter().map(|name| name.to_string()).zip(0..).collect()
