@@ -26,9 +26,8 @@
  * Each struct begins with the refusal and its detail, 0 and 0 where the call is not refused:
  *
  *   refusal 0   it did its work: the slice begins with what is asked for, and the words past that are as they were;
- *   refusal N   it is refused, and every word is as it was (of a line that does not fit, keccak_tables_verdict_line_within says
- *               what becomes of its scratch). Unless said below, the checks are made in the order of their numbers, those of
- *               one number in the order of the arguments, and the first that refuses is told:
+ *   refusal N   it is refused, and every word is as it was. Unless said below, the checks are made in the order of their numbers,
+ *               those of one number in the order of the arguments, and the first that refuses is told:
  *
  *   N  what is wrong                                                            detail
  *   1  an index, kind, Z, round or number of operations, keys or rows past its  the least number refused
@@ -805,8 +804,8 @@ keccak_tables_judgement keccak_tables_verdict_within(uint64_t nr, const uint64_t
                                                      size_t spare_length);
 
 /*
- * The line of that verdict, likewise. 8, 2, 3 and 5 as above; then 3 line < the line's length: there the tables are judged already, and the
- * words that were used are 0.
+ * The line of that verdict, likewise, into KECCAK_TABLES_LINE_MOST bytes or more, whatever the line, so that nothing is refused once the
+ * tables are judged. 8 and 2 as above; 3 line < KECCAK_TABLES_LINE_MOST, then scratch, then spare; 5 as above.
  */
 KECCAK_TABLES_MUST_USE
 keccak_tables_number keccak_tables_verdict_line_within(uint64_t nr, const uint64_t *core, size_t core_length, const uint64_t *round,

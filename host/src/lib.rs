@@ -2,9 +2,8 @@
 //!
 //! Rows, tables, counters and lists of operations are slices of `u64` that the caller lends, an operation file is a slice of
 //! bytes. A call either does its work, and then the slice begins with exactly what the definition says and is untouched past
-//! it; or it answers a [`Refusal`], and then all that was lent is as it was, but for the scratch of a line that does not fit
-//! ([`verdict::verdict_line_within`]). No call panics, and none has a condition that the caller must meet; those that put a
-//! table or rows into memory of their own, or judge in such, need that memory, as any `Vec`.
+//! it; or it answers a [`Refusal`], and then all that was lent is as it was. No call panics, and none has a condition that the
+//! caller must meet; those that put a table or rows into memory of their own, or judge in such, need that memory, as any `Vec`.
 //!
 //! The functions behind these are written in Rattle and proved against their contracts
 //! (`crates/keccak_tables/src`); this crate only turns slices into pointers and flat answers into `Result`s, and shares the rows of

@@ -238,15 +238,23 @@ pub fn verdict_line_with(
     round: &[u64],
     line: &mut [u8],
 ) -> Result<usize, Refusal> {
-    verdict_line_within_with(parameters, core, round, line, &mut own_scratch(core, round))
+    let mut text = [0; LINE_MOST];
+    let length = verdict_line_within_with(parameters, core, round, &mut text, &mut own_scratch(core, round))?;
+    let short = Refusal::TooShort {
+        argument: "line",
+        needed: length as u64,
+    };
+    line.get_mut(..length).ok_or(short)?.copy_from_slice(&text[..length]);
+    Ok(length)
 }
 
-/// The line of [`verdict_line`] in a lent scratch, which is used as [`verdict_within`] uses it. Where the line does not fit, the tables are
-/// judged already, and the words used are 0.
+/// The line of [`verdict_line`] in a lent scratch, which is used as [`verdict_within`] uses it. [`LINE_MOST`] bytes are lent at least, whatever
+/// the line, so that nothing is refused once the tables are judged.
 ///
 /// # Errors
 ///
-/// Those of [`verdict_within`]; then [`TooShort`](Refusal::TooShort): the line does not fit into `line`.
+/// [`NotWhole`](Refusal::NotWhole) as [`verdict`]; [`TooShort`](Refusal::TooShort): `line` has fewer than [`LINE_MOST`] bytes, or `scratch`
+/// fewer than [`scratch_words`] words; then [`NotElement`](Refusal::NotElement) as [`verdict`].
 pub fn verdict_line_within(
     core: &[u64],
     round: &[u64],
@@ -268,10 +276,10 @@ pub fn verdict_line_within_with(
     line: &mut [u8],
     scratch: &mut [u64],
 ) -> Result<usize, Refusal> {
-    let has_room = scratch.len() >= scratch_words(core, round);
+    let is_short = line.len() < LINE_MOST;
     let (first, second) = halves(core, round, scratch);
     let answer = ffi::verdict_line_within(parameters.rounds, core, round, line, first, second);
-    let answer = answer.named(|number, detail| of_line(number, detail, core, has_room));
+    let answer = answer.named(|number, detail| of_line(number, detail, core, is_short));
     answer.map(|length| length as usize).map_err(of_halves)
 }
 
@@ -371,8 +379,8 @@ pub(crate) fn of_verdict(number: u64, detail: u64, core: &[u64]) -> &'static str
 }
 
 /// The same of a line, which alone is too short where the scratch has room.
-fn of_line(number: u64, detail: u64, core: &[u64], has_room: bool) -> &'static str {
-    if number == TOO_SHORT && has_room {
+fn of_line(number: u64, detail: u64, core: &[u64], is_short: bool) -> &'static str {
+    if number == TOO_SHORT && is_short {
         "line"
     } else {
         of_verdict(number, detail, core)

@@ -731,19 +731,22 @@ static void verdict_within(void) {
     CHECK(length.value == 7 && memcmp(line, "holds 1", 7) == 0 && line[7] == 0xA5);
     check_zeros(scratch, PLACES, PLACES + 2);
     check_zeros(spare, PLACES, PLACES + 2);
-    /* A line that does not fit is told when the tables are judged. */
+    /* A line is lent as many bytes as any may need: with fewer nothing is judged, and all is as it was. */
     put_guards(scratch, PLACES + 2);
     put_guards(spare, PLACES + 2);
-    length = keccak_tables_verdict_line_within(ROUNDS, core, CORE, rounds, ROUND, line, 6, scratch, PLACES, spare, PLACES);
-    CHECK(length.refusal == 3 && length.detail == 7 && length.value == 0);
-    check_zeros(scratch, PLACES, PLACES + 2);
-    check_zeros(spare, PLACES, PLACES + 2);
+    memset(line, 0xA5, sizeof line);
+    length = keccak_tables_verdict_line_within(ROUNDS, core, CORE, rounds, ROUND, line, sizeof line - 1, scratch, PLACES, spare, PLACES);
+    CHECK(length.refusal == 3 && length.detail == KECCAK_TABLES_LINE_MOST && length.value == 0);
+    CHECK(line[0] == 0xA5 && line[6] == 0xA5);
+    check_zeros(scratch, 0, PLACES + 2);
+    check_zeros(spare, 0, PLACES + 2);
 }
 
-/* Refused, both slices are as they were: scratch before spare, both after the rows and before the words, of which the last is none now. */
+/* Refused, both slices are as they were: scratch before spare, both after the rows, and a line that is short, and before the words, of which
+ * the last is none now. */
 static void verdict_within_refused(void) {
     uint64_t scratch[PLACES], spare[PLACES];
-    uint8_t line[7];
+    uint8_t line[KECCAK_TABLES_LINE_MOST];
     put_guards(scratch, PLACES);
     put_guards(spare, PLACES);
     const struct {
@@ -760,6 +763,12 @@ static void verdict_within_refused(void) {
         keccak_tables_number length = keccak_tables_verdict_line_within(ROUNDS, core, CORE, rounds, cases[i].round, line, sizeof line,
                                                                         scratch, cases[i].scratch, spare, cases[i].spare);
         REFUSED(length, cases[i].refusal, cases[i].detail);
+        length = keccak_tables_verdict_line_within(ROUNDS, core, CORE, rounds, cases[i].round, line, sizeof line - 1, scratch,
+                                                   cases[i].scratch, spare, cases[i].spare);
+        if (cases[i].refusal == 2)
+            REFUSED(length, 2, cases[i].detail);
+        else
+            REFUSED(length, 3, KECCAK_TABLES_LINE_MOST);
     }
     check_zeros(scratch, 0, PLACES);
     check_zeros(spare, 0, PLACES);

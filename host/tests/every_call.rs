@@ -1142,22 +1142,25 @@ fn verdicts_in_lent_memory() {
     assert_eq!((length, &line[..text.len()]), (Ok(text.len()), text.as_bytes()));
     assert_eq!((line[text.len()], &scratch), (0xA5, &used));
 
-    // A line that does not fit is refused when the tables are judged, and a scratch before.
+    // A line that may turn out too short is refused before anything is judged, then a scratch.
     scratch.fill(GUARD);
-    let refused = verdict::verdict_line_within(&core, &round, &mut [], &mut scratch);
-    assert_eq!((refused, &scratch), (Err(too_short("line", text.len() as u64)), &used));
-    scratch.fill(GUARD);
+    let short = too_short("line", verdict::LINE_MOST as u64);
+    for room in [0, needed - 1, needed] {
+        let refused = verdict::verdict_line_within(&core, &round, &mut line[1..], &mut scratch[..room]);
+        assert_eq!(refused, Err(short), "{room} words");
+    }
     core[7] = P;
     for room in [0, 1, needed / 2 - 1, needed / 2, needed - 1] {
         let short = Err(too_short("scratch", needed as u64));
         let refused = verdict::verdict_within(&core, &round, &mut scratch[..room]);
         assert_eq!(refused.map(drop), short, "{room} words");
-        let refused = verdict::verdict_line_within(&core, &round, &mut [], &mut scratch[..room]);
+        let refused = verdict::verdict_line_within(&core, &round, &mut line, &mut scratch[..room]);
         assert_eq!(refused.map(drop), short, "{room} words");
     }
     let refused = verdict::verdict_within(&core, &round, &mut scratch);
     assert_eq!(refused, Err(not_element("core", 7)));
     assert!(scratch.iter().all(|&word| word == GUARD));
+    assert_eq!((&line[..text.len()], line[text.len()]), (text.as_bytes(), 0xA5));
 }
 
 /// Tables of twelve rounds, judged by their own number and by others.

@@ -6,7 +6,7 @@ use keccak_tables::job::{job, job_alone, job_within};
 use keccak_tables::operation_file::{read_operations, write_operations};
 use keccak_tables::same_operations::{Agreement, same_operations};
 use keccak_tables::verdict::{
-    verdict, verdict_alone_with, verdict_line_alone, verdict_line_with, verdict_line_within, verdict_with,
+    LINE_MOST, verdict, verdict_alone_with, verdict_line_alone, verdict_line_with, verdict_line_within, verdict_with,
     verdict_within,
 };
 use keccak_tables::{Lent, OP_WORDS, P, Parameters, Refusal, is_wh, keccak, keccak_rc, keccak_rnd, registers, segment};
@@ -335,19 +335,23 @@ fn a_core_table_before_a_round_table() {
     assert_eq!(verdict_line_alone(&[], &[], &mut []), too_short("line", 7));
 }
 
-/// The tables' rows, then the scratch, whichever part of it is short, then the tables' words, then the line.
+/// The tables' rows, then the line, then the scratch, whichever part of it is short, then the tables' words.
 #[test]
-fn a_scratch_before_the_words_of_tables_before_a_line() {
+fn a_line_before_a_scratch_before_the_words_of_tables() {
     let (mut core, mut round) = (vec![0; 486], vec![0; 2 * 1480]);
     core[9] = P;
     round[7] = P;
     let mut scratch = [0; 13];
     let not_whole = |argument, which| Err(Refusal::NotWhole { argument, which });
     let mut judge = |core: &[u64], round: &[u64], words: usize| {
-        let line = verdict_line_within(core, round, &mut [], &mut scratch[..words]).map(drop);
+        let mut line = [0; LINE_MOST];
         let verdict = verdict_within(core, round, &mut scratch[..words]).map(drop);
-        assert!(line == verdict || (line, verdict) == (too_short("line", 7), Ok(())));
-        line
+        let lined = verdict_line_within(core, round, &mut line, &mut scratch[..words]).map(drop);
+        assert_eq!(lined, verdict);
+        let short = verdict_line_within(core, round, &mut line[1..], &mut scratch[..words]).map(drop);
+        let rows = matches!(verdict, Err(Refusal::NotWhole { .. }));
+        assert_eq!(short, if rows { verdict } else { too_short("line", LINE_MOST as u64) });
+        verdict
     };
     assert_eq!(judge(&core[1..], &round[1..], 0), not_whole("core", Lent::Core));
     assert_eq!(judge(&core, &round[1..], 0), not_whole("round", Lent::Round));
@@ -359,8 +363,8 @@ fn a_scratch_before_the_words_of_tables_before_a_line() {
     assert_eq!(judge(&core, &round, 13), not_element("round", 7));
     round[7] = 0;
     assert_eq!(judge(&core, &round, 11), too_short("scratch", 12));
-    assert_eq!(judge(&core, &round, 12), too_short("line", 7));
-    assert_eq!(judge(&[], &[], 0), too_short("line", 7));
+    assert_eq!(judge(&core, &round, 12), Ok(()));
+    assert_eq!(judge(&[], &[], 0), Ok(()));
 }
 
 /// The tables' rows, then the counts, then the report, then a scratch, then the tables' words.

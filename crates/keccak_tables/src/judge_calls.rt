@@ -12,7 +12,7 @@ ghost use Rattle.verdict.specs.CoreAndRound.{verdictFor};
 ghost use Rattle.judge_within.specs.Within.{withinFor, withinAfter};
 ghost use Rattle.flat.specs.Flat.{flatNumber};
 ghost use Rattle.flat.specs.FlatJudged.{flatVerdict};
-ghost use Rattle.verdict_line.specs.Line.{lineAnswer, lineAfter, withinLineAnswer, withinLineAfter};
+ghost use Rattle.verdict_line.specs.Line.{lineAnswer, lineAfter, withinLineAnswer, withinLineAfter, withinLineLeft};
 
 #[no_mangle]
 pub extern "C" fn keccak_tables_verdict(nr: u64, core: &[u64], round: &[u64]) -> FlatVerdict
@@ -58,10 +58,10 @@ pub extern "C" fn keccak_tables_verdict_line_within<'a>(
     scratch: &mut [u64],
     spare: &mut [u64],
 ) -> FlatNumber
-    ensures answer { λ r. ⌜ r ≡ flatNumber (withinLineAnswer nr (now (core .entry)) (now (round .entry)) (length (now (scratch .entry))) (length (now (spare .entry))) (now (line .entry))) ⌝ }
+    ensures answer { λ r. ⌜ r ≡ flatNumber (withinLineAnswer nr (now (core .entry)) (now (round .entry)) (length (now (line .entry))) (length (now (scratch .entry))) (length (now (spare .entry)))) ⌝ }
     ensures bytes { λ _. ⌜ now (line .exit) ≡ withinLineAfter nr (now (core .entry)) (now (round .entry)) (length (now (scratch .entry))) (length (now (spare .entry))) (now (line .entry)) ⌝ }
-    ensures scratch { λ _. ⌜ now (scratch .exit) ≡ withinAfter nr (now (core .entry)) (now (round .entry)) (length (now (scratch .entry))) (length (now (spare .entry))) (now (scratch .entry)) ⌝ }
-    ensures spare { λ _. ⌜ now (spare .exit) ≡ withinAfter nr (now (core .entry)) (now (round .entry)) (length (now (scratch .entry))) (length (now (spare .entry))) (now (spare .entry)) ⌝ }
+    ensures scratch { λ _. ⌜ now (scratch .exit) ≡ withinLineLeft nr (now (core .entry)) (now (round .entry)) (length (now (line .entry))) (length (now (scratch .entry))) (length (now (spare .entry))) (now (scratch .entry)) ⌝ }
+    ensures spare { λ _. ⌜ now (spare .exit) ≡ withinLineLeft nr (now (core .entry)) (now (round .entry)) (length (now (line .entry))) (length (now (scratch .entry))) (length (now (spare .entry))) (now (spare .entry)) ⌝ }
 {
     flat_number(verdict_line::verdict_line_within(nr, core, round, line, scratch, spare))
 }

@@ -29,7 +29,6 @@ use Rattle.answer.specs.Refusal.{accepted, refusalNumber, notRounds, notFloor, 
 use Rattle.answer.specs.declared.Refusal.{Refusal}
 use Rattle.answer.specs.declared.Refusal.the-variants.{TooShort, HighAddress, PastEnd, Unaligned, Rounds, Floor, Register, NotElement, BadRecord}
 use Rattle.answer.proofs.Refusals.{rounds-later, no-rounds-refused, many-rounds-refused, floor-refused, floor-most, both-later}
-use Rattle.answer.specs.declared.Number.the-variants.{Is}
 use Rattle.fips202.specs.Fips.{Agree, offset, walk, MetOnce, RHO, rnd, keccakF, keccakP}
 use Rattle.tuple.specs.Tuple.{busSum}
 use Rattle.tuple.specs.declared.Bus.{Bus}
@@ -145,13 +144,8 @@ use Rattle.sort_places.specs.Places.{placeCount}
 use Rattle.judge_within.specs.Within.{withinRefusal, withinFor, withinAfter}
 use Rattle.judge_within.proofs.Within.{Passed, within-same, after-refused}
 use Rattle.verdict_line.specs.Lent.{SaysLent}
-use Rattle.verdict_line.proofs.Lent.{lent-passed, lent-says, lent-left, judged-same, lines-same, line-lent-accepted, line-lent-says}
-use Rattle.verdict_line.specs.Line.{Judged, shownAt, lineAt, lineRefusal, lineAnswer, lineAfter}
-use Rattle.verdict_line.specs.Line.{withinLineRefusal, withinLineAnswer, withinLineAfter}
-use Rattle.verdict_line.proofs.Tells.{lines-tell}
-use Rattle.verdict_line.proofs.Most.{line-most}
-use Rattle.verdict_line.proofs.Refusals.{line-accepted}
-use Rattle.verdict_line.proofs.Tied.{Lined, lines-written}
+use Rattle.verdict_line.proofs.Lent.{lent-passed, lent-says, lent-left, judged-same}
+use Rattle.verdict_line.specs.Line.{Judged}
 use Rattle.judge.proofs.Tied.{Answered, Wrote, answered-at, answered-computed, holds-answered, ours-written, written-answers}
 use Rattle.answer.specs.Refusal.{overwrite}
 use Rattle.tuple.specs.declared.Bus.the-variants.{ByteAlu, IsHalfword}
@@ -289,33 +283,7 @@ pub each-answer : (core round : List ℕ) (v : Verdict) →
     (verdictOf core round ≡ v) ↔ Says (coreKind 24) roundKind core round v
 each-answer = verdict-says 24
 
--- ---- the verdict as a line (verdict_line/specs/Line.antt)
--- "Two lines are equal exactly when the verdicts and the shown tuples are equal."
-pub equal-lines : (nr nr′ : ℕ) (core round core′ round′ : List ℕ) → Judged (verdictFor nr core round) → Judged (verdictFor nr′ core′ round′) →
-    (lineAt nr core round ≡ lineAt nr′ core′ round′)
-    ↔ ((verdictFor nr core round ≡ verdictFor nr′ core′ round′) × (shownAt nr core round ≡ shownAt nr′ core′ round′))
-equal-lines = lines-tell
-
--- and so it is of the bytes that two calls leave, each of which answered a length (`Lined`, verdict_line/proofs/Tied.antt)
-pub equal-lines-written : {nr nr′ : ℕ} {core round before after core′ round′ before′ after′ : List ℕ} {n m : ℕ} →
-    Lined nr core round before after (Is n) → Lined nr′ core′ round′ before′ after′ (Is m) →
-    (take n after ≡ take m after′)
-    ↔ ((verdictFor nr core round ≡ verdictFor nr′ core′ round′) × (shownAt nr core round ≡ shownAt nr′ core′ round′))
-equal-lines-written = lines-written
-
--- "A line that doesn't fit the lent bytes is a short slice, refused after 5": the call is accepted exactly where the
--- verdict is no refusal and the line fits
-pub line-taken : (nr : ℕ) (core round : List ℕ) (room : ℕ) →
-    (lineRefusal nr core round room ≡ accepted)
-    ↔ (Judged (verdictFor nr core round) × (length (lineAt nr core round) ≤ room))
-line-taken = line-accepted
-
--- and 4,335 bytes are always enough, for tables that fit in memory
-pub enough-for-a-line : (nr : ℕ) (core round : List ℕ) → length core < 18446744073709551616 → length round < 18446744073709551616 →
-    length (lineAt nr core round) ≤ 4335
-enough-for-a-line = line-most
-
--- ---- the verdict in lent memory (judge_within/specs/Within.antt), and its line
+-- ---- the verdict in lent memory (judge_within/specs/Within.antt; its line: Lines.antt)
 -- "beside it comes one that is lent a scratch and answers the same": slices of `scratch` and of `spare` words, each of
 -- "a small fixed number of words for each row of both tables"
 pub lent-words : (core round : List ℕ) → placeCount core round ≡ 2 * (rows coreLayout core + rows roundLayout round)
@@ -323,45 +291,26 @@ unfolding placeCount
 lent-words core round = refl
 
 module _ (nr : ℕ) (core round : List ℕ) (scratch spare : ℕ) where
-  -- the same on every input, refused or not, where both slices have room ..
+  -- the same on every input, refused or not, where both slices have room
   pub lent-same : placeCount core round ≤ scratch → placeCount core round ≤ spare →
       withinFor nr core round scratch spare ≡ verdictFor nr core round
   lent-same = within-same nr core round scratch spare
-
-  -- .. and so are the lines' lengths, or refusals, and the bytes left
-  pub lent-same-line : placeCount core round ≤ scratch → placeCount core round ≤ spare → (bytes : List ℕ) →
-      (withinLineAnswer nr core round scratch spare bytes ≡ lineAnswer nr core round bytes)
-      × (withinLineAfter nr core round scratch spare bytes ≡ lineAfter nr core round bytes)
-  lent-same-line = lines-same nr core round scratch spare
 
   -- so where it is no refusal it is the verdict of `verdict`, whatever was lent
   pub lent-judged-same : Judged (withinFor nr core round scratch spare) → withinFor nr core round scratch spare ≡ verdictFor nr core round
   lent-judged-same = judged-same nr core round scratch spare
 
   -- "refusals 8 2 3 5": accepted exactly where nr is from 1 to 24, both tables are whole rows of words below p, and both slices have room
-  -- (`Passed`, judge_within/proofs/Within.antt); the line exactly where it fits too
+  -- (`Passed`, judge_within/proofs/Within.antt)
   pub lent-taken : (withinRefusal nr core round scratch spare ≡ accepted) ↔ Passed nr core round scratch spare
   lent-taken = lent-passed nr core round scratch spare
-
-  pub lent-line-taken : (room : ℕ) →
-      (withinLineRefusal nr core round scratch spare room ≡ accepted)
-      ↔ (Passed nr core round scratch spare × (length (lineAt nr core round) ≤ room))
-  lent-line-taken = line-lent-accepted nr core round scratch spare
 
   -- every answer, and each refusal with its detail (`SaysLent`, verdict_line/specs/Lent.antt): after 8 and 2 and before 5, 3 with the length
   -- needed where a slice is shorter; else as `each-answer-for` has it
   pub lent-answers : (v : Verdict) → (withinFor nr core round scratch spare ≡ v) ↔ SaysLent nr core round scratch spare v
   lent-answers = lent-says nr core round scratch spare
 
-  -- the line is refused as the verdict is, then by 3 with its length
-  pub lent-line-refusals : (room : ℕ) (r : Refusal) →
-      (withinLineRefusal nr core round scratch spare room ≡ some r)
-      ↔ ((withinFor nr core round scratch spare ≡ judge.Refused r)
-      ⊎ (Passed nr core round scratch spare × (room < length (lineAt nr core round)) × (r ≡ TooShort (length (lineAt nr core round)))))
-  lent-line-refusals = line-lent-says nr core round scratch spare
-
-  -- "what the scratch holds at exit: zeros where it was used, untouched where refused"; the words past them stay, and a line that is too short
-  -- changes nothing in it
+  -- "what the scratch holds at exit: zeros where it was used, untouched where refused"; the words past them stay
   pub lent-zeros : Passed nr core round scratch spare → (old : List ℕ) →
       (take (placeCount core round) (withinAfter nr core round scratch spare old) ≡ tab (placeCount core round) (λ k. 0))
       × (drop (placeCount core round) (withinAfter nr core round scratch spare old) ≡ drop (placeCount core round) old)

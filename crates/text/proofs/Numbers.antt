@@ -1,4 +1,4 @@
--- Decimals: how many digits are enough, how long a decimal is, and the number that it is read back as.
+-- Decimals: how many digits are enough, how long a decimal is, that no zero leads, and the number that it is read back as.
 use Prim.Native.Nat.{ℕ, zero, suc, _+_, _-_, _*_, _/_, _%_, _^_, _<_, _≤_}
 use mathlib.Core.Path.{_≡_, refl, sym, ap, _∙_}
 use mathlib.Core.List.{List, [], _∷_, _++_}
@@ -7,6 +7,7 @@ use native.Mathlib.Numerals.{add-one}
 use native.Mathlib.Omega.{arith}
 use lib.ListN.{length, length-append}
 use borrow.Author.Tests.{lt-ltb, le-ltb}
+use Rattle.lists.specs.Tab.{word}
 use Rattle.lists.proofs.Then.{by-le}
 use Rattle.text.specs.Text.{digitsOf, decimalOf, readOn, numberIn}
 
@@ -58,6 +59,30 @@ digits-long (suc k) n =
 -- "a number below 2^64 has at most 20 digits"
 pub decimal-long : (n : ℕ) → n < 18446744073709551616 → length (decimalOf n) ≤ 20
 decimal-long n h = omega (arith, ap length (decimal-digits 19 n (omega arith)), digits-long 20 n)
+
+-- ---- no leading zero
+front : (s t : List ℕ) → 1 ≤ word s 0 → word (s ++ t) 0 ≡ word s 0
+front [] t h = absurd (omega (arith, h))
+front (x ∷ s) t h = refl
+
+digits-front : (k n : ℕ) → 1 ≤ n → n < 10 ^ (k + 1) → (49 ≤ word (digitsOf (suc k) n) 0) × (word (digitsOf (suc k) n) 0 ≤ 57)
+digits-front zero n h g = let e = ap (λ (s : List ℕ). word s 0) (digits-one zero n (omega arith)) in (omega (arith, e), omega (arith, e))
+digits-front (suc k) n h g =
+    by-le 10 n
+    (λ l.
+    let i = digits-front k (n / 10) (omega arith) (tenth k n g) in
+    let e = ap (λ (s : List ℕ). word s 0) (digits-next (suc k) n l) ∙ front (digitsOf (suc k) (n / 10)) ((48 + n % 10) ∷ []) (omega (arith, i .0)) in
+    (omega (arith, e, i .0), omega (arith, e, i .1)))
+    (λ l. let e = ap (λ (s : List ℕ). word s 0) (digits-one (suc k) n l) in (omega (arith, e), omega (arith, e)))
+
+-- 0 is one digit, any other number begins with one of 1 to 9
+pub decimal-zero : decimalOf 0 ≡ 48 ∷ []
+unfolding decimalOf
+decimal-zero = digits-one 0 0 (omega arith)
+
+pub decimal-front : (n : ℕ) → 1 ≤ n → (49 ≤ word (decimalOf n) 0) × (word (decimalOf n) 0 ≤ 57)
+unfolding decimalOf
+decimal-front n h = digits-front n n h (below-tens n)
 
 -- ---- read back
 read-append : (s t : List ℕ) (a : ℕ) → readOn a (s ++ t) ≡ readOn (readOn a s) t

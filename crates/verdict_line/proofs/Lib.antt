@@ -9,3 +9,4 @@ pub mod Cases
 pub mod Tied
 pub mod NoEcall
 pub mod Lent
+pub mod LentLine

@@ -55,12 +55,12 @@ module _ (nr : ℕ) (core round : List ℕ) where
   unfolding lineOf wordsOf shownBy shownWords
   holds-line n = refl
 
-  no-line : (r : Refusal) → lineBy nr core round (Refused r) ≡ []
+  pub no-line : (r : Refusal) → lineBy nr core round (Refused r) ≡ []
   unfolding lineOf wordsOf shownBy shownWords joined
   no-line r = refl
 
   -- what `put_line` says of a verdict v: its answer a, and out, which is b afterwards
-  abbrev Put : Verdict → Number → List ℕ → List ℕ → Type 0
+  abbrev pub Put : Verdict → Number → List ℕ → List ℕ → Type 0
   Put v a out b = (a ≡ numberOf (length (lineBy nr core round v)) (refusedBy v accepted)) × ((b ≡ sets out 0 (lineBy nr core round v)) × (length (lineBy nr core round v) ≤ LINE-MOST))
 
   pub shows : (v w : Verdict) (out b s : List ℕ) (r : ℕ) → v ≡ w → Judged w → s ≡ lineBy nr core round w → Puts out 0 s b r → r ≤ LINE-MOST → Put v (number.Is r) out b

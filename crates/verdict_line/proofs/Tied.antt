@@ -3,9 +3,9 @@
 --     Lined    a call of `verdict_line` for nr rounds on a core table, a round table and bytes: its answer, and the bytes
 --              when it ends
 use Prim.Native.Nat.{ℕ}
-use mathlib.Core.Path.{_≡_, sym, ap, _∙_}
+use mathlib.Core.Path.{_≡_, refl, sym, ap, subst, _∙_}
 use mathlib.Core.Logic.{_↔_}
-use mathlib.Core.List.{List}
+use mathlib.Core.List.{List, []}
 use lib.ListN.{length, take}
 use contract.Lifetimes.{Lfts}
 use denote.Triple.Clauses.{AtExit}
@@ -13,6 +13,7 @@ use borrow.Fn.Kinds.{Dens, endedOf}
 use Rattle.answer.specs.Refusal.{accepted}
 use Rattle.answer.specs.declared.Number.{Number}
 use Rattle.answer.specs.declared.Number.the-variants as number
+use Rattle.answer.proofs.Laws.{number-is}
 use Rattle.verdict.specs.CoreAndRound.{verdictFor}
 use Rattle.verdict_line.specs.Line.{Judged, shownAt, lineAt, lineRefusal, lineAnswer, lineAfter}
 use Rattle.verdict_line.proofs.Tells.{lines-tell}
@@ -31,6 +32,27 @@ pub record Lined (nr : ℕ) (core round before after : List ℕ) (a : Number) : 
   pub before-is : lent .1 .1 .1 .0 .now ≡ before
   pub after-is : ended .1 .1 .1 .0 .now ≡ after
   pub says : reads.Learnt lifetimes lent a ended
+
+-- and nothing else is asked of a call: on any tables and bytes one that answers `lineAnswer` and leaves `lineAfter` meets the contract
+pub some-lined : (nr : ℕ) (core round before : List ℕ) → Lined nr core round before (lineAfter nr core round before) (lineAnswer nr core round before)
+some-lined nr core round before =
+    record {
+      lifetimes = ([], ([], ([], tt)));
+      lent = (nr, (record { ptr = (0, 0); name = 0; now = core }, (record { ptr = (0, 0); name = 0; now = round }, (record { ptr = (0, 0); name = 0; now = before }, tt))));
+      ended = (nr, (record { ptr = (0, 0); name = 0; now = core }, (record { ptr = (0, 0); name = 0; now = round }, (record { ptr = (0, 0); name = 0; now = lineAfter nr core round before }, tt))));
+      rounds-are = refl;
+      core-is = refl;
+      round-is = refl;
+      before-is = refl;
+      after-is = refl;
+      says = (refl, refl);
+    }
+
+-- where the call is accepted, its answer is a length
+pub some-line : (nr : ℕ) (core round before : List ℕ) → lineRefusal nr core round (length before) ≡ accepted →
+    Lined nr core round before (lineAfter nr core round before) (number.Is (length (lineAt nr core round)))
+some-line nr core round before e =
+    subst (Lined nr core round before (lineAfter nr core round before)) (sym (number-is e refl)) (some-lined nr core round before)
 
 module _ {nr : ℕ} {core round before after : List ℕ} {n : ℕ} (c : Lined nr core round before after (number.Is n)) where
   passed : (lineRefusal nr core round (length before) ≡ accepted) × (n ≡ length (lineAt nr core round))

@@ -7,14 +7,15 @@
 --     lineBy, refusalBy, answerBy, afterBy   of a verdict on two tables: its line, and what a call that has it refuses,
 --                     answers and leaves in the lent bytes
 --     lineAt, lineRefusal, lineAnswer, lineAfter   the same of the verdict of `verdict`
---     withinLineRefusal, withinLineAnswer, withinLineAfter   and of that in lent memory
+--     withinLineRefusal, withinLineAnswer, withinLineAfter   of the line in lent memory, `withinLineLeft` what it leaves in a slice of that
 use Prim.Native.Nat.{ℕ}
 use mathlib.Core.Option.{Option, none, some}
 use mathlib.Core.List.{List, [], _∷_, _++_, map}
 use lib.ListN.{length}
+use Rattle.lists.specs.Tab.{tab}
 use Rattle.text.specs.Text.{decimalOf, joined}
 use Rattle.text.specs.Names.{busName}
-use Rattle.answer.specs.Refusal.{accepted, tooShort, numberOf, overwrite, afterwards}
+use Rattle.answer.specs.Refusal.{accepted, notRounds, tooShort, numberOf, overwrite, afterwards}
 use Rattle.answer.specs.declared.Refusal.{Refusal}
 use Rattle.answer.specs.declared.Number.{Number}
 use Rattle.tuple.specs.Tuple.{Tuple}
@@ -25,7 +26,8 @@ use Rattle.verdict.specs.declared.Table.{Table}
 use Rattle.verdict.specs.declared.Table.the-variants.{Core, Round}
 use Rattle.verdict.specs.declared.Verdict.{Verdict}
 use Rattle.verdict.specs.declared.Verdict.the-variants.{Refused, Value, Lookup, Repeated, Unbalanced, Holds}
-use Rattle.judge_within.specs.Within.{withinFor}
+use Rattle.judge.specs.Checks.{notRows, notWords}
+use Rattle.sort_places.specs.Places.{placeCount}
 
 -- ---- the tuple that is shown
 -- tuple i of row r of a table, for nr rounds, which the tuple that a core row sends names
@@ -158,12 +160,26 @@ lineAnswer nr core round bytes = answerBy nr core round (verdictFor nr core roun
 abbrev pub lineAfter : ℕ → List ℕ → List ℕ → List ℕ → List ℕ
 lineAfter nr core round bytes = afterBy nr core round (verdictFor nr core round) bytes
 
--- by the verdict in lent memory, slices of `scratch` and of `spare` words: 8, 2, 3 of them, 5, then 3 of the line
-abbrev pub withinLineRefusal : ℕ → List ℕ → List ℕ → ℕ → ℕ → ℕ → Option Refusal
-withinLineRefusal nr core round scratch spare room = refusalBy nr core round (withinFor nr core round scratch spare) room
+-- In lent memory (judge_within/specs/Within.antt), slices of `scratch` and of `spare` words, the room of the line is checked before anything is
+-- judged, and so that every line fits: 8, 2, 3 of the line, of `scratch` and of `spare`, then 5
+unfoldable pub withinLineRefusal : ℕ → List ℕ → List ℕ → ℕ → ℕ → ℕ → Option Refusal
+withinLineRefusal nr core round room scratch spare =
+    notRounds nr
+    (notRows core round
+    (tooShort room LINE-MOST
+    (tooShort scratch (placeCount core round)
+    (tooShort spare (placeCount core round)
+    (notWords core round accepted)))))
 
-abbrev pub withinLineAnswer : ℕ → List ℕ → List ℕ → ℕ → ℕ → List ℕ → Number
-withinLineAnswer nr core round scratch spare bytes = answerBy nr core round (withinFor nr core round scratch spare) bytes
+-- the length of the line, the line, and in each of the two slices zeros in the words that are used
+unfoldable pub withinLineAnswer : ℕ → List ℕ → List ℕ → ℕ → ℕ → ℕ → Number
+withinLineAnswer nr core round room scratch spare =
+    numberOf (length (lineAt nr core round)) (withinLineRefusal nr core round room scratch spare)
 
-abbrev pub withinLineAfter : ℕ → List ℕ → List ℕ → ℕ → ℕ → List ℕ → List ℕ
-withinLineAfter nr core round scratch spare bytes = afterBy nr core round (withinFor nr core round scratch spare) bytes
+unfoldable pub withinLineAfter : ℕ → List ℕ → List ℕ → ℕ → ℕ → List ℕ → List ℕ
+withinLineAfter nr core round scratch spare bytes =
+    afterwards (withinLineRefusal nr core round (length bytes) scratch spare) (overwrite (lineAt nr core round) bytes) bytes
+
+unfoldable pub withinLineLeft : ℕ → List ℕ → List ℕ → ℕ → ℕ → ℕ → List ℕ → List ℕ
+withinLineLeft nr core round room scratch spare old =
+    afterwards (withinLineRefusal nr core round room scratch spare) (overwrite (tab (placeCount core round) (λ k. 0)) old) old

@@ -1,6 +1,9 @@
 // The verdict as one English line: `holds 3`, `core row 0 value 12`, `round row 7 lookup 223 ByteAlu 2 17 5 20`.
+use answer::Answer;
 use answer::Number;
 use answer::Refusal;
+use answer::check_rounds;
+use judge::checks::check_rows;
 use judge::verdict;
 use judge_scan::row_at;
 use judge_within::verdict_within;
@@ -20,15 +23,15 @@ ghost use mathlib.Core.List.{_++_};
 ghost use Prim.Native.Nat.{_+_, _≤_};
 ghost use lib.ListN.{length, take};
 ghost use lib.Seq.{sets};
-ghost use Rattle.answer.specs.Refusal.{accepted, tooShort, numberOf, overwrite, afterwards};
+ghost use Rattle.answer.specs.Refusal.{accepted, notRounds, tooShort, answerOf, numberOf, overwrite, afterwards};
 ghost use Rattle.text.specs.Text.{Puts, spaced, joined};
 ghost use Rattle.tuple.specs.Call.{interactionOf};
 ghost use Rattle.verdict.specs.CoreAndRound.{verdictFor};
 ghost use Rattle.verdict.specs.declared.Verdict.the-variants.{Holds};
-ghost use Rattle.judge_within.specs.Within.{withinAfter};
+ghost use Rattle.judge.specs.Checks.{notRows};
 ghost use Rattle.verdict_line.specs.Line.{LINE-MOST, tupleAt, shownOf, placeWords, wordsOf, shownWords};
 ghost use Rattle.verdict_line.specs.Line.{Judged, lineBy, refusedBy, answerBy, afterBy, lineAnswer, lineAfter};
-ghost use Rattle.verdict_line.specs.Line.{withinLineAnswer, withinLineAfter};
+ghost use Rattle.verdict_line.specs.Line.{withinLineAnswer, withinLineAfter, withinLineLeft};
 ghost use Rattle.verdict_line.specs.Named.{Named};
 
 pub mod words;
@@ -175,7 +178,24 @@ pub fn verdict_line(nr: u64, core: &[u64], round: &[u64], line: &mut [u8]) -> Nu
     write_line(nr as usize, judged, core, round, line)
 }
 
-// The same of the verdict in lent memory, which leaves `scratch` and `spare` as `verdict_within` does.
+// What is checked before the tables are judged in lent memory: the number of rounds, whole rows, and room for every line.
+fn check_line(nr: u64, core: &[u64], round: &[u64], room: usize) -> Answer
+    ensures { λ r. ⌜ r ≡ answerOf (notRounds nr (notRows (now (core .entry)) (now (round .entry)) (tooShort room LINE-MOST accepted))) ⌝ }
+{
+    if let Answer::Refused(refusal) = check_rounds(nr) {
+        return Answer::Refused(refusal);
+    }
+    if let Answer::Refused(refusal) = check_rows(core, round) {
+        return Answer::Refused(refusal);
+    }
+    if room < LINE_MOST {
+        return Answer::Refused(Refusal::TooShort(LINE_MOST as u64));
+    }
+    Answer::Done
+}
+
+// The line of the verdict in lent memory. It is lent LINE_MOST bytes at least, so that no line is too long for them once the
+// tables are judged: a refusal leaves `scratch` and `spare` as they were, and else they are as `verdict_within` leaves them.
 pub fn verdict_line_within<'a>(
     nr: u64,
     core: &'a [u64],
@@ -184,11 +204,14 @@ pub fn verdict_line_within<'a>(
     scratch: &mut [u64],
     spare: &mut [u64],
 ) -> Number
-    ensures answer { λ r. ⌜ r ≡ withinLineAnswer nr (now (core .entry)) (now (round .entry)) (length (now (scratch .entry))) (length (now (spare .entry))) (now (line .entry)) ⌝ }
+    ensures answer { λ r. ⌜ r ≡ withinLineAnswer nr (now (core .entry)) (now (round .entry)) (length (now (line .entry))) (length (now (scratch .entry))) (length (now (spare .entry))) ⌝ }
     ensures bytes { λ _. ⌜ now (line .exit) ≡ withinLineAfter nr (now (core .entry)) (now (round .entry)) (length (now (scratch .entry))) (length (now (spare .entry))) (now (line .entry)) ⌝ }
-    ensures scratch { λ _. ⌜ now (scratch .exit) ≡ withinAfter nr (now (core .entry)) (now (round .entry)) (length (now (scratch .entry))) (length (now (spare .entry))) (now (scratch .entry)) ⌝ }
-    ensures spare { λ _. ⌜ now (spare .exit) ≡ withinAfter nr (now (core .entry)) (now (round .entry)) (length (now (scratch .entry))) (length (now (spare .entry))) (now (spare .entry)) ⌝ }
+    ensures scratch { λ _. ⌜ now (scratch .exit) ≡ withinLineLeft nr (now (core .entry)) (now (round .entry)) (length (now (line .entry))) (length (now (scratch .entry))) (length (now (spare .entry))) (now (scratch .entry)) ⌝ }
+    ensures spare { λ _. ⌜ now (spare .exit) ≡ withinLineLeft nr (now (core .entry)) (now (round .entry)) (length (now (line .entry))) (length (now (scratch .entry))) (length (now (spare .entry))) (now (spare .entry)) ⌝ }
 {
+    if let Answer::Refused(refusal) = check_line(nr, core, round, line.len()) {
+        return Number::Refused(refusal);
+    }
     let judged = verdict_within(nr, core, round, scratch, spare);
-    write_line(nr as usize, judged, core, round, line)
+    put_line(nr as usize, judged, core, round, line)
 }

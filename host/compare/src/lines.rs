@@ -48,14 +48,8 @@ pub fn compare(comparison: &mut Comparison, seed: u64, n: usize) {
         {
             let input = |room| format!("{room} bytes for the line of the pair '{}' of seed {seed}", pair.name);
             for room in 0..line.len() {
-                short(
-                    comparison,
-                    &mut words,
-                    &|| input(room),
-                    (ALL, &pair.tables),
-                    room,
-                    line.len(),
-                );
+                let input = || input(room);
+                every_call(comparison, &mut words, &input, (ALL, &pair.tables), room, Ok(&line));
             }
         }
     }
@@ -125,33 +119,26 @@ pub(crate) fn line_of(
     let text = comparison.done(input, text).unwrap_or_default();
     comparison.equal(|_| input(), &bytes(&text), &bytes(&line));
     for room in [needed - 1, words.below(needed as u64) as usize] {
-        short(comparison, words, input, (nr, tables), room, needed);
+        every_call(comparison, words, input, (nr, tables), room, Ok(&line));
     }
 }
 
-/// A slice that is one byte or more too short.
-fn short(
-    comparison: &mut Comparison,
-    words: &mut Words,
-    input: &dyn Fn() -> String,
-    on: (u64, &Tables),
-    room: usize,
-    needed: usize,
-) {
-    every_call(comparison, words, input, on, room, Err((3, needed as u64)));
-}
-
-/// Every call that writes a line, into `room` bytes: with memory of its own, without, and in every scratch. Where the rounds are all 24, by
-/// the calls that take no parameters.
+/// Every call that writes a line, into `room` bytes: with memory of its own, without, and in every scratch, there also into as many as any
+/// line may need, and one fewer. Where the rounds are all 24, by the calls that take no parameters. `judged` is the line, or the refusal of
+/// the tables.
 fn every_call(
     comparison: &mut Comparison,
     words: &mut Words,
     input: &dyn Fn() -> String,
     (nr, Tables { core, round }): (u64, &Tables),
     room: usize,
-    expected: Result<&str, (u64, u64)>,
+    judged: Result<&str, (u64, u64)>,
 ) {
     let with = Parameters::default().rounds(nr);
+    let expected = match judged {
+        Ok(line) if room < line.len() => Err((3, line.len() as u64)),
+        _ => judged,
+    };
     let mut lent = LentBytes::drawn(room, words);
     let own = match nr {
         ALL => verdict_line(core, round, lent.slice()),
@@ -165,23 +152,16 @@ fn every_call(
     };
     one_call(comparison, "verdict_line", input, &lent, alone, expected);
     for mut scratch in Scratch::each(core, round, words) {
+        let most = LINE_MOST + words.below(3) as usize;
+        let room = [room, LINE_MOST - 1, most, most][words.below(4) as usize];
         let mut lent = LentBytes::drawn(room, words);
         let ours = match nr {
             ALL => verdict_line_within(core, round, lent.slice(), scratch.slice()),
             _ => verdict_line_within_with(with, core, round, lent.slice(), scratch.slice()),
         };
-        let (expected, was_used) = in_scratch(&scratch, expected);
+        let expected = scratch.line_refusal(room, judged.err()).map_or(judged, Err);
         one_call(comparison, "verdict_line_within", input, &lent, ours, expected);
-        scratch.left(comparison, input, was_used);
-    }
-}
-
-/// What is answered in a scratch, and whether it is used. A line is refused for its own slice when the tables are judged.
-fn in_scratch<'a>(scratch: &Scratch, with_room: Result<&'a str, (u64, u64)>) -> (Result<&'a str, (u64, u64)>, bool) {
-    let judged = with_room.err().filter(|&(number, _)| number != 3);
-    match scratch.refusal(judged) {
-        Some(refusal) => (Err(refusal), false),
-        None => (with_room, true),
+        scratch.left(comparison, input, expected.is_ok());
     }
 }
 

@@ -56,7 +56,7 @@ use crate::{charge, jobs, lines, looked_up, message, month, registers, rounds, r
 /// | `verdict_line` | | core, round | line | | core, round | |
 /// | `job` | | core, round, counts | report | | core, round | |
 /// | `verdict_within` | | core, round | scratch, spare | | core, round | |
-/// | `verdict_line_within` | | core, round | scratch, spare; behind 5 line | | core, round | |
+/// | `verdict_line_within` | | core, round | line, scratch, spare | | core, round | |
 /// | `job_within` | | core, round, counts | report, scratch, spare | | core, round | |
 /// | a file's reader | n | | | address | | mark, cut |
 /// | `read_operations` | n | | list | address | | mark, cut |
@@ -490,7 +490,7 @@ fn one_verdict(comparison: &mut Comparison, words: &mut Words, core: &[u64], rou
         comparison,
         words,
         (with, [core_lent, round_lent]),
-        (refused, line),
+        refused,
         &input,
     );
     for table in lent {
@@ -498,12 +498,12 @@ fn one_verdict(comparison: &mut Comparison, words: &mut Words, core: &[u64], rou
     }
 }
 
-/// The verdict and a line of no byte in every scratch: what is refused of the tables, and of a line that could be written.
+/// The verdict and its line in every scratch, by what is refused of the tables; the line with no byte, one too few, or as many as any may need.
 fn in_each_scratch(
     comparison: &mut Comparison,
     words: &mut Words,
     (with, [core, round]): (Parameters, [&[u64]; 2]),
-    (refused, line): (Option<(u64, u64)>, Option<(u64, u64)>),
+    refused: Option<(u64, u64)>,
     input: &dyn Fn() -> String,
 ) {
     for mut scratch in Scratch::each(core, round, words) {
@@ -513,10 +513,15 @@ fn in_each_scratch(
         scratch.left(comparison, input, refused.is_none());
     }
     for mut scratch in Scratch::each(core, round, words) {
-        let refused = scratch.refusal(refused);
-        let short = verdict_line_within_with(with, core, round, &mut [], scratch.slice());
-        comparison.answered("verdict_line_within", input, short, refused.or(line));
+        let room = [0, LINE_MOST - 1, LINE_MOST][words.below(3) as usize];
+        let refused = scratch.line_refusal(room, refused);
+        let mut line = LentBytes::drawn(room, words);
+        let answer = verdict_line_within_with(with, core, round, line.slice(), scratch.slice());
+        comparison.answered("verdict_line_within", input, answer, refused);
         scratch.left(comparison, input, refused.is_none());
+        if refused.is_some() {
+            line.holds(comparison, input, &[]);
+        }
     }
 }
 

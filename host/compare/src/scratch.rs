@@ -1,7 +1,7 @@
 //! The scratch that a verdict is lent: drawn words with guards, as many as are needed, more or fewer; what is refused for it, and what it
 //! holds afterwards.
 
-use keccak_tables::verdict::scratch_words;
+use keccak_tables::verdict::{LINE_MOST, scratch_words};
 
 use crate::comparison::Comparison;
 use crate::inputs::Words;
@@ -59,6 +59,16 @@ impl Scratch {
         }
     }
 
+    /// The refusal of a line in this scratch: lent fewer bytes than any line may need, it is refused before the scratch.
+    pub fn line_refusal(&self, room: usize, with_room: Option<(u64, u64)>) -> Option<(u64, u64)> {
+        let line = match with_room {
+            Some((2 | 8, _)) => with_room,
+            _ if room < LINE_MOST => Some((3, LINE_MOST as u64)),
+            _ => with_room,
+        };
+        self.refusal(line)
+    }
+
     /// The verdict with this scratch, by the verdict with room enough.
     pub fn verdict(&self, with_room: Verdict) -> Verdict {
         let refusal = match with_room {
@@ -98,6 +108,9 @@ mod tests {
             ] {
                 let expected = if short && !always { Some((3, 12)) } else { with_room };
                 assert_eq!(scratch.refusal(with_room), expected, "{room} words");
+                assert_eq!(scratch.line_refusal(LINE_MOST, with_room), expected, "{room} words");
+                let line = if always { with_room } else { Some((3, LINE_MOST as u64)) };
+                assert_eq!(scratch.line_refusal(LINE_MOST - 1, with_room), line, "{room} words");
             }
             let holds = scratch.verdict(Verdict::Holds(1));
             assert_eq!(holds == Verdict::Refused(3, 12), short);
