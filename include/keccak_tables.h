@@ -18,10 +18,11 @@
  *   else
  *       printf("failure %" PRIu64 " in row %" PRIu64 "\n", j.kind, j.row);
  *
- *   if (a.done)    of every other call: it did its work. What a report on a job says stands in the report;
- *   if (j.holds)   of a verdict: both tables hold;
- *   if (s.same)    of an operation file against a core table: both record the same calls;
- *   if (m.yes)     of a list of operations against a message: it is the message's.
+ *   if (j.holds)     of a verdict: both tables hold;
+ *   if (s.same)      of an operation file against a core table: both record the same calls;
+ *   if (m.yes)       of a list of operations against a message: it is the message's;
+ *   if (c.reading)   of a reader of an operation file: it has met no fault;
+ *   if (a.done)      of every other call: it did its work. Whether a job holds is said by the words of its report.
  *
  * Each struct begins with the refusal and its detail, 0 and 0 where the call is not refused:
  *
@@ -386,15 +387,15 @@ typedef struct keccak_tables_reply {
 } keccak_tables_reply;
 
 /*
- * Where a reader of an operation file stands: refusal and detail of the first fault, or 0 and 0 and then the whole records at
- * multiples of 8, the bytes of the next one, what its address bytes so far make, the whole records at other addresses, where the next one
- * starts, the second byte of its mark, what the bytes of its segment number so far make, and of the records at multiples of 8 whether one has a
- * segment number, the least and the greatest. Hand it from call to call as it is. What the file is worth is said at its end: by
- * keccak_tables_tally_finish.
+ * Where a reader of an operation file stands: refusal and detail of the first fault; or `reading` 1 while there is none, and then the whole
+ * records at multiples of 8, the bytes of the next one, what its address bytes so far make, the whole records at other addresses, where the
+ * next one starts, the second byte of its mark, what the bytes of its segment number so far make, and of the records at multiples of 8
+ * whether one has a segment number, the least and the greatest. Hand it from call to call as it is.
  */
 typedef struct keccak_tables_cursor {
     uint64_t refusal;
     uint64_t detail;
+    uint64_t reading;
     uint64_t records;
     size_t at;
     uint64_t address;
@@ -852,8 +853,9 @@ keccak_tables_cursor keccak_tables_tally_start(void);
 /*
  * Reads the next piece of the file, cut anywhere; a fault stays what it is. 1 a byte after record 89,478,485; 4 a record's
  * address, told when all bytes of the record are read; 6 a wrong mark, told at its first wrong byte. No file gives 7: a record at an address
- * that is no multiple of 8 is counted apart; nor 8 to 14. A cursor that a caller made up is answered by the refusal that it names, a number
- * that no refusal has counts as 6; one that stands past the most bytes of a file, 422 times 89,478,485, gets 1.
+ * that is no multiple of 8 is counted apart; nor 8 to 14. A cursor that a caller made up is answered, unless its `reading` is 1, by the
+ * refusal that it names, where a number that no refusal has counts as 6; so is one of zeros. One that stands past the most bytes of a file,
+ * 422 times 89,478,485, gets 1.
  */
 KECCAK_TABLES_MUST_USE
 keccak_tables_cursor keccak_tables_tally_feed(keccak_tables_cursor cursor, const uint8_t *bytes, size_t bytes_length);

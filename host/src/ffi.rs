@@ -115,6 +115,7 @@ pub struct FlatKey {
 pub struct FlatCursor {
     pub refusal: u64,
     pub detail: u64,
+    pub reading: u64,
     records: u64,
     at: usize,
     address: u64,

@@ -185,7 +185,11 @@ impl Refusal {
         name: impl FnOnce(u64, u64) -> &'static str,
     ) -> Result<(), Self> {
         let answer = Self::from_flat(number, detail, name);
-        assert_eq!(answer.is_ok(), done == 1, "an answer is done exactly where it is not refused");
+        assert_eq!(
+            answer.is_ok(),
+            done == 1,
+            "an answer is done exactly where it is not refused"
+        );
         answer
     }
 

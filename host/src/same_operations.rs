@@ -104,11 +104,21 @@ mod tests {
         let cases = [
             ([1, 3, 0], Agreement::Same, "same"),
             ([0, 1, 0], Agreement::Record(0), "record 0"),
-            ([0, 1, u64::MAX], Agreement::Record(u64::MAX), "record 18446744073709551615"),
+            (
+                [0, 1, u64::MAX],
+                Agreement::Record(u64::MAX),
+                "record 18446744073709551615",
+            ),
             ([0, 2, 7], Agreement::Row(7), "row 7"),
         ];
         for ([same, kind, place], agreement, text) in cases {
-            let flat = FlatAgreement { refusal: 0, detail: 0, same, kind, place };
+            let flat = FlatAgreement {
+                refusal: 0,
+                detail: 0,
+                same,
+                kind,
+                place,
+            };
             assert_eq!(from_flat(&flat), Ok(agreement));
             assert_eq!(agreement.to_string(), text);
             assert_eq!(agreement.is_same(), same == 1);

@@ -342,7 +342,9 @@ pub fn verdict_text_with(parameters: Parameters, core: &[u64], round: &[u64]) ->
 
 /// What was said of this core table and a round table.
 fn from_flat(flat: &FlatVerdict, core: &[u64]) -> Result<Verdict, Refusal> {
-    Refusal::from_flat(flat.refusal, flat.detail, |number, detail| of_verdict(number, detail, core))?;
+    Refusal::from_flat(flat.refusal, flat.detail, |number, detail| {
+        of_verdict(number, detail, core)
+    })?;
     if flat.holds == 1 {
         return Ok(Verdict::Holds { active: flat.active });
     }
@@ -447,7 +449,16 @@ mod tests {
     /// A struct of the words behind the refusal: holds, active, kind, table, row, index.
     fn told([holds, active, kind, table, row, index]: [u64; 6]) -> FlatVerdict {
         let (refusal, detail) = (0, 0);
-        FlatVerdict { refusal, detail, holds, active, kind, table, row, index }
+        FlatVerdict {
+            refusal,
+            detail,
+            holds,
+            active,
+            kind,
+            table,
+            row,
+            index,
+        }
     }
 
     #[test]
@@ -460,7 +471,11 @@ mod tests {
             ([1, 3, 7, 0, 0, 0], Verdict::Holds { active: 3 }, "holds 3"),
             ([0, 0, 1, 0, 1, 50], value(core, 1, 50), "core row 1 value 50"),
             ([0, 0, 2, 0, 1, 54], lookup(core, 1, 54), "core row 1 lookup 54"),
-            ([0, 0, 3, 0, 4, 0], Verdict::Repeated { row: 4 }, "core row 4 timestamp 0"),
+            (
+                [0, 0, 3, 0, 4, 0],
+                Verdict::Repeated { row: 4 },
+                "core row 4 timestamp 0",
+            ),
             ([0, 0, 4, 1, 9, 140], value(round, 9, 140), "round row 9 value 140"),
             ([0, 0, 5, 1, 9, 2], lookup(round, 9, 2), "round row 9 lookup 2"),
             ([0, 0, 6, 0, 0, 2], unbalanced(core, 0, 2), "core row 0 balance 2"),
@@ -472,14 +487,27 @@ mod tests {
             assert_eq!(verdict.holds(), words[0] == 1);
             // The report on a job has the kind, table, row and index of a failure, and 0 and the count of what holds.
             let [holds, active, kind, table, row, index] = words;
-            let report = if holds == 1 { [0, active, 0, 0] } else { [kind, table, row, index] };
+            let report = if holds == 1 {
+                [0, active, 0, 0]
+            } else {
+                [kind, table, row, index]
+            };
             assert_eq!(from_words(report), verdict);
         }
     }
 
     #[test]
     fn a_refusal_names_its_table() {
-        let read = |refusal, detail| from_flat(&FlatVerdict { refusal, detail, ..told([0; 6]) }, &[0, P]);
+        let read = |refusal, detail| {
+            from_flat(
+                &FlatVerdict {
+                    refusal,
+                    detail,
+                    ..told([0; 6])
+                },
+                &[0, P],
+            )
+        };
         for (place, argument) in [(0, "round"), (1, "core"), (2, "round"), (u64::MAX, "round")] {
             assert_eq!(read(5, place), Err(Refusal::NotElement { argument, place }));
         }

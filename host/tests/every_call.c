@@ -20,9 +20,10 @@
         }                                                                                                                         \
     } while (0)
 
-/* The answer is that of a call that is not refused, that of one that did its work, or that of one that is refused. */
+/* The answer is that of a call that is not refused, that of one that did its work or goes on reading, or that of one that is refused. */
 #define ACCEPTED(answer) CHECK((answer).refusal == KECCAK_TABLES_REFUSAL_NONE && (answer).detail == 0)
 #define DONE(answer) CHECK((answer).refusal == KECCAK_TABLES_REFUSAL_NONE && (answer).detail == 0 && (answer).done == 1)
+#define READING(cursor) CHECK((cursor).refusal == KECCAK_TABLES_REFUSAL_NONE && (cursor).detail == 0 && (cursor).reading == 1)
 #define REFUSED(answer, n, d) CHECK((answer).refusal == (n) && (answer).detail == (d))
 
 /* A verdict that is refused, whose other words are 0. */
@@ -400,7 +401,7 @@ static void registers(void) {
     free(copy);
 }
 
-/* Of the zero state by 24 rounds and by the last alone, whose published lane 0 is its constant; then each refusal. */
+/* Of the zero state, by the last round alone, after which lane 0 is its constant, and by 24; then each refusal. */
 static void permutation(void) {
     uint64_t state[KECCAK_TABLES_LANES + 1] = {0};
     state[25] = GUARD;
@@ -1108,7 +1109,7 @@ static void file_lists(void) {
 /* The sums of the file that file_lists wrote. */
 static void file_sums(void) {
     keccak_tables_cursor cursor = CALL(keccak_tables_tally_start)();
-    ACCEPTED(cursor);
+    READING(cursor);
     keccak_tables_sums empty = keccak_tables_tally_finish(FLOOR, false, cursor);
     DONE(empty);
     CHECK(empty.ops == 0 && empty.core_rows == 4 && empty.round_rows == 4 && empty.byte_alu == 0 && empty.are_bytes == 0);
@@ -1120,7 +1121,7 @@ static void file_sums(void) {
     DONE(empty);
     CHECK(empty.core_rows == HIGHER && empty.round_rows == HIGHER && empty.byte_alu == 0 && empty.are_bytes == HIGHER * 220);
     cursor = CALL(keccak_tables_tally_feed)(cursor, file, 13);
-    ACCEPTED(cursor);
+    READING(cursor);
     CHECK(cursor.records == 0 && cursor.at == 13);
     keccak_tables_sums sums = CALL(keccak_tables_tally_finish)(FLOOR, false, cursor);
     REFUSED(sums, 6, 0);
@@ -1140,7 +1141,7 @@ static void file_sums(void) {
     /* A record at an address that is no multiple of 8 is read, counted and left out of the sums. */
     file[10] += 4;
     cursor = keccak_tables_tally_feed(cursor, file, 418);
-    ACCEPTED(cursor);
+    READING(cursor);
     CHECK(cursor.records == 1 && cursor.unaligned == 1);
     sums = keccak_tables_tally_finish(FLOOR, false, cursor);
     DONE(sums);
@@ -1155,12 +1156,12 @@ static void file_sums(void) {
     REFUSED(answer, KECCAK_TABLES_REFUSAL_UNALIGNED, list[1]);
 
     /* A reader that has read as many records as a file may have: its end is no fault, a byte more is, whatever is left out. */
-    keccak_tables_cursor full = {.records = KECCAK_TABLES_MAX_OPS - 3, .unaligned = 3};
+    keccak_tables_cursor full = {.reading = 1, .records = KECCAK_TABLES_MAX_OPS - 3, .unaligned = 3};
     sums = keccak_tables_tally_finish(FLOOR, true, full);
     DONE(sums);
     CHECK(sums.ops == KECCAK_TABLES_MAX_OPS - 3 && sums.unaligned == 3);
     cursor = keccak_tables_tally_feed(full, file, 0);
-    ACCEPTED(cursor);
+    READING(cursor);
     cursor = keccak_tables_tally_feed(full, file, 1);
     REFUSED(cursor, 1, 89478486);
     /* A fault that no call found is answered as it is named, but one that there is none of. */
@@ -1178,7 +1179,7 @@ static void file_sums(void) {
     REFUSED(sums, 6, 5);
     full.records--;
     cursor = keccak_tables_tally_feed(full, file, 418);
-    ACCEPTED(cursor);
+    READING(cursor);
     CHECK(cursor.records == KECCAK_TABLES_MAX_OPS - 4 && cursor.unaligned == 4 && cursor.at == 0);
 }
 
@@ -1200,28 +1201,29 @@ static void file_segments(void) {
     answer = keccak_tables_read_operations(both, 839, read, 2 * OP);
     REFUSED(answer, 6, 418);
     keccak_tables_cursor cursor = keccak_tables_tally_feed(keccak_tables_tally_start(), both, 838);
-    ACCEPTED(cursor);
+    READING(cursor);
     CHECK(cursor.records == 1 && cursor.at == 420 && cursor.start == 418 && cursor.mark == 0x50 && cursor.segments == 0);
     cursor = keccak_tables_tally_feed(cursor, both + 838, 2);
-    ACCEPTED(cursor);
+    READING(cursor);
     CHECK(cursor.records == 2 && cursor.at == 0 && cursor.start == 840);
     keccak_tables_sums sums = keccak_tables_tally_finish(FLOOR, false, cursor);
     DONE(sums);
     CHECK(sums.ops == 2 && sums.segments == 1 && sums.least_segment == 0 && sums.greatest_segment == 0x04030201);
     /* Past the most bytes of a file there is no record; up to there every word of a reader is taken as it is. */
-    keccak_tables_cursor far = {.start = (uint64_t)422 * KECCAK_TABLES_MAX_OPS + 1, .least_segment = UINT64_MAX};
+    keccak_tables_cursor far = {
+        .reading = 1, .start = (uint64_t)422 * KECCAK_TABLES_MAX_OPS + 1, .least_segment = UINT64_MAX};
     sums = keccak_tables_tally_finish(FLOOR, false, far);
     REFUSED(sums, 1, 89478486);
     cursor = keccak_tables_tally_feed(far, both, 418);
     REFUSED(cursor, 1, 89478486);
     far.start--;
     cursor = keccak_tables_tally_feed(far, both, 417);
-    ACCEPTED(cursor);
+    READING(cursor);
     cursor.at = SIZE_MAX;
     cursor.address = 8;
     cursor.tail = UINT64_MAX;
     cursor = keccak_tables_tally_feed(cursor, both, 1);
-    ACCEPTED(cursor);
+    READING(cursor);
     CHECK(cursor.records == 1 && cursor.at == 0 && cursor.start == far.start + 418);
     cursor = keccak_tables_tally_feed(cursor, both, 1);
     REFUSED(cursor, 1, 89478486);

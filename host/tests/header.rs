@@ -249,7 +249,16 @@ fn compiler(name: &str, standard: &str) -> Option<Command> {
         answer => assert!(answer.expect("a compiler can be run").status.success()),
     }
     let mut command = Command::new(name);
-    command.args([standard, "-O1", "-Wall", "-Wextra", "-Wpedantic", "-Werror", "-I"]);
+    command.args([
+        standard,
+        "-O1",
+        "-pedantic",
+        "-Wall",
+        "-Wextra",
+        "-Wconversion",
+        "-Werror",
+        "-I",
+    ]);
     command.arg(interface::root().join("include"));
     Some(command)
 }
@@ -284,16 +293,15 @@ fn a_dropped_answer_is_told() {
     }
 }
 
-/// Compiles and runs `every_call.c`, which prints the name of each function that it calls, and fails where an answer is
-/// wrong. Without a C compiler there is nothing to run.
-#[test]
-fn a_program_in_c_calls_every_function() {
-    let program = Path::new(env!("CARGO_TARGET_TMPDIR")).join("every_call");
-    let Some(mut compiler) = compiler("cc", "-std=c11") else {
+/// Compiles and runs a program beside this file, which prints the name of each function that it calls, and fails where an answer is
+/// wrong: it calls them all. Without a C compiler there is nothing to run.
+fn calls_every_function(name: &str, standard: &str) {
+    let program = Path::new(env!("CARGO_TARGET_TMPDIR")).join(name);
+    let Some(mut compiler) = compiler("cc", standard) else {
         return;
     };
     let compiled = compiler
-        .arg(interface::root().join("host/tests/every_call.c"))
+        .arg(interface::root().join("host/tests").join(format!("{name}.c")))
         .arg(interface::archive())
         .arg("-o")
         .arg(&program)
@@ -312,4 +320,15 @@ fn a_program_in_c_calls_every_function() {
     called.dedup();
     let prototypes: Vec<String> = interface::prototypes().into_keys().collect();
     assert_eq!(called, prototypes);
+}
+
+#[test]
+fn a_program_in_c_calls_every_function() {
+    calls_every_function("every_call", "-std=c11");
+}
+
+/// Of words of zeros, of a refusal and of a failure nothing reads as good, and of a good answer its third word does.
+#[test]
+fn a_program_in_c_reads_every_answer_by_its_third_word() {
+    calls_every_function("answers", "-std=c99");
 }

@@ -350,7 +350,14 @@ fn a_line_before_a_scratch_before_the_words_of_tables() {
         assert_eq!(lined, verdict);
         let short = verdict_line_within(core, round, &mut line[1..], &mut scratch[..words]).map(drop);
         let rows = matches!(verdict, Err(Refusal::NotWhole { .. }));
-        assert_eq!(short, if rows { verdict } else { too_short("line", LINE_MOST as u64) });
+        assert_eq!(
+            short,
+            if rows {
+                verdict
+            } else {
+                too_short("line", LINE_MOST as u64)
+            }
+        );
         verdict
     };
     assert_eq!(judge(&core[1..], &round[1..], 0), not_whole("core", Lent::Core));
