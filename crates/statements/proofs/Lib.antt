@@ -1,2 +1,4 @@
 pub mod Statements
 pub mod Lines
+pub mod Exports
+pub mod Answers

@@ -1,7 +1,7 @@
 -- The statements of the project on one page, each beside the sentence that asks for it. Each is proved in the crate
 -- that it is about and only cited here, so what a reader reads is what the gate has checked.
--- Not here: demand 1, and "tables, values, tuples, counts and verdict match definitions", are the contracts of the
--- calls (docs/PROOFS.md).
+-- Demand 1, and "tables, values, tuples, counts and verdict match definitions", are the contracts of the calls: those that a host
+-- links are in Exports.antt, all in docs/PROOFS.md.
 --     Lanes s            the 25 words of s are below 2^64
 --     bits s, Agree      their 1,600 bits as FIPS 202's state array; two such arrays have the same bits
 --     roundRow t r s     the row that is written for timestamp words t 0 and t 1, round r and the lanes s of START
