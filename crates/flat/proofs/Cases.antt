@@ -1,7 +1,7 @@
--- The flat structs of written-out answers. In each every word is another number, so two that are exchanged, in definition and
--- code alike, are noticed here.
+-- The flat structs of written-out answers. Words that may be mistaken for one another are different numbers, so two that are
+-- exchanged, in definition and code alike, are noticed here.
 use mathlib.Core.Path.{_≡_, refl}
-use Rattle.answer.specs.declared.Refusal.the-variants.{PastEnd, TooShort, NotElement, BadRecord, Rounds, Floor}
+use Rattle.answer.specs.declared.Refusal.the-variants.{NotWhole, TooShort, NotElement, BadRecord, Rounds, Floor, LongMessage}
 use Rattle.answer.specs.declared.Answer.the-variants as answer
 use Rattle.answer.specs.declared.Number.the-variants as number
 use Rattle.tuple.specs.declared.Bus.the-variants.{IsHalfword}
@@ -25,14 +25,14 @@ use Rattle.flat.specs.FlatReader.{flatCursor, flatTally}
 pub record FlatCases : Type 0 where
   -- a call that only writes
   pub done : flatAnswer answer.Done ≡ record { refusal = 0; detail = 0; done = 1 }
-  pub refused : flatAnswer (answer.Refused (TooShort 486)) ≡ record { refusal = 3; detail = 486; done = 0 }
+  pub refused : flatAnswer (answer.Refused (NotWhole 1)) ≡ record { refusal = 2; detail = 1; done = 0 }
   -- a number; none where the call is refused
   pub a-number : flatNumber (number.Is 7) ≡ record { refusal = 0; detail = 0; done = 1; value = 7 }
   pub no-number : flatNumber (number.Refused (Rounds 25)) ≡ record { refusal = 8; detail = 25; done = 0; value = 0 }
   -- a tuple of 4 values, received 9 times
   pub a-tuple : flatTuple (tuple.Is (record { bus = IsHalfword; side = Receiver; length = 4; multiplicity = 9 }))
       ≡ record { refusal = 0; detail = 0; done = 1; bus = 2; side = 1; length = 4; multiplicity = 9 }
-  pub no-tuple : flatTuple (tuple.Refused (PastEnd 1031)) ≡ record { refusal = 1; detail = 1031; done = 0; bus = 0; side = 0; length = 0; multiplicity = 0 }
+  pub no-tuple : flatTuple (tuple.Refused (TooShort 203)) ≡ record { refusal = 3; detail = 203; done = 0; bus = 0; side = 0; length = 0; multiplicity = 0 }
   -- the key of 5 · 2^32 + 6 · 2^16 + 7
   pub a-key : flatKey (of-dword 21475229703) ≡ record { refusal = 0; detail = 0; done = 1; word = 5; half = 6 }
   -- a lookup of three bytes; none where its kind is past the last
@@ -51,7 +51,7 @@ pub record FlatCases : Type 0 where
   -- a list and a message
   pub yes : flatReply judgement.Yes ≡ record { refusal = 0; detail = 0; yes = 1 }
   pub no : flatReply judgement.No ≡ record { refusal = 0; detail = 0; yes = 0 }
-  pub no-reply : flatReply (judgement.Refused (TooShort 13)) ≡ record { refusal = 3; detail = 13; yes = 0 }
+  pub no-reply : flatReply (judgement.Refused (LongMessage 65537)) ≡ record { refusal = 12; detail = 65537; yes = 0 }
   -- where a reader stands: 21 whole records and 22 at addresses that are no multiples of 8, byte 27 of the next, which starts at 23
   pub a-cursor : flatCursor (cursor.Reading (record { n = 21; unaligned = 22; start = 23; segments = record { shown = 1; least = 25; greatest = 26 } }) (record { at = 27; mark = 28; addr = 29; tail = 30 }))
       ≡ record { refusal = 0; detail = 0; reading = 1; records = 21; at = 27; address = 29; unaligned = 22; start = 23; mark = 28; tail = 30; segments = 1; «least_segment» = 25; «greatest_segment» = 26 }
