@@ -7,12 +7,12 @@
 --     lent-left             what an accepted call leaves in a slice
 --     by-refusal            accepted, and then no refusal, or refused
 use mathlib.Core.Path.{_≡_, refl, sym, ap, subst, _∙_}
-use mathlib.Core.Logic.{_⊎_, _↔_, inl, inr}
+use mathlib.Core.Logic.{_↔_, inl, inr}
 use mathlib.Core.Option.{Option, none, some}
 use mathlib.Core.List.{List}
-use Prim.Native.Nat.{ℕ, _≤_, _<_}
+use Prim.Native.Nat.{ℕ, _≤_}
 use native.Mathlib.Omega.{arith}
-use lib.ListN.{length, take, drop}
+use lib.ListN.{take, drop}
 use Rattle.lists.specs.Tab.{tab}
 use Rattle.lists.proofs.Laws.{length-tab}
 use Rattle.lists.proofs.Then.{by-le}

@@ -39,6 +39,11 @@ impl Lent {
     pub fn holds(&self, comparison: &mut Comparison, input: impl FnOnce(usize) -> String, expected: &[u64]) {
         let mut all = self.before.clone();
         all[GUARDS..GUARDS + expected.len()].copy_from_slice(expected);
+        self.is(comparison, input, &all);
+    }
+
+    /// The slice with its guards is to be this.
+    fn is(&self, comparison: &mut Comparison, input: impl FnOnce(usize) -> String, all: &[u64]) {
         let place_in_slice = |place: usize| {
             if place < GUARDS {
                 "a guard before the slice".to_string()
@@ -49,7 +54,7 @@ impl Lent {
         comparison.equal(
             |place| format!("{}, {}", place_in_slice(place), input(place.saturating_sub(GUARDS))),
             &self.words,
-            &all,
+            all,
         );
     }
 
@@ -64,7 +69,7 @@ impl Lent {
 
     /// Every word is to be as it was.
     pub fn kept(&self, comparison: &mut Comparison, input: impl FnOnce(usize) -> String) {
-        self.holds(comparison, input, &[]);
+        self.is(comparison, input, &self.before);
     }
 }
 

@@ -4,7 +4,7 @@
 //! `tuples` their tuples. `looked_up` has the two tables that are looked up, whole, `charge` what a segment charges to the counters of one
 //! of them (`plain_charge` is a plain charge to time it against), `registers` what several registers do. `verdicts` holds the verdict against `judge`, a judge
 //! of its own, on the tables of `dishonest` and in the `orders` of their rows, in the `scratch` that it is lent, `lines` its line of text, `jobs` the report on a job's segments. `tally`
-//! reads operation files, beside `plain_file`, which reads them too, `limit` the longest ones, and `refusals` has the table of what each call refuses. `rounds` has every number of
+//! reads operation files, beside `plain_file`, which reads them too, `limit` the longest ones, and `refusals` has the table of what each call refuses, by which `kept` holds every lent slice against its old words. `rounds` has every number of
 //! rounds, by what `by_rounds` makes of the Rust's 24, and `floors` every floor, by what `by_floor` makes of the Rust's 4; `month` has the month
 //! by exact fractions, `message` what is written and judged for messages, by a SHA3-256 of its own, `plain_sha3`, and `permutation` the permutation by itself; `same` has a
 //! core table against an operation file, by a matching over a hash map. A further area is a module beside them and a name in `bin/differential.rs`. `cases` has the small tables of the program `verdict_cases`.
@@ -23,6 +23,7 @@ pub mod floors;
 pub mod inputs;
 pub mod jobs;
 pub mod judge;
+pub mod kept;
 pub mod lent;
 pub mod limit;
 pub mod lines;

@@ -24,7 +24,7 @@ use crate::scratch::Scratch;
 use crate::tally::read;
 use crate::untouched::Untouched;
 use crate::{
-    charge, jobs, lines, looked_up, message, month, permutation, registers, rounds, rows, same, tuples, values,
+    charge, jobs, kept, lines, looked_up, message, month, permutation, registers, rounds, rows, same, tuples, values,
     verdicts,
 };
 
@@ -161,6 +161,7 @@ pub fn compare(comparison: &mut Comparison, seed: u64, n: usize) {
     files(comparison, &mut words);
     comparison.group("refusals: verdicts on tables of every length about a row's, and with words about p");
     verdicts_refused(comparison, &mut words);
+    kept::compare(comparison, &mut words);
     comparison.group("refusals: what was tried, call by call");
     matrix(comparison);
 }
