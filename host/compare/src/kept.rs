@@ -9,7 +9,8 @@ use keccak_tables::operation_file::{SEGMENT_RECORD_BYTES, Tally, read_operations
 use keccak_tables::same_operations::same_operations;
 use keccak_tables::verdict::{self, LINE_MOST};
 use keccak_tables::{
-    MAX_OPS, OP_WORDS, P, Parameters, Refusal, SEGMENT_WORD, job, keccak, keccak_rc, keccak_rnd, registers, segment,
+    MAX_OPS, OP_WORDS, P, Parameters, Refusal, SEGMENT_WORD, job, keccak, keccak_rc, keccak_rnd, permutation,
+    registers, segment,
 };
 
 use crate::comparison::Comparison;
@@ -381,7 +382,7 @@ fn fed(bytes: &[u8]) -> Tally {
 }
 
 /// Every call of the archive that refuses anything.
-const CALLS: [Call; 57] = [
+const CALLS: [Call; 58] = [
     numbered("generate_bitwise_row", &[out(11)], |given, [row, ..], _| {
         bitwise::generate_bitwise_row(given.number, row)
     }),
@@ -467,9 +468,11 @@ const CALLS: [Call; 57] = [
         |_, [rows, counters, ..], _| is_wh::collect_bitwise_from_is_wh(rows, counters),
     )
     .and(&[NO_COUNTERS]),
-    numbered("is_wh_bus_interaction", &[row(4), tuple(1)], |given, [row, out, ..], _| {
-        is_wh::bus_interaction(row, given.number, out).map(drop)
-    }),
+    numbered(
+        "is_wh_bus_interaction",
+        &[row(4), tuple(1)],
+        |given, [row, out, ..], _| is_wh::bus_interaction(row, given.number, out).map(drop),
+    ),
     numbered("keccak_row", &[OPS, out(486)], |given, [ops, row, ..], _| {
         keccak::keccak_row(ops, given.number, row)
     }),
@@ -563,6 +566,9 @@ const CALLS: [Call; 57] = [
         (1, |given| given.slices[0][1] = MAX_OPS as u64 + 1),
         (14, |given| given.slices[0] = vec![1; MAX_FILES + 1]),
     ]),
+    call("keccak_f", &[out(25)], |given, [state, ..], _| {
+        permutation::keccak_f_with(given.with, state)
+    }),
     call(
         "message_operations",
         &[out(2 * OP_WORDS)],
