@@ -2,7 +2,7 @@
 
 use std::ffi::OsString;
 
-use super::{Failure, Outcome, Streams};
+use super::{Failure, Outcome, Streams, options};
 
 /// A command: its name, what stands behind it, and what it does, in short and at length.
 pub struct Command {
@@ -204,8 +204,15 @@ counts records at others apart, and what makes tables of the operations refuses 
 Exit status: 0 fine; 1 the tables do not hold, or refused; 2 wrong usage, or a file that can't be read or written.
 ";
 
-/// That a command was given something else than it takes.
-pub fn wrong(name: &str) -> Failure {
+/// That a command was given something else than it takes. An option behind a file is named.
+pub fn wrong(name: &str, files: &[OsString]) -> Failure {
+    if let Some(late) = files.iter().find(|word| options::is_option(word)) {
+        let words = format!(
+            "{name}: {} stands behind a file, and options stand before the files",
+            late.display()
+        );
+        return Failure::Usage(words);
+    }
     let takes = COMMANDS.iter().find(|command| command.name == name);
     let arguments = takes.map_or("", |command| command.arguments);
     Failure::Usage(format!("{name} takes {arguments}"))
@@ -214,6 +221,7 @@ pub fn wrong(name: &str) -> Failure {
 pub fn help(arguments: &[OsString], streams: &mut Streams) -> Result<Outcome, Failure> {
     let text = match arguments {
         [] => all(),
+        [name] if ["help", "--help", "-h"].iter().any(|word| name == word) => all(),
         [name] => match COMMANDS.iter().find(|command| name == command.name) {
             Some(Command {
                 name, arguments, long, ..
