@@ -92,11 +92,11 @@ fn together(files: &mut [WordFile], hold: bool) -> Result<(), Failure> {
     }
 }
 
-/// Writes the journal, or nothing.
+/// Writes the journal, or nothing that says of anything.
 fn begin(entries: &[Entry]) -> io::Result<()> {
-    journal::write(entries).map_err(|error| match journal::remove(entries) {
-        Ok(()) => error,
-        Err(_) => left_open(&error, entries),
+    journal::write(entries).map_err(|(error, begun)| match journal::remove(entries) {
+        Err(_) if begun => left_open(&error, entries),
+        _ => error,
     })
 }
 

@@ -106,25 +106,25 @@ fn found(bytes: &[u8], folder: &Path, undo: bool) -> Option<Found> {
     Some(Found::Change { undo, entries })
 }
 
-/// Writes a journal and its notes, and puts them on the disk; the journal last, because with it the change has begun. Where that fails,
-/// what is there of them says of nothing.
-pub fn write(entries: &[Entry]) -> io::Result<()> {
+/// Writes a journal and its notes, and puts them on the disk; the journal last, because with it the change has begun. Where that fails, it is
+/// also said whether a journal is there: without one the notes say of nothing.
+pub fn write(entries: &[Entry]) -> Result<(), (io::Error, bool)> {
     let first = &entries[0].target;
-    for entry in &entries[1..] {
-        let fields = [b"with".to_vec(), name_from(folder_of(&entry.target), first)];
-        put(&entry.target, &fields)?;
-    }
     let mut fields: Vec<Vec<u8>> = vec![b"change".to_vec()];
     for Entry { target, id, had } in entries {
         let had: &[u8] = if *had { b"had" } else { b"none" };
-        fields.extend([
-            id.as_bytes().to_vec(),
-            had.to_vec(),
-            name_from(folder_of(first), target),
-        ]);
+        fields.extend([id.as_bytes().to_vec(), had.to_vec(), name_from(folder_of(first), target)]);
     }
-    put(first, &fields)?;
-    folders(entries).into_iter().try_for_each(names::sync_folder)
+    let notes = entries[1..].iter().try_for_each(|entry| {
+        let fields = [b"with".to_vec(), name_from(folder_of(&entry.target), first)];
+        put(&entry.target, &fields)?.sync_all()
+    });
+    let journal = notes.and_then(|()| put(first, &fields));
+    let journal = journal.map_err(|error| (error, false))?;
+    let synced = journal
+        .sync_all()
+        .and_then(|()| folders(entries).into_iter().try_for_each(names::sync_folder));
+    synced.map_err(|error| (error, true))
 }
 
 /// A name as it stands in a journal: where that is in the same folder, by its last part, so that the folder may be moved.
@@ -136,7 +136,7 @@ fn name_from(folder: &Path, full: &Path) -> Vec<u8> {
         .to_vec()
 }
 
-fn put(full: &Path, fields: &[Vec<u8>]) -> io::Result<()> {
+fn put(full: &Path, fields: &[Vec<u8>]) -> io::Result<File> {
     let mut text = BEGINS.as_bytes().to_vec();
     text.push(0);
     for field in fields {
@@ -147,7 +147,7 @@ fn put(full: &Path, fields: &[Vec<u8>]) -> io::Result<()> {
     text.extend_from_slice(digest.as_bytes());
     let mut file = File::create_new(journal_of(full))?;
     file.write_all(&text)?;
-    file.sync_all()
+    Ok(file)
 }
 
 /// Removes a journal, and then its notes: without it they say nothing.
