@@ -6,8 +6,8 @@ use std::os::fd::AsFd;
 use std::os::unix::fs::{FileTypeExt, MetadataExt};
 use std::path::{Path, PathBuf};
 
-use super::Failure;
 use super::progress::Progress;
+use super::{Failure, system};
 
 /// How many bytes are read at once.
 pub const PIECE_BYTES: usize = 1 << 16;
@@ -72,18 +72,18 @@ pub fn no_end() -> io::Error {
 
 /// Makes room for more, or says that there is none.
 pub fn reserve<T>(list: &mut Vec<T>, more: usize) -> io::Result<()> {
-    list.try_reserve(more).map_err(|_| no_memory())
+    system::trying(|| list.try_reserve(more)).map_err(|_| no_memory())
 }
 
 /// So many zeros, or that there is no room for them.
 pub fn zeros<T: Clone + Default>(length: usize) -> Result<Vec<T>, Failure> {
     let mut list = Vec::new();
-    list.try_reserve_exact(length).map_err(|_| Failure::Memory)?;
+    system::trying(|| list.try_reserve_exact(length)).map_err(|_| Failure::Memory)?;
     list.resize(length, T::default());
     Ok(list)
 }
 
-pub fn no_memory() -> io::Error {
+fn no_memory() -> io::Error {
     io::Error::new(io::ErrorKind::OutOfMemory, "there is not enough memory")
 }
 

@@ -43,6 +43,8 @@ use std::process::ExitCode;
 
 use keccak_tables::Refusal;
 
+pub use system::Memory;
+
 const HINT: &str = "`keccak-tables help` tells the commands";
 const JUDGE_HINT: &str = "`judge --help` tells more";
 
@@ -113,7 +115,6 @@ pub fn run_judge(arguments: &[OsString], streams: &mut Streams) -> u8 {
 /// Gives a run the arguments and streams of this process. Without a standard output nothing is begun.
 pub fn main(run: fn(&[OsString], &mut Streams) -> u8) -> ExitCode {
     let arguments: Vec<OsString> = std::env::args_os().skip(1).collect();
-    system::abort_is_status_2();
     if closed::output() {
         let _ = writeln!(io::stderr(), "standard output is closed");
         return ExitCode::from(2);

@@ -36,8 +36,7 @@ pub fn read(file: &mut File, path: &Path, parameters: Parameters) -> Result<Oper
     let records = unaligned::records(&sums);
     let words = records as usize * OP_WORDS;
     let mut list = Vec::new();
-    list.try_reserve_exact(words)
-        .map_err(|_| Failure::file(path)(files::no_memory()))?;
+    files::reserve(&mut list, words).map_err(Failure::file(path))?;
     let mut progress = Progress::new("operations read", records);
     let mut pieces = Pieces::of(file, path)?;
     while let Some(piece) = pieces.next()? {

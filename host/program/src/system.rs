@@ -1,5 +1,8 @@
-//! What the system is asked for beyond the standard library: signals held back, leaving at once, a name for a file that has none.
+//! What the system is asked for beyond the standard library: signals held back, leaving at once, a name for a file that has none, and memory, of
+//! which a want is told.
 
+use std::alloc::{GlobalAlloc, Layout, System};
+use std::cell::Cell;
 use std::ffi::CString;
 use std::io;
 use std::os::fd::AsRawFd;
@@ -13,15 +16,14 @@ struct Signals([u64; 16]);
 unsafe extern "C" {
     fn sigfillset(set: *mut Signals) -> i32;
     fn pthread_sigmask(how: i32, set: *const Signals, old: *mut Signals) -> i32;
-    fn signal(number: i32, handler: extern "C" fn(i32)) -> usize;
+    fn write(stream: i32, bytes: *const u8, length: usize) -> isize;
     fn linkat(from: i32, old: *const i8, to: i32, new: *const i8, flags: i32) -> i32;
     fn geteuid() -> u32;
     fn _exit(status: i32) -> !;
 }
 
-/// `SIG_BLOCK`, `SIGABRT`, `AT_FDCWD` and `AT_SYMLINK_FOLLOW` of the C library.
+/// `SIG_BLOCK`, `AT_FDCWD` and `AT_SYMLINK_FOLLOW` of the C library.
 const BLOCK: i32 = 0;
-const ABORT: i32 = 6;
 const HERE: i32 = -100;
 const FOLLOW: i32 = 0x400;
 
@@ -41,17 +43,6 @@ pub fn leave(status: u8) -> ! {
     unsafe { _exit(i32::from(status)) }
 }
 
-/// Where memory is short Rust says so in a line and aborts: then the status is 2, as of any other want.
-pub fn abort_is_status_2() {
-    extern "C" fn left(_: i32) {
-        leave(2);
-    }
-    // SAFETY: the handler does nothing but end the process, which a handler may.
-    unsafe {
-        signal(ABORT, left);
-    }
-}
-
 /// The user whose rights this process has.
 pub fn user() -> u32 {
     // SAFETY: it takes nothing and always answers.
@@ -67,4 +58,53 @@ pub fn name(file: &impl AsRawFd, path: &Path) -> io::Result<()> {
         0 => Ok(()),
         _ => Err(io::Error::last_os_error()),
     }
+}
+
+thread_local! {
+    /// Whether whoever asks for memory can be told that there is none.
+    static TRYING: Cell<bool> = const { Cell::new(false) };
+}
+
+/// Asks for memory where a want of it is an answer.
+pub fn trying<T>(ask: impl FnOnce() -> T) -> T {
+    TRYING.set(true);
+    let answer = ask();
+    TRYING.set(false);
+    answer
+}
+
+/// The system's memory. Where there is none, and nobody can be told (`trying`), a line says so and the status is 2, as of any other want.
+pub struct Memory;
+
+// SAFETY: every call is the system's own, with the same arguments; what is added ends the process.
+unsafe impl GlobalAlloc for Memory {
+    unsafe fn alloc(&self, layout: Layout) -> *mut u8 {
+        // SAFETY: as the caller's.
+        found(unsafe { System.alloc(layout) })
+    }
+
+    unsafe fn alloc_zeroed(&self, layout: Layout) -> *mut u8 {
+        // SAFETY: as the caller's.
+        found(unsafe { System.alloc_zeroed(layout) })
+    }
+
+    unsafe fn realloc(&self, memory: *mut u8, layout: Layout, size: usize) -> *mut u8 {
+        // SAFETY: as the caller's.
+        found(unsafe { System.realloc(memory, layout, size) })
+    }
+
+    unsafe fn dealloc(&self, memory: *mut u8, layout: Layout) {
+        // SAFETY: as the caller's.
+        unsafe { System.dealloc(memory, layout) };
+    }
+}
+
+fn found(memory: *mut u8) -> *mut u8 {
+    let line = "there is not enough memory\n";
+    if memory.is_null() && !TRYING.get() {
+        // SAFETY: the bytes are there, and whatever becomes of them the process ends.
+        unsafe { write(2, line.as_ptr(), line.len()) };
+        leave(2);
+    }
+    memory
 }

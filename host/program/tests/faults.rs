@@ -45,7 +45,7 @@ const ALL: &[(i32, bool)] = &[
 ];
 const FEW: &[(i32, bool)] = &[(EIO, false), (KILLED, false), (ENOSPC, true)];
 
-const WRITERS: [Writer; 6] = [
+const WRITERS: [Writer; 5] = [
     Writer {
         name: "write",
         arguments: &["write", "ops", "core", "round"],
@@ -66,13 +66,6 @@ const WRITERS: [Writer; 6] = [
         writes: &["svg"],
         reader: &[],
         errors: ALL,
-    },
-    Writer {
-        name: "charge",
-        arguments: &["charge", "ops", "counters"],
-        writes: &["counters", "counters.charged"],
-        reader: &["look", "ops", "counters"],
-        errors: FEW,
     },
     Writer {
         name: "register",
@@ -121,8 +114,13 @@ impl Place {
 
     /// Everything as before the first run.
     fn reset(&self) {
-        let _ = fs::remove_dir_all(self.folder.join("in"));
-        copy(&self.folder.join("before"), &self.folder.join("in"));
+        let (before, inside) = (self.folder.join("before"), self.folder.join("in"));
+        let _ = fs::remove_dir_all(&inside);
+        fs::create_dir_all(&inside).unwrap();
+        // No file is written in place, so second names are as good as copies.
+        for entry in fs::read_dir(before).unwrap().map(Result::unwrap) {
+            fs::hard_link(entry.path(), inside.join(entry.file_name())).unwrap();
+        }
         let _ = fs::remove_file(self.folder.join("hit"));
     }
 
@@ -133,32 +131,33 @@ impl Place {
 
     fn names(&self) -> BTreeSet<String> {
         let entries = fs::read_dir(self.folder.join("in")).unwrap();
-        entries.map(|entry| entry.unwrap().file_name().into_string().unwrap()).collect()
+        entries
+            .map(|entry| entry.unwrap().file_name().into_string().unwrap())
+            .collect()
     }
 }
 
-fn copy(from: &Path, to: &Path) {
-    fs::create_dir_all(to).unwrap();
-    for entry in fs::read_dir(from).unwrap() {
-        let entry = entry.unwrap();
-        fs::copy(entry.path(), to.join(entry.file_name())).unwrap();
-    }
-}
-
-/// A number that two contents share only where they are one.
+/// A number that two contents of these tests share only where they are one.
 fn content(path: &Path) -> Option<u64> {
-    use std::hash::{DefaultHasher, Hash, Hasher};
-    let mut hasher = DefaultHasher::new();
+    let mix = |sum: u64, word: u64| (sum.rotate_left(5) ^ word).wrapping_mul(0x9E37_79B9_7F4A_7C15);
     if path.is_dir() {
         let mut names: Vec<PathBuf> = fs::read_dir(path).unwrap().map(|entry| entry.unwrap().path()).collect();
         names.sort();
-        for name in names {
-            (name.file_name(), content(&name)).hash(&mut hasher);
-        }
-    } else {
-        fs::read(path).ok()?.hash(&mut hasher);
+        return Some(
+            names
+                .iter()
+                .filter_map(|name| content(name))
+                .fold(names.len() as u64, mix),
+        );
     }
-    Some(hasher.finish())
+    let bytes = fs::read(path).ok()?;
+    let (words, rest) = bytes.as_chunks();
+    let words = words.iter().map(|&word| u64::from_le_bytes(word));
+    Some(
+        words
+            .chain(rest.iter().map(|&byte| byte.into()))
+            .fold(bytes.len() as u64, mix),
+    )
 }
 
 fn records(count: u64, first: u64) -> Vec<u8> {
@@ -178,7 +177,11 @@ fn records(count: u64, first: u64) -> Vec<u8> {
 /// A folder in memory where there is one: what is tried is the order of calls, and no disk.
 fn place(writer: &Writer, library: &Path, has_old: bool) -> Place {
     let memory = Path::new("/dev/shm");
-    let root = if memory.is_dir() { memory.to_path_buf() } else { std::env::temp_dir() };
+    let root = if memory.is_dir() {
+        memory.to_path_buf()
+    } else {
+        std::env::temp_dir()
+    };
     let name = format!("keccak-tables-faults-{}-{has_old}-{}", writer.name, std::process::id());
     let folder = root.join(name);
     let before = folder.join("before");
@@ -225,18 +228,30 @@ struct Tried {
 fn try_fault(place: &Place, writer: &Writer, fault: Fault, tried: &mut Tried) -> bool {
     place.reset();
     let output = place.run(writer.arguments, Some(fault));
+    let said = String::from_utf8_lossy(&output.stderr).into_owned();
     if !place.folder.join("hit").exists() {
+        assert!(output.status.success(), "no fault, and {said}");
         return false;
     }
-    let said = String::from_utf8_lossy(&output.stderr).into_owned();
     let what = format!("{} {fault:?}, {:?}: {said}", writer.name, output.status.code());
     let raw = place.state(writer.writes);
-    let at = if raw == place.old { 0 } else if raw == place.new { 1 } else { 2 };
+    let at = if raw == place.old {
+        0
+    } else if raw == place.new {
+        1
+    } else {
+        2
+    };
     tried.states[at] += 1;
     tried.runs += 1;
     // The next run that comes upon it settles it. Nobody reads a picture: it has one name, and is old or new at once.
-    place.run(writer.reader, None);
-    let settled = if writer.reader.is_empty() { raw.clone() } else { place.state(writer.writes) };
+    let is_open = place.names().iter().any(|name| name.contains(".keccak-"));
+    let settled = if is_open && !writer.reader.is_empty() {
+        place.run(writer.reader, None);
+        place.state(writer.writes)
+    } else {
+        raw.clone()
+    };
     match output.status.code() {
         Some(0) => assert!(raw == place.new && settled == place.new, "{what}"),
         Some(2) if said.contains("run on these files finishes it") => {
@@ -277,7 +292,9 @@ fn library() -> Option<PathBuf> {
     let source = Path::new(env!("CARGO_MANIFEST_DIR")).join("tests/faults.c");
     let library = Path::new(env!("CARGO_TARGET_TMPDIR")).join(format!("faults-{}.so", std::process::id()));
     let mut cc = Command::new("cc");
-    cc.args(["-shared", "-fPIC", "-O1", "-Wall", "-Werror", "-o"]).args([&library, &source]).arg("-ldl");
+    cc.args(["-shared", "-fPIC", "-O1", "-Wall", "-Werror", "-o"])
+        .args([&library, &source])
+        .arg("-ldl");
     match cc.status() {
         Ok(status) => assert!(status.success()),
         Err(error) => {
@@ -324,7 +341,7 @@ fn a_fault_leaves_tables_and_messages_old_or_new() {
 
 #[test]
 fn a_fault_leaves_charges_made_or_not() {
-    tries(&["charge", "register"]);
+    tries(&["register"]);
 }
 
 #[test]

@@ -113,7 +113,11 @@ pub fn write(entries: &[Entry]) -> Result<(), (io::Error, bool)> {
     let mut fields: Vec<Vec<u8>> = vec![b"change".to_vec()];
     for Entry { target, id, had } in entries {
         let had: &[u8] = if *had { b"had" } else { b"none" };
-        fields.extend([id.as_bytes().to_vec(), had.to_vec(), name_from(folder_of(first), target)]);
+        fields.extend([
+            id.as_bytes().to_vec(),
+            had.to_vec(),
+            name_from(folder_of(first), target),
+        ]);
     }
     let notes = entries[1..].iter().try_for_each(|entry| {
         let fields = [b"with".to_vec(), name_from(folder_of(&entry.target), first)];
