@@ -1906,3 +1906,144 @@ fn every_command_has_its_help() {
         assert_eq!(ran(run, &arguments, &[]).0, 2);
     }
 }
+
+/// What is wrong is named: an option that is none, stands twice, lacks its value or stands behind a file; and the help of help.
+#[test]
+fn a_wrong_word_is_named() {
+    for (arguments, words) in [
+        (
+            &["judge", "--every", "core", "round"][..],
+            "judge: there is no option --every\n",
+        ),
+        (
+            &["judge", "--rounds", "x", "a", "b"],
+            "judge: behind --rounds stands `x`, which is no decimal below 2^64\n",
+        ),
+        (
+            &["judge", "--most", "3", "a", "b"],
+            "judge: --most is taken with --all alone\n",
+        ),
+        (
+            &["judge", "--all", "--most", "0", "a", "b"],
+            "judge: behind --most stands 0, and 1 is the least\n",
+        ),
+        (
+            &["judge", "a", "b", "--rounds", "12"],
+            "judge: --rounds stands behind a file, and options stand before the files\n",
+        ),
+        (
+            &["write", "--shipped", "a", "b", "c"],
+            "write: --shipped is taken with --all alone\n",
+        ),
+        (
+            &["charge", "--register", "1", "a", "b"],
+            "charge: --register and --ledgers are taken together\n",
+        ),
+        (&["look", "--again", "a", "b"], "look: there is no option --again\n"),
+        (&["tally", "--floor"], "tally: behind --floor a number is missing\n"),
+        (&["month", "--svg"], "month: behind --svg a file is missing\n"),
+        (
+            &["write", "--floor", "8", "--floor", "8", "a", "b", "c"],
+            "write: --floor stands twice\n",
+        ),
+        (
+            &["message", "page", "0x8", "0", "ops"],
+            "message: ADDRESS is `0x8`, which is no decimal below 2^64\n",
+        ),
+    ] {
+        let (status, output, errors) = ran(run, arguments, &[]);
+        assert_eq!((status, output.as_str()), (2, ""), "{arguments:?}");
+        assert!(errors.starts_with(words), "{arguments:?}: {errors}");
+    }
+    let help = ran(run, &["help"], &[]);
+    assert_eq!(ran(run, &["help", "--help"], &[]), help);
+    assert_eq!(ran(run, &["help", "help"], &[]), help);
+}
+
+/// A refused operation file is named, and the record: its mark, how much of it is there, or its address.
+#[test]
+fn a_refused_record_is_named() {
+    let folder = Folder::new("named");
+    let file = records(&operations(3));
+    let words = |bytes: &[u8]| {
+        let path = folder.put("ops", bytes);
+        let (status, _, errors) = ran(run, &["tally", &path], &[]);
+        assert_eq!(status, 1);
+        errors.strip_prefix(&path).unwrap().to_string()
+    };
+    assert_eq!(
+        words(&file[..500]),
+        ", record 1, from byte 418, is cut: 82 of its 418 bytes are there\n"
+    );
+    assert_eq!(
+        words(&file[..419]),
+        ", record 1, from byte 418, is cut: 1 of its 418 or 422 bytes are there\n"
+    );
+    let mut wrong = file.clone();
+    wrong[837] = 0x4E;
+    let mark = "has a wrong mark: it begins with 4B 4E, and not with 4B 4F or 4B 50\n";
+    assert_eq!(words(&wrong), format!(", record 2, from byte 836, {mark}"));
+    let mut marked = operations(3);
+    marked[SEGMENT_WORD] = 9;
+    let marked = records(&marked);
+    assert_eq!(
+        words(&marked[..421]),
+        ", record 0, from byte 0, is cut: 421 of its 422 bytes are there\n"
+    );
+    let mut high = marked.clone();
+    high[422 + 418 + 10..][..8].copy_from_slice(&u64::MAX.to_le_bytes());
+    assert!(
+        words(&high)
+            .starts_with(", record 2, from byte 840: the last of the 25 lanes from address 18446744073709551615 ")
+    );
+    let (_, _, errors) = ran(run, &["tally"], &file[..5]);
+    assert!(
+        errors.starts_with("standard input, record 0, from byte 0, is cut: 5 of"),
+        "{errors}"
+    );
+}
+
+/// The lines of `job` and `same`, every refusal, and a tuple that is fine.
+#[test]
+fn other_lines_are_explained() {
+    let text = |line: &str| ran(run, &["explain", line], &[]);
+    for (line, begins) in [
+        (
+            "segment 3: core row 0 value 51",
+            "Segment 3 of the job, rows counted from its first. core row 0: a constraint",
+        ),
+        (
+            "job: holds 3",
+            "The whole job, rows counted over all its segments. Both tables hold.",
+        ),
+        ("same", "The active rows of CORE are the records of OPS"),
+        ("record 7", "Record 7 of OPS, from 0, has no row"),
+        ("row 7", "Row 7 of CORE, from 0, is active"),
+        (
+            "refused 6 418",
+            "Refused by 6: the record of the operation file that starts at byte 418",
+        ),
+        ("refused 2 1", "Refused by 2: the round table"),
+    ] {
+        let (status, output, _) = text(line);
+        assert!(status == 0 && output.starts_with(begins), "{line}: {output}");
+        let parts = [&["explain"], &line.split(' ').collect::<Vec<_>>()[..]].concat();
+        assert_eq!(ran(run, &parts, &[]).1, output);
+    }
+    for number in 1..=14 {
+        assert_eq!(text(&format!("refused {number} 0")).0, 0, "{number}");
+    }
+    for wrong in [
+        "refused 15 0",
+        "refused 2 3",
+        "refused 1",
+        "segment 3 holds 1",
+        "job: holds",
+        "record x",
+    ] {
+        assert_eq!(text(wrong).0, 2, "{wrong}");
+    }
+    let fine = text("round row 7 lookup 654 ByteAlu 0 132 69 4").1;
+    let begins = "round row 7: the table that is looked up has this tuple, so no verdict names it.\n";
+    assert!(fine.starts_with(begins) && !fine.contains("and not"), "{fine}");
+}
