@@ -40,7 +40,7 @@ pub fn svg(parameters: Parameters, counts: &[u64], month: &Month) -> String {
 }
 
 /// The rows of a table of so many operations, as the call has them that the month was made by.
-fn fill_of(parameters: Parameters, count: u64) -> Fill {
+pub fn fill_of(parameters: Parameters, count: u64) -> Fill {
     let total = keccak_rnd::keccak_rnd_height_with(parameters, count as usize);
     Fill {
         used: count * parameters.rounds,
