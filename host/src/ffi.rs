@@ -151,6 +151,8 @@ impl FlatTally {
 macro_rules! bind {
     ($($name:ident = $symbol:ident ($($arguments:tt)*) -> $answer:ty;)*) => {
         $(
+            // As many as the archive's function has.
+            #[allow(clippy::too_many_arguments)]
             pub fn $name($($arguments)*) -> $answer {
                 bind!(@call $symbol $answer, [] [] $($arguments)*)
             }

@@ -1,5 +1,5 @@
 //! After a refusal every lent word is as it was: each call by each of its refusals, with drawn words in every slice, all of which have room but
-//! for what is refused. [`CALLS`] says what each call is lent; what makes it refuse follows from that, and what does not stands beside it.
+//! for what is refused. `CALLS` says what each call is lent; what makes it refuse follows from that, and what does not stands beside it.
 
 use keccak_tables::bitwise::{self, BitwiseOperation, BitwiseOperationType, NUM_COUNTERS};
 use keccak_tables::is_wh::{self, MAX_KEYS};
@@ -157,6 +157,9 @@ enum Change {
     Other(fn(&mut Given)),
 }
 
+/// A refusal's number, and what makes a call refuse by it.
+type Other = (u64, fn(&mut Given));
+
 /// A call's numbers, the slices and the bytes that it is lent.
 type Run = fn(&Given, [&mut [u64]; 5], &mut [u8]) -> Result<(), Refusal>;
 
@@ -168,7 +171,7 @@ struct Call {
     /// Whether it takes a number that can be past its end.
     numbered: bool,
     /// What else it refuses.
-    others: &'static [(u64, fn(&mut Given))],
+    others: &'static [Other],
     run: Run,
 }
 
@@ -197,7 +200,7 @@ impl Call {
         Self { bytes, ..self }
     }
 
-    const fn and(self, others: &'static [(u64, fn(&mut Given))]) -> Self {
+    const fn and(self, others: &'static [Other]) -> Self {
         Self { others, ..self }
     }
 
@@ -365,11 +368,11 @@ const WRONG_MARK: (u64, fn(&mut Given)) = (6, |given| {
     given.bytes[start] = 0;
 });
 /// A kind past the last.
-const WRONG_KIND: (u64, fn(&mut Given)) = (1, |given| given.slices[1][bitwise::LOOKUP_WORDS] = 10);
+const WRONG_KIND: Other = (1, |given| given.slices[1][bitwise::LOOKUP_WORDS] = 10);
 /// Whichever counter is charged, it is no element.
-const NO_COUNTERS: (u64, fn(&mut Given)) = (5, |given| given.slices[1].fill(P));
+const NO_COUNTERS: Other = (5, |given| given.slices[1].fill(P));
 /// A register that is not in use.
-const NO_REGISTER: (u64, fn(&mut Given)) = (10, |given| given.number = 2);
+const NO_REGISTER: Other = (10, |given| given.number = 2);
 
 /// A kind of lookup.
 const AND: BitwiseOperationType = BitwiseOperationType::ALL[7];

@@ -1,5 +1,5 @@
 //! The permutation of a state by itself: by every number of rounds against plain lanes, and by 24 against what the published round table sends
-//! and against a plain Keccak-f[1600].
+//! and against a plain `Keccak-f[1600]`.
 
 use keccak_tables::permutation::{self, LANES};
 use keccak_tables::{Operation, Parameters};
