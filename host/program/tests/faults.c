@@ -1,5 +1,5 @@
 /* Faults on purpose, for LD_PRELOAD: the FAULT_AT-th call that asks the system for something of a file fails with the error FAULT_ERROR, or,
-   where that is 0, the process is killed in its place; with FAULT_LASTING each later one fails too. The name of the first is appended to the
+   where that is 0, the process is killed in its place, or, where it is -N, waits N milliseconds there; with FAULT_LASTING each later one fails too. The name of the first is appended to the
    file FAULT_HIT. Of writes to one file one after the other the first two count; what is said on standard error is let through. */
 
 #define _GNU_SOURCE
@@ -43,6 +43,8 @@ static int fails(const char *name)
         told(name);
     if (!atoi(error))
         syscall(SYS_kill, getpid(), SIGKILL);
+    if (atoi(error) < 0)
+        return usleep(-1000 * atoi(error)), 0;
     errno = atoi(error);
     return 1;
 }

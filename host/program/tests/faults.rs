@@ -43,7 +43,7 @@ const ALL: &[(i32, bool)] = &[
     (EIO, true),
     (EOPNOTSUPP, true),
 ];
-const FEW: &[(i32, bool)] = &[(EIO, false), (KILLED, false), (ENOSPC, true)];
+const FEW: &[(i32, bool)] = &[(EIO, false), (KILLED, false)];
 
 const WRITERS: [Writer; 5] = [
     Writer {
@@ -174,6 +174,13 @@ fn records(count: u64, first: u64) -> Vec<u8> {
     file
 }
 
+/// What no other test has, of this process or another.
+fn unique() -> String {
+    use std::sync::atomic::{AtomicUsize, Ordering};
+    static GIVEN: AtomicUsize = AtomicUsize::new(0);
+    format!("{}-{}", std::process::id(), GIVEN.fetch_add(1, Ordering::Relaxed))
+}
+
 /// A folder in memory where there is one: what is tried is the order of calls, and no disk.
 fn place(writer: &Writer, library: &Path, has_old: bool) -> Place {
     let memory = Path::new("/dev/shm");
@@ -182,7 +189,7 @@ fn place(writer: &Writer, library: &Path, has_old: bool) -> Place {
     } else {
         std::env::temp_dir()
     };
-    let name = format!("keccak-tables-faults-{}-{has_old}-{}", writer.name, std::process::id());
+    let name = format!("keccak-tables-faults-{}", unique());
     let folder = root.join(name);
     let before = folder.join("before");
     fs::create_dir_all(&before).unwrap();
@@ -290,7 +297,7 @@ fn next_run(place: &Place, writer: &Writer, settled: &[Option<u64>], what: &str)
 
 fn library() -> Option<PathBuf> {
     let source = Path::new(env!("CARGO_MANIFEST_DIR")).join("tests/faults.c");
-    let library = Path::new(env!("CARGO_TARGET_TMPDIR")).join(format!("faults-{}.so", std::process::id()));
+    let library = Path::new(env!("CARGO_TARGET_TMPDIR")).join(format!("faults-{}.so", unique()));
     let mut cc = Command::new("cc");
     cc.args(["-shared", "-fPIC", "-O1", "-Wall", "-Werror", "-o"])
         .args([&library, &source])
@@ -347,4 +354,102 @@ fn a_fault_leaves_charges_made_or_not() {
 #[test]
 fn a_fault_leaves_a_folder_whole_or_none() {
     tries(&["all"]);
+}
+
+/// While a run waits at any of its calls, another writes the same names and a third reads them: the tables that are left are of one run, and
+/// those that are read too.
+#[test]
+fn tables_of_two_runs_at_once_are_those_of_one() {
+    let Some(library) = library() else {
+        return;
+    };
+    let writer = &WRITERS[0];
+    let place = place(writer, &library, true);
+    let second = ["write", "second", "core", "round"];
+    fs::write(place.folder.join("before/second"), records(2, 9)).unwrap();
+    let verdict = |place: &Place| place.run(writer.reader, None).stdout;
+    let run_alone = |arguments: &[&str]| {
+        place.reset();
+        place.run(arguments, None);
+        (place.state(writer.writes), verdict(&place))
+    };
+    let (one, other) = (run_alone(writer.arguments), run_alone(&second));
+    place.reset();
+    let old = verdict(&place);
+    for at in 1.. {
+        place.reset();
+        let fault = Fault {
+            at,
+            error: -150,
+            lasting: false,
+        };
+        let (waits, read) = std::thread::scope(|scope| {
+            let first = scope.spawn(|| place.run(writer.arguments, Some(fault)).status.success());
+            std::thread::sleep(std::time::Duration::from_millis(60));
+            let read = scope.spawn(|| verdict(&place));
+            assert!(place.run(&second, None).status.success(), "{at}");
+            assert!(first.join().unwrap(), "{at}");
+            (place.folder.join("hit").exists(), read.join().unwrap())
+        });
+        let left = place.state(writer.writes);
+        assert!(left == one.0 || left == other.0, "{at}: {left:?}");
+        assert!([&old, &one.1, &other.1].contains(&&read), "{at}: {read:?}");
+        if !waits {
+            break;
+        }
+    }
+    let _ = fs::remove_dir_all(&place.folder);
+}
+
+/// A change that a kill left open, and faults while it is ended: whoever comes then finds all old or all new, and the next run works.
+#[test]
+fn a_fault_while_a_change_is_ended_leaves_it_open() {
+    let Some(library) = library() else {
+        return;
+    };
+    let writer = &WRITERS[0];
+    let place = place(writer, &library, true);
+    let (mut open, mut runs) = (0, 0);
+    let is_open = |place: &Place| place.names().iter().any(|name| name.contains(".keccak-journal"));
+    let killed = |at| Fault {
+        at,
+        error: KILLED,
+        lasting: false,
+    };
+    for at in 1.. {
+        place.reset();
+        place.run(writer.arguments, Some(killed(at)));
+        if !place.folder.join("hit").exists() {
+            break;
+        }
+        if !is_open(&place) {
+            continue;
+        }
+        open += 1;
+        for (error, lasting) in [(EIO, false), (KILLED, false)] {
+            for within in 1.. {
+                place.reset();
+                place.run(writer.arguments, Some(killed(at)));
+                fs::remove_file(place.folder.join("hit")).unwrap();
+                let fault = Fault {
+                    at: within,
+                    error,
+                    lasting,
+                };
+                place.run(writer.reader, Some(fault));
+                place.run(writer.reader, None);
+                let settled = place.state(writer.writes);
+                let what = format!("{at}, then {fault:?}");
+                assert!(settled == place.old || settled == place.new, "{what}");
+                next_run(&place, writer, &settled, &what);
+                runs += 1;
+                if !place.folder.join("hit").exists() {
+                    break;
+                }
+            }
+        }
+    }
+    println!("write, killed: {open} open changes, {runs} runs that end them with a fault");
+    assert!(open > 2 && runs > 50);
+    let _ = fs::remove_dir_all(&place.folder);
 }

@@ -349,25 +349,6 @@ fn a_long_judgement_says_what_it_is_about() {
     );
 }
 
-/// Two runs at once into the same names: both tables are of one of them.
-#[test]
-fn tables_of_two_runs_at_once_are_those_of_one() {
-    let folder = Folder::new("two-at-once", 1);
-    let ops = fs::read(folder.0.join("ops")).unwrap();
-    fs::write(folder.0.join("other"), ops.repeat(40)).unwrap();
-    for trial in 0..40 {
-        let mut runs = ["ops", "other"].map(|ops| {
-            let mut run = folder.program(&["write", ops, "core", "round"]);
-            run.stdout(Stdio::null()).stderr(Stdio::null()).spawn().unwrap()
-        });
-        assert!(runs.iter_mut().all(|run| run.wait().unwrap().success()));
-        let rows = ["core", "round"].map(|name| fs::metadata(folder.0.join(name)).unwrap().len());
-        let [one, forty] = [(4 * 486 * 8, 32 * 1480 * 8), (64 * 486 * 8, 1024 * 1480 * 8)];
-        assert!([one, forty].contains(&(rows[0], rows[1])), "trial {trial}: {rows:?}");
-    }
-    assert_eq!(folder.names(), ["core", "ops", "other", "round"]);
-}
-
 /// A charge that is interrupted was made where its status is 0, and nowhere else; and it can be asked for again until it is.
 #[test]
 fn an_interrupted_charge_is_made_exactly_once() {
