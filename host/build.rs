@@ -31,7 +31,7 @@ fn main() {
         give_up("the archive is for Linux on x86-64, and can't be linked for another target");
     }
     let archive = match env::var_os(ARCHIVE) {
-        Some(path) => given(&here, Path::new(&path)),
+        Some(path) => given(&here, &from_caller(Path::new(&path))),
         None => proved(root),
     };
     // A copy, because the gate removes the repository's target/.
@@ -41,6 +41,21 @@ fn main() {
     }
     println!("cargo:rustc-link-search=native={}", out.display());
     println!("cargo:rustc-link-lib=static=keccak_tables");
+}
+
+/// A path that cargo's caller wrote, from the caller's folder on: that is cargo's own, while a build script runs in its package's.
+fn from_caller(path: &Path) -> PathBuf {
+    if path.is_absolute() {
+        return path.to_path_buf();
+    }
+    let cargo = format!("/proc/{}/cwd", std::os::unix::process::parent_id());
+    match fs::read_link(&cargo) {
+        Ok(folder) => folder.join(path),
+        Err(error) => give_up(&format!(
+            "{ARCHIVE} names {}, and the folder of cargo's caller is not known: {cargo}: {error}",
+            path.display()
+        )),
+    }
 }
 
 /// An archive that was built elsewhere. It has to be the one of these sources.

@@ -5,7 +5,26 @@
  *
  * A slice is a pointer, then a length: in words of 64 bits, or in bytes where the pointer is one to bytes. The pointer is not
  * NULL, even where the length is 0, and is aligned; a slice that is written overlaps no other slice of the call. That is all
- * that a caller has to keep; every number and every word is allowed, and the call answers:
+ * that a caller has to keep; every number and every word is allowed.
+ *
+ * A call answers a struct, whose third word is 1 where the answer is good and 0 anywhere else. So a refusal, a failure, and a struct
+ * that no call has filled and that is all zeros never read as good:
+ *
+ *   keccak_tables_judgement j = keccak_tables_verdict(24, core, core_length, round, round_length);
+ *   if (j.holds)
+ *       printf("both tables hold, of %" PRIu64 " active core rows\n", j.active);
+ *   else if (j.refusal)
+ *       printf("refused %" PRIu64 " %" PRIu64 "\n", j.refusal, j.detail);
+ *   else
+ *       printf("failure %" PRIu64 " in row %" PRIu64 "\n", j.kind, j.row);
+ *
+ *   if (j.holds)     of a verdict: both tables hold;
+ *   if (s.same)      of an operation file against a core table: both record the same calls;
+ *   if (m.yes)       of a list of operations against a message: it is the message's;
+ *   if (c.reading)   of a reader of an operation file: it has met no fault;
+ *   if (a.done)      of every other call: it did its work. Whether a job holds is said by the words of its report.
+ *
+ * Each struct begins with the refusal and its detail, 0 and 0 where the call is not refused:
  *
  *   refusal 0   it did its work: the slice begins with what is asked for, and the words past that are as they were;
  *   refusal N   it is refused, and every word is as it was. Unless said below, the checks are made in the order of their numbers,
@@ -127,22 +146,25 @@ extern "C" {
 #define KECCAK_TABLES_KIND_OR 8
 #define KECCAK_TABLES_KIND_XOR 9
 
-/* Kinds of verdict: 1 to 6 are failures, in the order in which they are looked for; and the two tables. */
-#define KECCAK_TABLES_VERDICT_HOLDS 0
+/*
+ * Kinds of verdict: 1 to 6 are failures, in the order in which they are looked for; and the two tables. A verdict that is refused has
+ * none. In the report on a job the first word of a verdict is one of 1 to 6, or KECCAK_TABLES_REPORT_HOLDS.
+ */
 #define KECCAK_TABLES_VERDICT_CORE_VALUE 1
 #define KECCAK_TABLES_VERDICT_CORE_LOOKUP 2
 #define KECCAK_TABLES_VERDICT_TIMESTAMP 3
 #define KECCAK_TABLES_VERDICT_ROUND_VALUE 4
 #define KECCAK_TABLES_VERDICT_ROUND_LOOKUP 5
 #define KECCAK_TABLES_VERDICT_BALANCE 6
-#define KECCAK_TABLES_VERDICT_REFUSED 7
+#define KECCAK_TABLES_VERDICT_HOLDS 7
+#define KECCAK_TABLES_REPORT_HOLDS 0
 #define KECCAK_TABLES_TABLE_CORE 0
 #define KECCAK_TABLES_TABLE_ROUND 1
 
-/* What is said of an operation file and a core table. */
-#define KECCAK_TABLES_AGREEMENT_SAME 0
+/* What is said of an operation file and a core table; nothing where it is refused. */
 #define KECCAK_TABLES_AGREEMENT_RECORD 1
 #define KECCAK_TABLES_AGREEMENT_ROW 2
+#define KECCAK_TABLES_AGREEMENT_SAME 3
 
 /* p = 2^64 - 2^32 + 1: a field element is a word below it. */
 #define KECCAK_TABLES_P 0xFFFFFFFF00000001
@@ -178,6 +200,9 @@ extern "C" {
 #define KECCAK_TABLES_MAX_REGISTERS 16
 #define KECCAK_TABLES_LEDGER_WORDS 10
 #define KECCAK_TABLES_REGISTER_LOOK_WORDS 30
+
+/* The lanes of a state. */
+#define KECCAK_TABLES_LANES 25
 
 /* Of a message: the bytes of a block, the most bytes, and the bytes of its digest. */
 #define KECCAK_TABLES_RATE 136
@@ -279,42 +304,50 @@ extern "C" {
  */
 #define KECCAK_TABLES_SCRATCH_WORDS 2
 
+/*
+ * The answers. Where a call is refused, all words behind `refusal` and `detail` are 0.
+ */
+
 /* The answer of a call that only writes. */
 typedef struct keccak_tables_answer {
     uint64_t refusal;
     uint64_t detail;
+    uint64_t done;
 } keccak_tables_answer;
 
-/* The answer of a call that gives a number, 0 where it is refused. */
+/* The answer of a call that gives a number. */
 typedef struct keccak_tables_number {
     uint64_t refusal;
     uint64_t detail;
+    uint64_t done;
     uint64_t value;
 } keccak_tables_number;
 
-/*
- * The answer of a call that gives a tuple: bus, side, the number of its values, which are in the lent slice, and how often. Where it
- * is refused, these four are 0.
- */
+/* The answer of a call that gives a tuple: bus, side, the number of its values, which are in the lent slice, and how often. */
 typedef struct keccak_tables_tuple {
     uint64_t refusal;
     uint64_t detail;
+    uint64_t done;
     uint64_t bus;
     uint64_t side;
     uint64_t length;
     uint64_t multiplicity;
 } keccak_tables_tuple;
 
-/* A key: bits 32 to 63 of a pointer, and bits 16 to 31. */
+/* A key: bits 32 to 63 of a pointer, and bits 16 to 31. It is never refused. */
 typedef struct keccak_tables_key {
+    uint64_t refusal;
+    uint64_t detail;
+    uint64_t done;
     uint64_t word;
     uint64_t half;
 } keccak_tables_key;
 
-/* The answer of a call that gives a lookup: the four words of it in a list, 0 where it is refused. */
+/* The answer of a call that gives a lookup: the four words of it in a list. */
 typedef struct keccak_tables_lookup {
     uint64_t refusal;
     uint64_t detail;
+    uint64_t done;
     uint64_t kind;
     uint64_t x;
     uint64_t y;
@@ -322,44 +355,50 @@ typedef struct keccak_tables_lookup {
 } keccak_tables_lookup;
 
 /*
- * A verdict. Where both tables hold: `active`, the number of active core rows. Of a failure: `table`, `row` and `index`, all from 0,
- * the index being that of the value or tuple, and 0 of a timestamp that an earlier active core row has. Where it is refused:
- * `refusal` and `detail`. What a kind does not have is 0.
+ * A verdict. `holds` is 1 where both tables hold, and `active` is then the number of active core rows. `kind` is one of
+ * KECCAK_TABLES_VERDICT_..; of a failure `table`, `row` and `index` say where it is, all from 0, the index being that of the value or
+ * tuple, and 0 of a timestamp that an earlier active core row has. What a verdict does not have is 0.
  */
 typedef struct keccak_tables_judgement {
+    uint64_t refusal;
+    uint64_t detail;
+    uint64_t holds;
+    uint64_t active;
     uint64_t kind;
-    union {
-        uint64_t active;
-        uint64_t table;
-        uint64_t refusal;
-    };
-    union {
-        uint64_t row;
-        uint64_t detail;
-    };
+    uint64_t table;
+    uint64_t row;
     uint64_t index;
 } keccak_tables_judgement;
 
 /*
- * The answer of a file against a core table: a kind, KECCAK_TABLES_AGREEMENT_.., and the number, from 0, of the record in the file or of the
- * row in the table. The place is 0 where both are the same; where it is refused, kind and place are 0.
+ * The answer of a file against a core table: `same` is 1 where both record the same calls; a kind, KECCAK_TABLES_AGREEMENT_..; and the
+ * number, from 0, of the record in the file or of the row in the table, 0 where both are the same.
  */
 typedef struct keccak_tables_agreement {
     uint64_t refusal;
     uint64_t detail;
+    uint64_t same;
     uint64_t kind;
     uint64_t place;
 } keccak_tables_agreement;
 
+/* The answer of a list of operations against a message: 1 yes, 0 no. */
+typedef struct keccak_tables_reply {
+    uint64_t refusal;
+    uint64_t detail;
+    uint64_t yes;
+} keccak_tables_reply;
+
 /*
- * Where a reader of an operation file stands: refusal and detail of the first fault, or 0 and 0 and then the whole records at
- * multiples of 8, the bytes of the next one, what its address bytes so far make, the whole records at other addresses, where the next one
- * starts, the second byte of its mark, what the bytes of its segment number so far make, and of the records at multiples of 8 whether one has a
- * segment number, the least and the greatest. Hand it from call to call as it is.
+ * Where a reader of an operation file stands: refusal and detail of the first fault; or `reading` 1 while there is none, and then the whole
+ * records at multiples of 8, the bytes of the next one, what its address bytes so far make, the whole records at other addresses, where the
+ * next one starts, the second byte of its mark, what the bytes of its segment number so far make, and of the records at multiples of 8
+ * whether one has a segment number, the least and the greatest. Hand it from call to call as it is.
  */
 typedef struct keccak_tables_cursor {
     uint64_t refusal;
     uint64_t detail;
+    uint64_t reading;
     uint64_t records;
     size_t at;
     uint64_t address;
@@ -380,6 +419,7 @@ typedef struct keccak_tables_cursor {
 typedef struct keccak_tables_sums {
     uint64_t refusal;
     uint64_t detail;
+    uint64_t done;
     uint64_t ops;
     uint64_t core_rows;
     uint64_t round_rows;
@@ -698,6 +738,15 @@ keccak_tables_answer keccak_tables_register_look(uint64_t nr, uint64_t floor, bo
                                                  size_t counters_length, const uint64_t *ledgers, size_t ledgers_length,
                                                  uint64_t *copy, size_t copy_length, uint64_t *out, size_t out_length);
 
+/* ---- the permutation by itself ---- */
+
+/*
+ * Keccak-p[1600, nr] of FIPS 202 of a state, Keccak-f[1600] where nr is 24: the first 25 words of `state` are its lanes, lane (x, y) at
+ * x + 5y, and are then the lanes after the rounds 24 - nr to 23. 8 nr; 3 state < 25.
+ */
+KECCAK_TABLES_MUST_USE
+keccak_tables_answer keccak_tables_keccak_f(uint64_t nr, uint64_t *state, size_t state_length);
+
 /* ---- from message to operations ---- */
 
 /*
@@ -712,12 +761,12 @@ keccak_tables_number keccak_tables_message_operations(const uint8_t *message, si
 
 /*
  * Whether a list of operations is the one that is written for a message at the list's own first address and from its first timestamp
- * on: 1 yes, 0 no. An empty list is not, and none whose timestamps would pass 2^64 - 1. 1 more than 89,478,485 operations; 12 the
+ * on. An empty list is not, and none whose timestamps would pass 2^64 - 1. 1 more than 89,478,485 operations; 12 the
  * message; 2 the list; 4, 7 an address; 11 a segment word.
  */
 KECCAK_TABLES_MUST_USE
-keccak_tables_number keccak_tables_judge_message(const uint8_t *message, size_t message_length, const uint64_t *ops,
-                                                 size_t ops_length);
+keccak_tables_reply keccak_tables_judge_message(const uint8_t *message, size_t message_length, const uint64_t *ops,
+                                                size_t ops_length);
 
 /* ---- the month in whole numbers ---- */
 
@@ -778,9 +827,10 @@ keccak_tables_number keccak_tables_verdict_line_within(uint64_t nr, const uint64
  * Judges each segment of a job, and then the job: `core` and `round` have all rows of its segments, one segment after the other, `counts`
  * the two row counts of each segment. `report` then begins with four words for each segment in order, and four for the job: 0, the count
  * of active core rows, 0, 0; or the failure's kind, 1 to 6 of KECCAK_TABLES_VERDICT_.., its table, row and index, counted from the first
- * row of what was judged. A job of no segments has no rows. A job can hold while a segment fails: where a round row stands with the wrong
- * one. 8 nr; 2 core, then round, is not whole rows, then counts that are no pairs, or whose sums, as whole numbers, are not the rows of
- * both tables; 3 report < 4 (segments + 1); 5 a word of core, then of round.
+ * row of what was judged. Read it only where the answer is `done`, since a verdict of zeros holds. A job of no segments has no rows. A job
+ * can hold while a segment fails: where a round row stands with the wrong one. 8 nr; 2 core, then round, is not whole rows, then counts
+ * that are no pairs, or whose sums, as whole numbers, are not the rows of both tables; 3 report < 4 (segments + 1); 5 a word of core, then
+ * of round.
  */
 KECCAK_TABLES_MUST_USE
 keccak_tables_answer keccak_tables_job(uint64_t nr, const uint64_t *core, size_t core_length, const uint64_t *round,
@@ -811,8 +861,9 @@ keccak_tables_cursor keccak_tables_tally_start(void);
 /*
  * Reads the next piece of the file, cut anywhere; a fault stays what it is. 1 a byte after record 89,478,485; 4 a record's
  * address, told when all bytes of the record are read; 6 a wrong mark, told at its first wrong byte. No file gives 7: a record at an address
- * that is no multiple of 8 is counted apart; nor 8 to 14. A cursor that a caller made up is answered by the refusal that it names, a number
- * that no refusal has counts as 6; one that stands past the most bytes of a file, 422 times 89,478,485, gets 1.
+ * that is no multiple of 8 is counted apart; nor 8 to 14. A cursor that a caller made up is answered, unless its `reading` is 1, by the
+ * refusal that it names, where a number that no refusal has counts as 6; so is one of zeros. One that stands past the most bytes of a file,
+ * 422 times 89,478,485, gets 1.
  */
 KECCAK_TABLES_MUST_USE
 keccak_tables_cursor keccak_tables_tally_feed(keccak_tables_cursor cursor, const uint8_t *bytes, size_t bytes_length);

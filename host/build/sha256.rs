@@ -1,4 +1,4 @@
-//! SHA-256, FIPS 180-4, for the build script, which has no dependency. Nothing of the tables rests on it.
+//! SHA-256, FIPS 180-4, for the build script and the program's records, which have no dependency. Nothing of the tables rests on it.
 
 /// The first 32 bits of the fractional parts of the cube roots of the first 64 primes.
 const ROUNDS: [u32; 64] = [
@@ -14,15 +14,58 @@ const ROUNDS: [u32; 64] = [
 
 /// The digest of some bytes, as 64 hexadecimal digits.
 pub fn hex(bytes: &[u8]) -> String {
-    let mut state: [u32; 8] = [
-        0x6a09e667, 0xbb67ae85, 0x3c6ef372, 0xa54ff53a, 0x510e527f, 0x9b05688c, 0x1f83d9ab, 0x5be0cd19,
-    ];
-    let mut padded = bytes.to_vec();
-    padded.push(0x80);
-    padded.resize((padded.len() + 8).next_multiple_of(64) - 8, 0);
-    padded.extend((8 * bytes.len() as u64).to_be_bytes());
-    padded.chunks_exact(64).for_each(|block| compress(&mut state, block));
-    state.iter().map(|word| format!("{word:08x}")).collect()
+    let mut digest = Sha256::new();
+    digest.add(bytes);
+    digest.hex()
+}
+
+/// A digest of bytes that come one piece after the other.
+pub struct Sha256 {
+    state: [u32; 8],
+    /// What is no whole block yet.
+    held: Vec<u8>,
+    bytes: u64,
+}
+
+impl Sha256 {
+    pub const fn new() -> Self {
+        Self {
+            state: [
+                0x6a09e667, 0xbb67ae85, 0x3c6ef372, 0xa54ff53a, 0x510e527f, 0x9b05688c, 0x1f83d9ab, 0x5be0cd19,
+            ],
+            held: Vec::new(),
+            bytes: 0,
+        }
+    }
+
+    pub fn add(&mut self, mut bytes: &[u8]) {
+        self.bytes += bytes.len() as u64;
+        if !self.held.is_empty() {
+            let more = bytes.len().min(64 - self.held.len());
+            self.held.extend_from_slice(&bytes[..more]);
+            bytes = &bytes[more..];
+            if self.held.len() < 64 {
+                return;
+            }
+            compress(&mut self.state, &self.held);
+            self.held.clear();
+        }
+        let blocks = bytes.chunks_exact(64);
+        self.held.extend_from_slice(blocks.remainder());
+        blocks.for_each(|block| compress(&mut self.state, block));
+    }
+
+    /// The digest, as 64 hexadecimal digits.
+    pub fn hex(mut self) -> String {
+        let bits = 8 * self.bytes;
+        self.held.push(0x80);
+        self.held.resize((self.held.len() + 8).next_multiple_of(64) - 8, 0);
+        self.held.extend(bits.to_be_bytes());
+        self.held
+            .chunks_exact(64)
+            .for_each(|block| compress(&mut self.state, block));
+        self.state.iter().map(|word| format!("{word:08x}")).collect()
+    }
 }
 
 fn compress(state: &mut [u32; 8], block: &[u8]) {

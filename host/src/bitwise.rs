@@ -198,7 +198,7 @@ impl BitwiseOperation {
 
     /// The answer of a call of which that argument alone can be past its end: every kind has a number below 10.
     fn from_flat(flat: ffi::FlatLookup, argument: &'static str) -> Result<Self, Refusal> {
-        Refusal::from_flat(flat.number, flat.detail, |_, _| argument).map(|()| Self {
+        Refusal::unless_done(flat.done, flat.refusal, flat.detail, |_, _| argument).map(|()| Self {
             lookup_type: BitwiseOperationType::ALL[flat.kind as usize],
             x: flat.x as u8,
             y: flat.y as u8,

@@ -5,42 +5,44 @@
 
 use crate::operation_file::Sums;
 use crate::refusal::Refusal;
-use crate::same_operations::{self, Agreement};
 
 /// The answer of a call that only writes.
 #[repr(C)]
 pub struct FlatAnswer {
-    number: u64,
+    refusal: u64,
     detail: u64,
+    done: u64,
 }
 
 impl FlatAnswer {
     /// Nothing, or the refusal; `name` says its argument (`Refusal::from_flat`).
     pub fn named(self, name: impl FnOnce(u64, u64) -> &'static str) -> Result<(), Refusal> {
-        Refusal::from_flat(self.number, self.detail, name)
+        Refusal::unless_done(self.done, self.refusal, self.detail, name)
     }
 }
 
 /// The answer of a call that gives a number.
 #[repr(C)]
 pub struct FlatNumber {
-    number: u64,
+    refusal: u64,
     detail: u64,
+    done: u64,
     value: u64,
 }
 
 impl FlatNumber {
     /// The number, or the refusal.
     pub fn named(self, name: impl FnOnce(u64, u64) -> &'static str) -> Result<u64, Refusal> {
-        Refusal::from_flat(self.number, self.detail, name).map(|()| self.value)
+        Refusal::unless_done(self.done, self.refusal, self.detail, name).map(|()| self.value)
     }
 }
 
 /// The answer of a call that gives a tuple.
 #[repr(C)]
 pub struct FlatTuple {
-    pub number: u64,
+    pub refusal: u64,
     pub detail: u64,
+    pub done: u64,
     pub bus: u64,
     pub side: u64,
     pub length: u64,
@@ -50,43 +52,59 @@ pub struct FlatTuple {
 /// The answer of a call that gives a lookup.
 #[repr(C)]
 pub struct FlatLookup {
-    pub number: u64,
+    pub refusal: u64,
     pub detail: u64,
+    pub done: u64,
     pub kind: u64,
     pub x: u64,
     pub y: u64,
     pub z: u64,
 }
 
-/// A verdict: its kind, then three words as the kind has them.
+/// A verdict.
 #[repr(C)]
 pub struct FlatVerdict {
+    pub refusal: u64,
+    pub detail: u64,
+    pub holds: u64,
+    pub active: u64,
     pub kind: u64,
-    pub first: u64,
-    pub second: u64,
-    pub third: u64,
+    pub table: u64,
+    pub row: u64,
+    pub index: u64,
 }
 
 /// The answer of a file against a core table.
 #[repr(C)]
 pub struct FlatAgreement {
-    number: u64,
-    detail: u64,
-    kind: u64,
-    place: u64,
+    pub refusal: u64,
+    pub detail: u64,
+    pub same: u64,
+    pub kind: u64,
+    pub place: u64,
 }
 
-impl FlatAgreement {
-    /// What is said of both, or the refusal.
-    pub fn named(self, name: impl FnOnce(u64, u64) -> &'static str) -> Result<Agreement, Refusal> {
-        Refusal::from_flat(self.number, self.detail, name)?;
-        Ok(same_operations::from_words(self.kind, self.place))
+/// The answer of a list of operations against a message.
+#[repr(C)]
+pub struct FlatReply {
+    refusal: u64,
+    detail: u64,
+    yes: u64,
+}
+
+impl FlatReply {
+    /// Whether it is the message's, or the refusal.
+    pub fn named(self, name: impl FnOnce(u64, u64) -> &'static str) -> Result<bool, Refusal> {
+        Refusal::from_flat(self.refusal, self.detail, name).map(|()| self.yes == 1)
     }
 }
 
 /// A key, which is never refused.
 #[repr(C)]
 pub struct FlatKey {
+    refusal: u64,
+    detail: u64,
+    done: u64,
     pub word: u64,
     pub half: u64,
 }
@@ -95,8 +113,9 @@ pub struct FlatKey {
 #[repr(C)]
 #[derive(Debug, Clone, Copy)]
 pub struct FlatCursor {
-    pub number: u64,
+    pub refusal: u64,
     pub detail: u64,
+    pub reading: u64,
     records: u64,
     at: usize,
     address: u64,
@@ -112,15 +131,16 @@ pub struct FlatCursor {
 /// What a reader says at the end of its file.
 #[repr(C)]
 pub struct FlatTally {
-    number: u64,
+    refusal: u64,
     detail: u64,
+    done: u64,
     sums: Sums,
 }
 
 impl FlatTally {
     /// The sums, or the refusal.
     pub fn named(self, name: impl FnOnce(u64, u64) -> &'static str) -> Result<Sums, Refusal> {
-        Refusal::from_flat(self.number, self.detail, name).map(|()| self.sums)
+        Refusal::unless_done(self.done, self.refusal, self.detail, name).map(|()| self.sums)
     }
 }
 
@@ -131,6 +151,8 @@ impl FlatTally {
 macro_rules! bind {
     ($($name:ident = $symbol:ident ($($arguments:tt)*) -> $answer:ty;)*) => {
         $(
+            // As many as the archive's function has.
+            #[allow(clippy::too_many_arguments)]
             pub fn $name($($arguments)*) -> $answer {
                 bind!(@call $symbol $answer, [] [] $($arguments)*)
             }
@@ -246,9 +268,11 @@ bind! {
 
     month = keccak_tables_month(nr: u64, floor: u64, counts: &[u64], out: &mut [u64]) -> FlatAnswer;
 
+    keccak_f = keccak_tables_keccak_f(nr: u64, state: &mut [u64]) -> FlatAnswer;
+
     message_operations = keccak_tables_message_operations(
         message: &[u8], address: u64, timestamp: u64, ops: &mut [u64]) -> FlatNumber;
-    judge_message = keccak_tables_judge_message(message: &[u8], ops: &[u64]) -> FlatNumber;
+    judge_message = keccak_tables_judge_message(message: &[u8], ops: &[u64]) -> FlatReply;
 
     verdict = keccak_tables_verdict(nr: u64, core: &[u64], round: &[u64]) -> FlatVerdict;
     verdict_line =

@@ -31,7 +31,7 @@ pub const NUM_TUPLES: usize = 5;
 /// The words of a row of the list that [`dedup_is_wh_rows`] writes: the key's word and half, then how often.
 pub const ROW_WORDS: usize = 3;
 
-/// The most keys in one list, and the most rows: 25 for each of [`MAX_OPS`](crate::MAX_OPS) operations.
+/// The most keys in one list, and the most rows: 25 for each of [`MAX_OPS`] operations.
 pub const MAX_KEYS: usize = 25 * MAX_OPS;
 
 /// The most that a row counts, 2^20 - 1; a key that is sent more often has several rows.

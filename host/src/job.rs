@@ -179,13 +179,13 @@ impl Report {
     /// The verdicts on the segments, in order.
     pub fn segments(&self) -> impl ExactSizeIterator<Item = Verdict> + DoubleEndedIterator + Clone {
         let verdicts = self.words.as_chunks::<VERDICT_WORDS>().0;
-        verdicts[..verdicts.len() - 1].iter().map(|&words| read(words))
+        verdicts[..verdicts.len() - 1].iter().map(|&words| from_words(words))
     }
 
     /// The verdict on the job.
     pub fn job(&self) -> Verdict {
         let last = self.words.last_chunk().expect("a report ends with the job's words");
-        read(*last)
+        from_words(*last)
     }
 
     /// Whether every segment holds, and the job.
@@ -199,9 +199,4 @@ impl Report {
     pub fn words(&self) -> &[u64] {
         &self.words
     }
-}
-
-/// The verdict of four words of a report, none of which is a refusal.
-fn read(words: [u64; VERDICT_WORDS]) -> Verdict {
-    from_words(words).expect("a report has no refusal")
 }

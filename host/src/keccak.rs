@@ -66,7 +66,7 @@ pub const LAST_ADDRESS: u64 = u64::MAX - 192;
 ///
 /// # Errors
 ///
-/// [`PastEnd`](Refusal::PastEnd): more than [`MAX_OPS`](crate::MAX_OPS) operations, then `index` is not below their
+/// [`PastEnd`](Refusal::PastEnd): more than [`MAX_OPS`] operations, then `index` is not below their
 /// number; [`NotWhole`](Refusal::NotWhole): `ops` is not whole operations; [`TooShort`](Refusal::TooShort): `row` has
 /// fewer than 486 words; [`HighAddress`](Refusal::HighAddress): an operation's address is above
 /// [`LAST_ADDRESS`], in any operation of the list; [`Unaligned`](Refusal::Unaligned): one is no multiple of 8;
@@ -83,7 +83,7 @@ pub fn keccak_row(ops: &[u64], index: usize, row: &mut [u64]) -> Result<(), Refu
 ///
 /// # Errors
 ///
-/// [`PastEnd`](Refusal::PastEnd): more than [`MAX_OPS`](crate::MAX_OPS) operations; [`NotWhole`](Refusal::NotWhole):
+/// [`PastEnd`](Refusal::PastEnd): more than [`MAX_OPS`] operations; [`NotWhole`](Refusal::NotWhole):
 /// `ops` is not whole operations; [`TooShort`](Refusal::TooShort): `table` has fewer than 486 words for each row of
 /// [`keccak_height`]; [`HighAddress`](Refusal::HighAddress): an operation's address is above
 /// [`LAST_ADDRESS`]; [`Unaligned`](Refusal::Unaligned): one is no multiple of 8;
@@ -132,7 +132,7 @@ pub(crate) fn of_list(number: u64, _: u64) -> &'static str {
 ///
 /// # Errors
 ///
-/// [`PastEnd`](Refusal::PastEnd): more than [`MAX_OPS`](crate::MAX_OPS) operations; [`NotWhole`](Refusal::NotWhole):
+/// [`PastEnd`](Refusal::PastEnd): more than [`MAX_OPS`] operations; [`NotWhole`](Refusal::NotWhole):
 /// `ops` is not whole operations; [`TooShort`](Refusal::TooShort): `table` has fewer than 486 words for each operation;
 /// [`HighAddress`](Refusal::HighAddress): an operation's address is above
 /// [`LAST_ADDRESS`]; [`Unaligned`](Refusal::Unaligned): one is no multiple of 8;
@@ -145,7 +145,7 @@ pub fn keccak_rows(ops: &[u64], table: &mut [u64]) -> Result<(), Refusal> {
 ///
 /// # Errors
 ///
-/// [`PastEnd`](Refusal::PastEnd): more than [`MAX_OPS`](crate::MAX_OPS) operations; [`NotWhole`](Refusal::NotWhole):
+/// [`PastEnd`](Refusal::PastEnd): more than [`MAX_OPS`] operations; [`NotWhole`](Refusal::NotWhole):
 /// `ops` is not whole operations; [`HighAddress`](Refusal::HighAddress): an operation's address is above
 /// [`LAST_ADDRESS`]; [`Unaligned`](Refusal::Unaligned): one is no multiple of 8;
 /// [`Segment`](Refusal::Segment): a segment word is 2^32 or more.
@@ -195,7 +195,7 @@ fn pad(rows: &mut [u64]) -> Result<(), Refusal> {
 ///
 /// # Errors
 ///
-/// [`PastEnd`](Refusal::PastEnd): more than [`MAX_OPS`](crate::MAX_OPS) operations; [`NotWhole`](Refusal::NotWhole):
+/// [`PastEnd`](Refusal::PastEnd): more than [`MAX_OPS`] operations; [`NotWhole`](Refusal::NotWhole):
 /// `ops` is not whole operations; [`TooShort`](Refusal::TooShort): `out` has fewer than 50 words for each operation;
 /// [`HighAddress`](Refusal::HighAddress): an operation's address is above
 /// [`LAST_ADDRESS`]; [`Unaligned`](Refusal::Unaligned): one is no multiple of 8;
@@ -211,7 +211,7 @@ pub fn is_wh_keys(ops: &[u64], out: &mut [u64]) -> Result<(), Refusal> {
 ///
 /// # Errors
 ///
-/// [`PastEnd`](Refusal::PastEnd): `n` is more than [`MAX_OPS`](crate::MAX_OPS).
+/// [`PastEnd`](Refusal::PastEnd): `n` is more than [`MAX_OPS`].
 pub fn keccak_height(n: usize) -> Result<usize, Refusal> {
     keccak_height_with(Parameters::default(), n)
 }

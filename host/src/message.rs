@@ -63,8 +63,7 @@ pub fn message_operations(message: &[u8], address: u64, timestamp: u64, ops: &mu
 /// operation's address is above [`LAST_ADDRESS`](crate::keccak::LAST_ADDRESS); [`Unaligned`](Refusal::Unaligned): one is no multiple of 8;
 /// [`Segment`](Refusal::Segment): a segment word is 2^32 or more.
 pub fn judge_message(message: &[u8], ops: &[u64]) -> Result<bool, Refusal> {
-    let answer = ffi::judge_message(message, ops).named(|_, _| "ops")?;
-    Ok(answer == 1)
+    ffi::judge_message(message, ops).named(|_, _| "ops")
 }
 
 /// The SHA3-256 of a message, with the operations that compute it, in memory of its own. As text, 64 hexadecimal digits in lower case.

@@ -171,7 +171,7 @@ impl Tally {
     /// The first fault so far. Reading on does not change it.
     #[must_use]
     pub fn fault(&self) -> Option<Refusal> {
-        Refusal::from_flat(self.0.number, self.0.detail, |_, _| "bytes").err()
+        Refusal::from_flat(self.0.refusal, self.0.detail, |_, _| "bytes").err()
     }
 
     /// What the whole file says, now that it has ended, where the tables of an empty one are not shipped: its sums are 0.

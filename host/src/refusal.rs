@@ -173,7 +173,27 @@ impl Refusal {
         }
     }
 
-    /// What a flat answer says: nothing where the call did its work, by number 0.
+    /// What a flat answer says: nothing where it is done.
+    ///
+    /// # Panics
+    ///
+    /// Where it is neither done nor refused, as words of zeros are: no call answers that.
+    pub(crate) fn unless_done(
+        done: u64,
+        number: u64,
+        detail: u64,
+        name: impl FnOnce(u64, u64) -> &'static str,
+    ) -> Result<(), Self> {
+        let answer = Self::from_flat(number, detail, name);
+        assert_eq!(
+            answer.is_ok(),
+            done == 1,
+            "an answer is done exactly where it is not refused"
+        );
+        answer
+    }
+
+    /// The refusal of a number and a detail, or nothing by number 0.
     ///
     /// Of a refusal `name` says the argument, by its number and detail. Where several arguments of a call can have one number, it makes
     /// the call's checks of that number again, in their order, up to the last, which is what is left.

@@ -29,7 +29,7 @@
 
 use std::fmt;
 
-use crate::ffi;
+use crate::ffi::{self, FlatAgreement};
 use crate::refusal::{NOT_ELEMENT, NOT_WHOLE, Refusal};
 
 /// What is said of a file and a table. As text, what the command `same` prints: `same`, `record I` or `row R`.
@@ -74,21 +74,26 @@ impl fmt::Display for Agreement {
 /// 89,478,485; [`BadRecord`](Refusal::BadRecord): a wrong mark or a cut record; [`HighAddress`](Refusal::HighAddress): an address above
 /// [`LAST_ADDRESS`](crate::keccak::LAST_ADDRESS). Never [`Unaligned`](Refusal::Unaligned).
 pub fn same_operations(core: &[u64], file: &[u8]) -> Result<Agreement, Refusal> {
-    ffi::same_operations(core, file).named(|number, _| match number {
+    from_flat(&ffi::same_operations(core, file))
+}
+
+/// What was said of a table and a file.
+fn from_flat(flat: &FlatAgreement) -> Result<Agreement, Refusal> {
+    Refusal::from_flat(flat.refusal, flat.detail, |number, _| match number {
         NOT_WHOLE | NOT_ELEMENT => "core",
         _ => "file",
+    })?;
+    Ok(match (flat.same, flat.kind) {
+        (1, _) => Agreement::Same,
+        (_, RECORD) => Agreement::Record(flat.place),
+        (_, ROW) => Agreement::Row(flat.place),
+        (same, kind) => unreachable!("the definition of the agreement has no kind {kind} where same is {same}"),
     })
 }
 
-/// The answer of a kind and a place that are no refusal.
-pub(crate) fn from_words(kind: u64, place: u64) -> Agreement {
-    match kind {
-        0 => Agreement::Same,
-        1 => Agreement::Record(place),
-        2 => Agreement::Row(place),
-        _ => unreachable!("the definition of the agreement has no kind {kind}"),
-    }
-}
+// The kinds of what is not the same.
+const RECORD: u64 = 1;
+const ROW: u64 = 2;
 
 #[cfg(test)]
 mod tests {
@@ -97,15 +102,26 @@ mod tests {
     #[test]
     fn each_kind_is_read_and_printed() {
         let cases = [
-            (0, 0, Agreement::Same, "same"),
-            (1, 0, Agreement::Record(0), "record 0"),
-            (1, u64::MAX, Agreement::Record(u64::MAX), "record 18446744073709551615"),
-            (2, 7, Agreement::Row(7), "row 7"),
+            ([1, 3, 0], Agreement::Same, "same"),
+            ([0, 1, 0], Agreement::Record(0), "record 0"),
+            (
+                [0, 1, u64::MAX],
+                Agreement::Record(u64::MAX),
+                "record 18446744073709551615",
+            ),
+            ([0, 2, 7], Agreement::Row(7), "row 7"),
         ];
-        for (kind, place, agreement, text) in cases {
-            assert_eq!(from_words(kind, place), agreement);
+        for ([same, kind, place], agreement, text) in cases {
+            let flat = FlatAgreement {
+                refusal: 0,
+                detail: 0,
+                same,
+                kind,
+                place,
+            };
+            assert_eq!(from_flat(&flat), Ok(agreement));
             assert_eq!(agreement.to_string(), text);
-            assert_eq!(agreement.is_same(), kind == 0);
+            assert_eq!(agreement.is_same(), same == 1);
         }
     }
 }

@@ -96,7 +96,9 @@ pub struct BusInteraction {
 impl BusInteraction {
     /// What a call for a tuple of this row answered, which has so many columns.
     pub(crate) fn from_flat(flat: FlatTuple, row: &[u64], columns: usize) -> Result<Self, Refusal> {
-        Refusal::from_flat(flat.number, flat.detail, |number, _| of_row(number, row, columns))?;
+        Refusal::unless_done(flat.done, flat.refusal, flat.detail, |number, _| {
+            of_row(number, row, columns)
+        })?;
         let header = [flat.bus, flat.side, flat.length, flat.multiplicity];
         Ok(Self::from_header(&header).expect("the definition of the answers has no other bus or side"))
     }

@@ -179,7 +179,7 @@ pub fn verdict_within_with(
 ) -> Result<Verdict, Refusal> {
     let (first, second) = halves(core, round, scratch);
     let flat = ffi::verdict_within(parameters.rounds, core, round, first, second);
-    from_flat(flat, core).map_err(of_halves)
+    from_flat(&flat, core).map_err(of_halves)
 }
 
 /// The verdict of [`verdict`] without memory of its own: as quick for rows in the writer's order, slower in others, up to the square of
@@ -198,7 +198,7 @@ pub fn verdict_alone(core: &[u64], round: &[u64]) -> Result<Verdict, Refusal> {
 ///
 /// Those of [`verdict_with`].
 pub fn verdict_alone_with(parameters: Parameters, core: &[u64], round: &[u64]) -> Result<Verdict, Refusal> {
-    from_flat(ffi::verdict(parameters.rounds, core, round), core)
+    from_flat(&ffi::verdict(parameters.rounds, core, round), core)
 }
 
 /// The most bytes that a line of [`verdict_line`] has.
@@ -342,33 +342,33 @@ pub fn verdict_text_with(parameters: Parameters, core: &[u64], round: &[u64]) ->
 }
 
 /// What was said of this core table and a round table.
-fn from_flat(flat: FlatVerdict, core: &[u64]) -> Result<Verdict, Refusal> {
-    let FlatVerdict {
-        kind,
-        first,
-        second,
-        third,
-    } = flat;
-    if let Some(verdict) = from_words([kind, first, second, third]) {
-        return Ok(verdict);
+fn from_flat(flat: &FlatVerdict, core: &[u64]) -> Result<Verdict, Refusal> {
+    Refusal::from_flat(flat.refusal, flat.detail, |number, detail| {
+        of_verdict(number, detail, core)
+    })?;
+    if flat.holds == 1 {
+        return Ok(Verdict::Holds { active: flat.active });
     }
-    match Refusal::from_flat(first, second, |number, detail| of_verdict(number, detail, core)) {
-        Err(refusal) => Err(refusal),
-        Ok(()) => unreachable!("the definition of the verdicts has no kind {kind} with refusal 0"),
-    }
+    Ok(failure(flat.kind, flat.table, flat.row, flat.index))
 }
 
-/// The verdict of four words, or none where they say a refusal.
-pub(crate) fn from_words([kind, first, row, index]: [u64; 4]) -> Option<Verdict> {
-    let table = if first == 0 { Table::Core } else { Table::Round };
-    Some(match kind {
-        0 => Verdict::Holds { active: first },
+/// The verdict of four words in the report on a job.
+pub(crate) fn from_words([kind, first, row, index]: [u64; 4]) -> Verdict {
+    if kind == 0 {
+        return Verdict::Holds { active: first };
+    }
+    failure(kind, first, row, index)
+}
+
+fn failure(kind: u64, table: u64, row: u64, index: u64) -> Verdict {
+    let table = if table == 0 { Table::Core } else { Table::Round };
+    match kind {
         1 | 4 => Verdict::Value { table, row, index },
         2 | 5 => Verdict::Lookup { table, row, index },
         3 => Verdict::Repeated { row },
         6 => Verdict::Unbalanced { table, row, index },
-        _ => return None,
-    })
+        _ => unreachable!("the definition of the verdicts has no failure of kind {kind}"),
+    }
 }
 
 /// The argument of a refusal: of what is not whole the detail says which, and the core table's words are checked first.
@@ -447,14 +447,19 @@ mod tests {
     use crate::P;
     use crate::refusal::Lent;
 
-    fn read([kind, first, second, third]: [u64; 4]) -> Result<Verdict, Refusal> {
-        let flat = FlatVerdict {
+    /// A struct of the words behind the refusal: holds, active, kind, table, row, index.
+    fn told([holds, active, kind, table, row, index]: [u64; 6]) -> FlatVerdict {
+        let (refusal, detail) = (0, 0);
+        FlatVerdict {
+            refusal,
+            detail,
+            holds,
+            active,
             kind,
-            first,
-            second,
-            third,
-        };
-        from_flat(flat, &[0, P])
+            table,
+            row,
+            index,
+        }
     }
 
     #[test]
@@ -464,29 +469,51 @@ mod tests {
         let lookup = |table, row, index| Verdict::Lookup { table, row, index };
         let unbalanced = |table, row, index| Verdict::Unbalanced { table, row, index };
         let cases = [
-            ([0, 3, 0, 0], Verdict::Holds { active: 3 }, "holds 3"),
-            ([1, 0, 1, 50], value(core, 1, 50), "core row 1 value 50"),
-            ([2, 0, 1, 54], lookup(core, 1, 54), "core row 1 lookup 54"),
-            ([3, 0, 4, 0], Verdict::Repeated { row: 4 }, "core row 4 timestamp 0"),
-            ([4, 1, 9, 140], value(round, 9, 140), "round row 9 value 140"),
-            ([5, 1, 9, 2], lookup(round, 9, 2), "round row 9 lookup 2"),
-            ([6, 0, 0, 2], unbalanced(core, 0, 2), "core row 0 balance 2"),
-            ([6, 1, 9, 1], unbalanced(round, 9, 1), "round row 9 balance 1"),
+            ([1, 3, 7, 0, 0, 0], Verdict::Holds { active: 3 }, "holds 3"),
+            ([0, 0, 1, 0, 1, 50], value(core, 1, 50), "core row 1 value 50"),
+            ([0, 0, 2, 0, 1, 54], lookup(core, 1, 54), "core row 1 lookup 54"),
+            (
+                [0, 0, 3, 0, 4, 0],
+                Verdict::Repeated { row: 4 },
+                "core row 4 timestamp 0",
+            ),
+            ([0, 0, 4, 1, 9, 140], value(round, 9, 140), "round row 9 value 140"),
+            ([0, 0, 5, 1, 9, 2], lookup(round, 9, 2), "round row 9 lookup 2"),
+            ([0, 0, 6, 0, 0, 2], unbalanced(core, 0, 2), "core row 0 balance 2"),
+            ([0, 0, 6, 1, 9, 1], unbalanced(round, 9, 1), "round row 9 balance 1"),
         ];
         for (words, verdict, line) in cases {
-            assert_eq!(read(words), Ok(verdict));
+            assert_eq!(from_flat(&told(words), &[]), Ok(verdict));
             assert_eq!(verdict.to_string(), line);
-            assert_eq!(verdict.holds(), words[0] == 0);
+            assert_eq!(verdict.holds(), words[0] == 1);
+            // The report on a job has the kind, table, row and index of a failure, and 0 and the count of what holds.
+            let [holds, active, kind, table, row, index] = words;
+            let report = if holds == 1 {
+                [0, active, 0, 0]
+            } else {
+                [kind, table, row, index]
+            };
+            assert_eq!(from_words(report), verdict);
         }
     }
 
     #[test]
     fn a_refusal_names_its_table() {
+        let read = |refusal, detail| {
+            from_flat(
+                &FlatVerdict {
+                    refusal,
+                    detail,
+                    ..told([0; 6])
+                },
+                &[0, P],
+            )
+        };
         for (place, argument) in [(0, "round"), (1, "core"), (2, "round"), (u64::MAX, "round")] {
-            assert_eq!(read([7, 5, place, 0]), Err(Refusal::NotElement { argument, place }));
+            assert_eq!(read(5, place), Err(Refusal::NotElement { argument, place }));
         }
         for (detail, argument, which) in [(0, "core", Lent::Core), (1, "round", Lent::Round)] {
-            assert_eq!(read([7, 2, detail, 0]), Err(Refusal::NotWhole { argument, which }));
+            assert_eq!(read(2, detail), Err(Refusal::NotWhole { argument, which }));
         }
     }
 }

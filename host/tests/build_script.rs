@@ -119,6 +119,18 @@ fn a_given_archive_is_linked_without_the_kit() {
         said(&held)
     );
 
+    // A relative path is the caller's, who stands beside the package.
+    fs::copy(&archive, dependant.0.join("beside.a")).unwrap();
+    let beside = dependant.cargo("check", Some(Path::new("beside.a")));
+    assert!(beside.status.success(), "{}", said(&beside));
+    let missing = dependant.cargo("check", Some(Path::new("host/../missing.a")));
+    let named = dependant.0.join("host/../missing.a").display().to_string();
+    assert!(
+        !missing.status.success() && said(&missing).contains(&named),
+        "{}",
+        said(&missing)
+    );
+
     let other = dependant.0.join("other.a");
     fs::write(&other, [fs::read(&archive).unwrap(), vec![0]].concat()).unwrap();
     let refused = dependant.cargo("check", Some(&other));

@@ -20,9 +20,19 @@
         }                                                                                                                         \
     } while (0)
 
-/* The answer is that of a call that did its work, or that of one that is refused. */
-#define DONE(answer) CHECK((answer).refusal == KECCAK_TABLES_REFUSAL_NONE && (answer).detail == 0)
+/* The answer is that of a call that is not refused, that of one that did its work or goes on reading, or that of one that is refused. */
+#define ACCEPTED(answer) CHECK((answer).refusal == KECCAK_TABLES_REFUSAL_NONE && (answer).detail == 0)
+#define DONE(answer) CHECK((answer).refusal == KECCAK_TABLES_REFUSAL_NONE && (answer).detail == 0 && (answer).done == 1)
+#define READING(cursor) CHECK((cursor).refusal == KECCAK_TABLES_REFUSAL_NONE && (cursor).detail == 0 && (cursor).reading == 1)
 #define REFUSED(answer, n, d) CHECK((answer).refusal == (n) && (answer).detail == (d))
+
+/* A verdict that is refused, whose other words are 0. */
+#define NO_VERDICT(verdict, n, d)                                                                                                 \
+    do {                                                                                                                          \
+        REFUSED(verdict, n, d);                                                                                                   \
+        CHECK((verdict).holds == 0 && (verdict).active == 0 && (verdict).kind == 0);                                              \
+        CHECK((verdict).table == 0 && (verdict).row == 0 && (verdict).index == 0);                                                \
+    } while (0)
 
 /* Stands past every slice that is written. */
 #define GUARD 0xA5A5A5A5A5A5A5A5u
@@ -254,6 +264,7 @@ static void constant_calls(void) {
 
 static void key_calls(void) {
     keccak_tables_key key = CALL(keccak_tables_is_wh_key)(0x0123456789ABCDEF);
+    DONE(key);
     CHECK(key.word == 0x01234567 && key.half == 0x89AB);
 
     uint64_t row[4] = {3, 2, 1, 9}, out[3] = {0, 0, GUARD};
@@ -390,6 +401,26 @@ static void registers(void) {
     free(copy);
 }
 
+/* Of the zero state, by the last round alone, after which lane 0 is its constant, and by 24; then each refusal. */
+static void permutation(void) {
+    uint64_t state[KECCAK_TABLES_LANES + 1] = {0};
+    state[25] = GUARD;
+    keccak_tables_answer answer = CALL(keccak_tables_keccak_f)(1, state, 26);
+    DONE(answer);
+    CHECK(state[0] == 0x8000000080008008 && state[1] == 0 && state[24] == 0 && state[25] == GUARD);
+    state[0] = 0;
+    answer = keccak_tables_keccak_f(ROUNDS, state, 25);
+    DONE(answer);
+    CHECK(state[0] == 0xF1258F7940E1DDE7 && state[1] == 0x84D5CCF933C0478A && state[24] == 0xEAF1FF7B5CECA249 && state[25] == GUARD);
+    answer = keccak_tables_keccak_f(0, state, 24);
+    REFUSED(answer, KECCAK_TABLES_REFUSAL_ROUNDS, 0);
+    answer = keccak_tables_keccak_f(ROUNDS + 1, state, 26);
+    REFUSED(answer, KECCAK_TABLES_REFUSAL_ROUNDS, 25);
+    answer = keccak_tables_keccak_f(ROUNDS, state, 24);
+    REFUSED(answer, 3, 25);
+    CHECK(answer.done == 0 && state[0] == 0xF1258F7940E1DDE7 && state[25] == GUARD);
+}
+
 /* Two blocks of A3, whose digest is published, and what is judged; then each refusal. */
 static void messages(void) {
     uint8_t page[200], most[KECCAK_TABLES_MAX_MESSAGE + 1] = {0};
@@ -401,15 +432,15 @@ static void messages(void) {
     CHECK(number.value == sizeof page / KECCAK_TABLES_RATE + 1 && ops[2 * OP] == GUARD);
     CHECK(ops[0] == 5 && ops[OP] == 6 && ops[1] == 4096 && ops[OP + 1] == 4096 && ops[SEGMENT] == 0 && ops[OP + SEGMENT] == 0);
     CHECK(ops[OP + 27] == 0x0703C2C5DE8AF379 && ops[OP + 27 + KECCAK_TABLES_DIGEST_BYTES / 8 - 1] == 0x8717E39DBDA15FC6);
-    number = CALL(keccak_tables_judge_message)(page, sizeof page, ops, 2 * OP);
-    DONE(number);
-    CHECK(number.value == 1);
-    number = keccak_tables_judge_message(page, sizeof page - 1, ops, 2 * OP);
-    DONE(number);
-    CHECK(number.value == 0);
-    number = keccak_tables_judge_message(page, sizeof page, ops, 0);
-    DONE(number);
-    CHECK(number.value == 0);
+    keccak_tables_reply reply = CALL(keccak_tables_judge_message)(page, sizeof page, ops, 2 * OP);
+    ACCEPTED(reply);
+    CHECK(reply.yes == 1);
+    reply = keccak_tables_judge_message(page, sizeof page - 1, ops, 2 * OP);
+    ACCEPTED(reply);
+    CHECK(reply.yes == 0);
+    reply = keccak_tables_judge_message(page, sizeof page, ops, 0);
+    ACCEPTED(reply);
+    CHECK(reply.yes == 0);
     number = keccak_tables_message_operations(most, sizeof most, 1, UINT64_MAX, ops, 0);
     REFUSED(number, KECCAK_TABLES_REFUSAL_LONG_MESSAGE, sizeof most);
     number = keccak_tables_message_operations(page, sizeof page, 1, UINT64_MAX, ops, 0);
@@ -420,13 +451,14 @@ static void messages(void) {
     REFUSED(number, 7, 1);
     number = keccak_tables_message_operations(page, 0, UINT64_MAX, UINT64_MAX, ops, OP);
     REFUSED(number, 4, UINT64_MAX);
-    number = keccak_tables_judge_message(most, sizeof most, ops, 1);
-    REFUSED(number, 12, sizeof most);
-    number = keccak_tables_judge_message(page, sizeof page, ops, 1);
-    REFUSED(number, 2, 2);
+    reply = keccak_tables_judge_message(most, sizeof most, ops, 1);
+    REFUSED(reply, 12, sizeof most);
+    reply = keccak_tables_judge_message(page, sizeof page, ops, 1);
+    REFUSED(reply, 2, 2);
     ops[OP + SEGMENT] = 4294967296u;
-    number = keccak_tables_judge_message(page, sizeof page, ops, 2 * OP);
-    REFUSED(number, 11, 4294967296u);
+    reply = keccak_tables_judge_message(page, sizeof page, ops, 2 * OP);
+    REFUSED(reply, 11, 4294967296u);
+    CHECK(reply.yes == 0);
 }
 
 static void core_rows(void) {
@@ -599,7 +631,8 @@ static void addresses(void) {
             keccak_tables_write_operations(list, 2 * OP, bytes, sizeof bytes),
         };
         for (size_t call = 0; call < sizeof answers / sizeof *answers; call++)
-            REFUSED(answers[call], cases[i].refusal, cases[i].detail);
+            CHECK(answers[call].refusal == cases[i].refusal && answers[call].detail == cases[i].detail &&
+                  answers[call].done == (cases[i].refusal == 0));
         /* A short slice comes first. */
         REFUSED(keccak_tables_is_wh_keys(list, 2 * OP, out, 99), 3, 100);
     }
@@ -685,7 +718,7 @@ static void verdict_within(void) {
         put_guards(spare, PLACES + 2);
         keccak_tables_judgement verdict =
             CALL(keccak_tables_verdict_within)(ROUNDS, core, CORE, rounds, ROUND, scratch, PLACES + more, spare, PLACES + 1 - more);
-        CHECK(verdict.kind == KECCAK_TABLES_VERDICT_HOLDS && verdict.active == 1 && verdict.row == 0 && verdict.index == 0);
+        CHECK(verdict.holds == 1 && verdict.kind == KECCAK_TABLES_VERDICT_HOLDS && verdict.active == 1 && verdict.row == 0 && verdict.index == 0);
         check_zeros(scratch, PLACES, PLACES + 2);
         check_zeros(spare, PLACES, PLACES + 2);
     }
@@ -727,8 +760,7 @@ static void verdict_within_refused(void) {
     for (size_t i = 0; i < sizeof cases / sizeof *cases; i++) {
         keccak_tables_judgement verdict = keccak_tables_verdict_within(ROUNDS, core, CORE, rounds, cases[i].round, scratch,
                                                                        cases[i].scratch, spare, cases[i].spare);
-        CHECK(verdict.kind == KECCAK_TABLES_VERDICT_REFUSED && verdict.index == 0);
-        CHECK(verdict.refusal == cases[i].refusal && verdict.detail == cases[i].detail);
+        NO_VERDICT(verdict, cases[i].refusal, cases[i].detail);
         keccak_tables_number length = keccak_tables_verdict_line_within(ROUNDS, core, CORE, rounds, cases[i].round, line, sizeof line,
                                                                         scratch, cases[i].scratch, spare, cases[i].spare);
         REFUSED(length, cases[i].refusal, cases[i].detail);
@@ -747,7 +779,7 @@ static void verdict_within_refused(void) {
 static void verdict_calls(void) {
     uint64_t out[203];
     keccak_tables_judgement verdict = CALL(keccak_tables_verdict)(ROUNDS, core, CORE, rounds, ROUND);
-    CHECK(verdict.kind == KECCAK_TABLES_VERDICT_BALANCE && verdict.table == KECCAK_TABLES_TABLE_CORE && verdict.row == 0);
+    CHECK(verdict.holds == 0 && verdict.kind == KECCAK_TABLES_VERDICT_BALANCE && verdict.table == KECCAK_TABLES_TABLE_CORE && verdict.row == 0);
     keccak_tables_tuple tuple = keccak_tables_keccak_bus_interaction(ROUNDS, core, 486, (size_t)verdict.index, 0, out, 203);
     DONE(tuple);
     CHECK(tuple.bus == 5 && tuple.side == 1);
@@ -756,7 +788,7 @@ static void verdict_calls(void) {
     memcpy(core + 210, last + 1471, 8 * sizeof *core);
     memcpy(core + 218, last + 1271, 192 * sizeof *core);
     verdict = keccak_tables_verdict(ROUNDS, core, CORE, rounds, ROUND);
-    CHECK(verdict.kind == KECCAK_TABLES_VERDICT_HOLDS && verdict.active == 1 && verdict.row == 0 && verdict.index == 0);
+    CHECK(verdict.holds == 1 && verdict.kind == KECCAK_TABLES_VERDICT_HOLDS && verdict.active == 1 && verdict.row == 0 && verdict.index == 0);
     uint8_t line[KECCAK_TABLES_LINE_MOST];
     memset(line, 0xA5, sizeof line);
     keccak_tables_number length = CALL(keccak_tables_verdict_line)(ROUNDS, core, CORE, rounds, ROUND, line, sizeof line);
@@ -767,14 +799,14 @@ static void verdict_calls(void) {
     length = keccak_tables_verdict_line(ROUNDS, core, CORE, rounds, ROUND - 1, line, 0);
     CHECK(length.refusal == 2 && length.detail == 1);
     verdict = keccak_tables_verdict(ROUNDS, core, CORE - 1, rounds, ROUND - 1);
-    CHECK(verdict.kind == KECCAK_TABLES_VERDICT_REFUSED && verdict.refusal == 2 && verdict.detail == 0 && verdict.index == 0);
+    NO_VERDICT(verdict, 2, 0);
     verdict = keccak_tables_verdict(ROUNDS, core, CORE, rounds, ROUND - 1);
-    CHECK(verdict.kind == KECCAK_TABLES_VERDICT_REFUSED && verdict.refusal == 2 && verdict.detail == 1 && verdict.index == 0);
+    NO_VERDICT(verdict, 2, 1);
     verdict_within();
     rounds[ROUND - 1] = UINT64_MAX;
     verdict_within_refused();
     verdict = keccak_tables_verdict(ROUNDS, core, CORE, rounds, ROUND);
-    CHECK(verdict.kind == KECCAK_TABLES_VERDICT_REFUSED && verdict.refusal == 5 && verdict.detail == ROUND - 1 && verdict.index == 0);
+    NO_VERDICT(verdict, 5, ROUND - 1);
 }
 
 /* The same operation by twelve rounds: rows of rounds 12 to 23, judged by their own number and by others. */
@@ -802,9 +834,9 @@ static void fewer_rounds(void) {
     memcpy(states + 210, last + 1471, 8 * sizeof *states);
     memcpy(states + 218, last + 1271, 192 * sizeof *states);
     keccak_tables_judgement verdict = keccak_tables_verdict(FEWER, states, CORE, table, 16 * 1480);
-    CHECK(verdict.kind == KECCAK_TABLES_VERDICT_HOLDS && verdict.active == 1);
+    CHECK(verdict.holds == 1 && verdict.kind == KECCAK_TABLES_VERDICT_HOLDS && verdict.active == 1);
     verdict = keccak_tables_verdict(ROUNDS, states, CORE, table, 16 * 1480);
-    CHECK(verdict.kind == KECCAK_TABLES_VERDICT_BALANCE && verdict.table == KECCAK_TABLES_TABLE_CORE && verdict.index == 2);
+    CHECK(verdict.holds == 0 && verdict.kind == KECCAK_TABLES_VERDICT_BALANCE && verdict.table == KECCAK_TABLES_TABLE_CORE && verdict.index == 2);
     keccak_tables_tuple tuple = keccak_tables_keccak_bus_interaction(FEWER, states, 486, 2, 0, out, 203);
     DONE(tuple);
     CHECK(tuple.bus == KECCAK_TABLES_BUS_KECCAK && tuple.side == KECCAK_TABLES_SIDE_SENDER && out[2] == 12);
@@ -919,6 +951,7 @@ static void no_rounds(void) {
             keccak_tables_keccak_rnd_rows(nr, &word, 1, &word, 0),
             keccak_tables_keccak_rc_update_multiplicities(nr, &word, 1, UINT64_MAX),
             keccak_tables_keccak_bus_interactions(nr, &word, 1, 0, &word, 0),
+            keccak_tables_keccak_f(nr, &word, 1),
             keccak_tables_charge(nr, FLOOR + 1, true, operation, OP - 1, &word, 1),
             keccak_tables_look(nr, FLOOR + 1, false, operation, OP - 1, &word, 1, &word, 0, &word, 0),
             keccak_tables_register_charge(nr, FLOOR + 1, true, 1, operation, OP - 1, &word, 0, &word, 1),
@@ -940,9 +973,9 @@ static void no_rounds(void) {
         keccak_tables_tuple tuple = keccak_tables_keccak_bus_interaction(nr, &word, 1, SIZE_MAX, 0, &word, 0);
         REFUSED(tuple, KECCAK_TABLES_REFUSAL_ROUNDS, nr);
         keccak_tables_judgement verdict = keccak_tables_verdict(nr, &word, 1, &word, 1);
-        CHECK(verdict.kind == KECCAK_TABLES_VERDICT_REFUSED && verdict.refusal == 8 && verdict.detail == nr && verdict.index == 0);
+        NO_VERDICT(verdict, 8, nr);
         verdict = keccak_tables_verdict_within(nr, &word, 1, &word, 1, &word, 0, &word, 0);
-        CHECK(verdict.kind == KECCAK_TABLES_VERDICT_REFUSED && verdict.refusal == 8 && verdict.detail == nr && verdict.index == 0);
+        NO_VERDICT(verdict, 8, nr);
         CHECK(word == KECCAK_TABLES_P && byte == 0xA5);
     }
 }
@@ -1076,7 +1109,7 @@ static void file_lists(void) {
 /* The sums of the file that file_lists wrote. */
 static void file_sums(void) {
     keccak_tables_cursor cursor = CALL(keccak_tables_tally_start)();
-    DONE(cursor);
+    READING(cursor);
     keccak_tables_sums empty = keccak_tables_tally_finish(FLOOR, false, cursor);
     DONE(empty);
     CHECK(empty.ops == 0 && empty.core_rows == 4 && empty.round_rows == 4 && empty.byte_alu == 0 && empty.are_bytes == 0);
@@ -1088,7 +1121,7 @@ static void file_sums(void) {
     DONE(empty);
     CHECK(empty.core_rows == HIGHER && empty.round_rows == HIGHER && empty.byte_alu == 0 && empty.are_bytes == HIGHER * 220);
     cursor = CALL(keccak_tables_tally_feed)(cursor, file, 13);
-    DONE(cursor);
+    READING(cursor);
     CHECK(cursor.records == 0 && cursor.at == 13);
     keccak_tables_sums sums = CALL(keccak_tables_tally_finish)(FLOOR, false, cursor);
     REFUSED(sums, 6, 0);
@@ -1108,7 +1141,7 @@ static void file_sums(void) {
     /* A record at an address that is no multiple of 8 is read, counted and left out of the sums. */
     file[10] += 4;
     cursor = keccak_tables_tally_feed(cursor, file, 418);
-    DONE(cursor);
+    READING(cursor);
     CHECK(cursor.records == 1 && cursor.unaligned == 1);
     sums = keccak_tables_tally_finish(FLOOR, false, cursor);
     DONE(sums);
@@ -1123,12 +1156,12 @@ static void file_sums(void) {
     REFUSED(answer, KECCAK_TABLES_REFUSAL_UNALIGNED, list[1]);
 
     /* A reader that has read as many records as a file may have: its end is no fault, a byte more is, whatever is left out. */
-    keccak_tables_cursor full = {.records = KECCAK_TABLES_MAX_OPS - 3, .unaligned = 3};
+    keccak_tables_cursor full = {.reading = 1, .records = KECCAK_TABLES_MAX_OPS - 3, .unaligned = 3};
     sums = keccak_tables_tally_finish(FLOOR, true, full);
     DONE(sums);
     CHECK(sums.ops == KECCAK_TABLES_MAX_OPS - 3 && sums.unaligned == 3);
     cursor = keccak_tables_tally_feed(full, file, 0);
-    DONE(cursor);
+    READING(cursor);
     cursor = keccak_tables_tally_feed(full, file, 1);
     REFUSED(cursor, 1, 89478486);
     /* A fault that no call found is answered as it is named, but one that there is none of. */
@@ -1146,7 +1179,7 @@ static void file_sums(void) {
     REFUSED(sums, 6, 5);
     full.records--;
     cursor = keccak_tables_tally_feed(full, file, 418);
-    DONE(cursor);
+    READING(cursor);
     CHECK(cursor.records == KECCAK_TABLES_MAX_OPS - 4 && cursor.unaligned == 4 && cursor.at == 0);
 }
 
@@ -1168,28 +1201,29 @@ static void file_segments(void) {
     answer = keccak_tables_read_operations(both, 839, read, 2 * OP);
     REFUSED(answer, 6, 418);
     keccak_tables_cursor cursor = keccak_tables_tally_feed(keccak_tables_tally_start(), both, 838);
-    DONE(cursor);
+    READING(cursor);
     CHECK(cursor.records == 1 && cursor.at == 420 && cursor.start == 418 && cursor.mark == 0x50 && cursor.segments == 0);
     cursor = keccak_tables_tally_feed(cursor, both + 838, 2);
-    DONE(cursor);
+    READING(cursor);
     CHECK(cursor.records == 2 && cursor.at == 0 && cursor.start == 840);
     keccak_tables_sums sums = keccak_tables_tally_finish(FLOOR, false, cursor);
     DONE(sums);
     CHECK(sums.ops == 2 && sums.segments == 1 && sums.least_segment == 0 && sums.greatest_segment == 0x04030201);
     /* Past the most bytes of a file there is no record; up to there every word of a reader is taken as it is. */
-    keccak_tables_cursor far = {.start = (uint64_t)422 * KECCAK_TABLES_MAX_OPS + 1, .least_segment = UINT64_MAX};
+    keccak_tables_cursor far = {
+        .reading = 1, .start = (uint64_t)422 * KECCAK_TABLES_MAX_OPS + 1, .least_segment = UINT64_MAX};
     sums = keccak_tables_tally_finish(FLOOR, false, far);
     REFUSED(sums, 1, 89478486);
     cursor = keccak_tables_tally_feed(far, both, 418);
     REFUSED(cursor, 1, 89478486);
     far.start--;
     cursor = keccak_tables_tally_feed(far, both, 417);
-    DONE(cursor);
+    READING(cursor);
     cursor.at = SIZE_MAX;
     cursor.address = 8;
     cursor.tail = UINT64_MAX;
     cursor = keccak_tables_tally_feed(cursor, both, 1);
-    DONE(cursor);
+    READING(cursor);
     CHECK(cursor.records == 1 && cursor.at == 0 && cursor.start == far.start + 418);
     cursor = keccak_tables_tally_feed(cursor, both, 1);
     REFUSED(cursor, 1, 89478486);
@@ -1208,22 +1242,22 @@ static void file_against_a_table(void) {
     answer = keccak_tables_generate_keccak_trace(FLOOR, list, 2 * OP, table, CORE);
     DONE(answer);
     keccak_tables_agreement both = CALL(keccak_tables_same_operations)(table, CORE, records, 840);
-    DONE(both);
-    CHECK(both.kind == KECCAK_TABLES_AGREEMENT_SAME && both.place == 0);
+    ACCEPTED(both);
+    CHECK(both.same == 1 && both.kind == KECCAK_TABLES_AGREEMENT_SAME && both.place == 0);
     both = keccak_tables_same_operations(table, CORE, records, 1258);
-    DONE(both);
-    CHECK(both.kind == KECCAK_TABLES_AGREEMENT_RECORD && both.place == 2);
+    ACCEPTED(both);
+    CHECK(both.same == 0 && both.kind == KECCAK_TABLES_AGREEMENT_RECORD && both.place == 2);
     both = keccak_tables_same_operations(table, CORE, records, 418);
-    DONE(both);
-    CHECK(both.kind == KECCAK_TABLES_AGREEMENT_ROW && both.place == 1);
+    ACCEPTED(both);
+    CHECK(both.same == 0 && both.kind == KECCAK_TABLES_AGREEMENT_ROW && both.place == 1);
     table[486 + KECCAK_TABLES_CORE_ADDR] += 4;
     records[418 + 10] += 4;
     both = keccak_tables_same_operations(table, CORE, records, 840);
-    DONE(both);
-    CHECK(both.kind == KECCAK_TABLES_AGREEMENT_SAME);
+    ACCEPTED(both);
+    CHECK(both.same == 1 && both.kind == KECCAK_TABLES_AGREEMENT_SAME);
     both = keccak_tables_same_operations(table, CORE, records, 839);
     REFUSED(both, 6, 418);
-    CHECK(both.kind == 0 && both.place == 0);
+    CHECK(both.same == 0 && both.kind == 0 && both.place == 0);
     memset(records + 10, 0xFF, 8);
     both = keccak_tables_same_operations(table, CORE, records, 839);
     REFUSED(both, 4, UINT64_MAX);
@@ -1232,7 +1266,7 @@ static void file_against_a_table(void) {
     REFUSED(both, 5, CORE - 1);
     both = keccak_tables_same_operations(table, CORE - 1, records, 839);
     REFUSED(both, KECCAK_TABLES_REFUSAL_NOT_WHOLE, KECCAK_TABLES_LENT_CORE);
-    CHECK(both.kind == 0 && both.place == 0);
+    CHECK(both.same == 0 && both.kind == 0 && both.place == 0);
 }
 
 int main(void) {
@@ -1249,6 +1283,7 @@ int main(void) {
     key_rows();
     segment();
     registers();
+    permutation();
     messages();
     core_rows();
     core_keys();

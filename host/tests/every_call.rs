@@ -14,7 +14,7 @@ use keccak_tables::segment::KindLook;
 use keccak_tables::verdict::{Table, Verdict};
 use keccak_tables::{
     Bus, BusInteraction, FLOOR, Lent, MAX_FLOOR, MAX_OPS, OP_WORDS, Operation, P, Parameters, Refusal, SEGMENT_WORD,
-    Side, bitwise, is_wh, job, keccak, keccak_rc, keccak_rnd, message, month, operation_file, registers,
+    Side, bitwise, is_wh, job, keccak, keccak_rc, keccak_rnd, message, month, operation_file, permutation, registers,
     same_operations, segment, tuples, verdict,
 };
 
@@ -850,6 +850,32 @@ fn no_number_of_rounds() {
     }
 }
 
+/// The zero state by 24 rounds and by the last alone, each in its place; and what is refused.
+#[test]
+fn permutation_calls() {
+    let mut state = [0; permutation::LANES + 1];
+    state[25] = GUARD;
+    assert_eq!(permutation::keccak_f(&mut state), Ok(()));
+    assert_eq!(
+        (state[0], state[24], state[25]),
+        (0xF125_8F79_40E1_DDE7, 0xEAF1_FF7B_5CEC_A249, GUARD)
+    );
+    let permuted = state;
+    let short = permutation::keccak_f(&mut state[..24]);
+    assert_eq!((short, state), (Err(too_short("state", 25)), permuted));
+    for rounds in [0, 25, u64::MAX] {
+        let parameters = Parameters::default().rounds(rounds);
+        let refused = permutation::keccak_f_with(parameters, &mut state[..24]);
+        assert_eq!((refused, state), (Err(Refusal::Rounds { rounds }), permuted));
+    }
+    let mut state = [0; permutation::LANES];
+    assert_eq!(
+        permutation::keccak_f_with(Parameters::default().rounds(1), &mut state),
+        Ok(())
+    );
+    assert_eq!((state[0], state[1..].iter().sum::<u64>()), (0x8000_0000_8000_8008, 0));
+}
+
 /// Two blocks, their digest, and what is judged; lengths about a block's, and every refusal.
 #[test]
 fn message_calls() {
@@ -1466,6 +1492,7 @@ fn none_is_left_out() {
         "message",
         "month",
         "operation_file",
+        "permutation",
         "registers",
         "same_operations",
         "segment",
@@ -1494,6 +1521,6 @@ fn none_is_left_out() {
     // use, both calls by parameters, and the four of a look of its own; a job by parameters and the six of a report of its own; the operations of so many
     // bytes, and the three of a digest; a month by parameters and the three of a month by its names; whether a file and
     // a table are the same; the words of a scratch, and of a verdict, its line and a job the form without memory of its own, and by parameters
-    // that and the one in lent memory.
-    assert_eq!(functions, interface::exports().len() + 73);
+    // that and the one in lent memory; the permutation by parameters.
+    assert_eq!(functions, interface::exports().len() + 74);
 }

@@ -9,7 +9,7 @@ use std::process::Command;
 
 use keccak_tables::{
     Bus, FLOOR, Lent, MAX_FLOOR, MAX_OPS, OP_WORDS, P, Refusal, SEGMENT_WORD, Side, bitwise, is_wh, job, keccak,
-    keccak_rc, keccak_rnd, message, month, operation_file, registers, segment, verdict,
+    keccak_rc, keccak_rnd, message, month, operation_file, permutation, registers, segment, verdict,
 };
 
 #[test]
@@ -61,6 +61,7 @@ fn sizes() -> BTreeMap<String, u64> {
         ("MAX_REGISTERS", registers::MAX_REGISTERS as u64),
         ("LEDGER_WORDS", registers::LEDGER_WORDS as u64),
         ("REGISTER_LOOK_WORDS", registers::REGISTER_LOOK_WORDS as u64),
+        ("LANES", permutation::LANES as u64),
         ("RATE", message::RATE as u64),
         ("MAX_MESSAGE", message::MAX_MESSAGE as u64),
         ("DIGEST_BYTES", message::DIGEST_BYTES as u64),
@@ -122,9 +123,10 @@ fn the_header_and_the_bindings_have_the_same_numbers() {
         ),
         ("ALU_", numbered(&["AND", "OR", "XOR"])),
         ("KIND_", kinds()),
-        ("VERDICT_", numbered(&VERDICTS)),
+        ("VERDICT_", from_one(&VERDICTS)),
+        ("REPORT_", numbered(&["HOLDS"])),
         ("TABLE_", numbered(&["CORE", "ROUND"])),
-        ("AGREEMENT_", numbered(&["SAME", "RECORD", "ROW"])),
+        ("AGREEMENT_", from_one(&["RECORD", "ROW", "SAME"])),
         ("CORE_", core_columns()),
         ("ROUND_", round_columns()),
         ("MONTH_", month_words()),
@@ -139,17 +141,21 @@ fn the_header_and_the_bindings_have_the_same_numbers() {
     assert_eq!(keccak::MAX_TUPLE_LENGTH, keccak_rnd::MAX_TUPLE_LENGTH);
 }
 
-/// The kinds of verdict, in the order of the definition's words (`verdictWords`); `verdict.rs` reads them by these numbers.
-const VERDICTS: [&str; 8] = [
-    "HOLDS",
+/// The kinds of verdict in the order of their numbers, which begin at 1; `verdict.rs` reads them by these.
+const VERDICTS: [&str; 7] = [
     "CORE_VALUE",
     "CORE_LOOKUP",
     "TIMESTAMP",
     "ROUND_VALUE",
     "ROUND_LOOKUP",
     "BALANCE",
-    "REFUSED",
+    "HOLDS",
 ];
+
+/// Kinds of which 0 is none.
+fn from_one(names: &[&str]) -> Vec<(String, u64)> {
+    names.iter().map(|name| name.to_string()).zip(1..).collect()
+}
 
 fn numbered(names: &[&str]) -> Vec<(String, u64)> {
     names.iter().map(|name| name.to_string()).zip(0..).collect()
@@ -243,7 +249,16 @@ fn compiler(name: &str, standard: &str) -> Option<Command> {
         answer => assert!(answer.expect("a compiler can be run").status.success()),
     }
     let mut command = Command::new(name);
-    command.args([standard, "-O1", "-Wall", "-Wextra", "-Wpedantic", "-Werror", "-I"]);
+    command.args([
+        standard,
+        "-O1",
+        "-pedantic",
+        "-Wall",
+        "-Wextra",
+        "-Wconversion",
+        "-Werror",
+        "-I",
+    ]);
     command.arg(interface::root().join("include"));
     Some(command)
 }
@@ -278,16 +293,15 @@ fn a_dropped_answer_is_told() {
     }
 }
 
-/// Compiles and runs `every_call.c`, which prints the name of each function that it calls, and fails where an answer is
-/// wrong. Without a C compiler there is nothing to run.
-#[test]
-fn a_program_in_c_calls_every_function() {
-    let program = Path::new(env!("CARGO_TARGET_TMPDIR")).join("every_call");
-    let Some(mut compiler) = compiler("cc", "-std=c11") else {
+/// Compiles and runs a program beside this file, which prints the name of each function that it calls, and fails where an answer is
+/// wrong: it calls them all. Without a C compiler there is nothing to run.
+fn calls_every_function(name: &str, standard: &str) {
+    let program = Path::new(env!("CARGO_TARGET_TMPDIR")).join(name);
+    let Some(mut compiler) = compiler("cc", standard) else {
         return;
     };
     let compiled = compiler
-        .arg(interface::root().join("host/tests/every_call.c"))
+        .arg(interface::root().join("host/tests").join(format!("{name}.c")))
         .arg(interface::archive())
         .arg("-o")
         .arg(&program)
@@ -306,4 +320,15 @@ fn a_program_in_c_calls_every_function() {
     called.dedup();
     let prototypes: Vec<String> = interface::prototypes().into_keys().collect();
     assert_eq!(called, prototypes);
+}
+
+#[test]
+fn a_program_in_c_calls_every_function() {
+    calls_every_function("every_call", "-std=c11");
+}
+
+/// Of words of zeros, of a refusal and of a failure nothing reads as good, and of a good answer its third word does.
+#[test]
+fn a_program_in_c_reads_every_answer_by_its_third_word() {
+    calls_every_function("answers", "-std=c99");
 }

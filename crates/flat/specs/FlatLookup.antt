@@ -14,15 +14,16 @@ use Rattle.flat.specs.declared.FlatLookup.{FlatLookup}
 unfoldable pub ofKind : ℕ → OperationAnswer → OperationAnswer
 ofKind kind answer = pick (leb NUM-LOOKUP-TYPES kind) (Refused (PastEnd NUM-LOOKUP-TYPES)) answer
 
--- the four words of a lookup in a list, behind number and detail
+-- the four words of a lookup in a list
 unfoldable pub flatLookup : OperationAnswer → FlatLookup
 flatLookup (Is op) =
     record {
-      number = 0;
+      refusal = 0;
       detail = 0;
+      done = 1;
       kind = lookup-type-index (op .«lookup_type»);
       x = op .x;
       y = op .y;
       z = op .z;
     }
-flatLookup (Refused r) = record { number = refusalNumber r; detail = refusalDetail r; kind = 0; x = 0; y = 0; z = 0 }
+flatLookup (Refused r) = record { refusal = refusalNumber r; detail = refusalDetail r; done = 0; kind = 0; x = 0; y = 0; z = 0 }

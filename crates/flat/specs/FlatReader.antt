@@ -1,5 +1,5 @@
 -- A reader of an operation file, and what it says at the end, as flat structs of words. Every struct is a reader:
--- number 0 is one that has met no fault; any other is one that has, and a number that no refusal has counts as 6.
+-- where `reading` is 1 it has met no fault; else it has, and a number that no refusal has, 0 too, counts as 6.
 use Prim.Native.Nat.{ℕ}
 use lib.Dec.{eqb}
 use Rattle.lists.specs.Tab.{pick}
@@ -39,13 +39,14 @@ readingOf c =
     (record { at = c .at; mark = c .mark; addr = c .address; tail = c .tail })
 
 unfoldable pub cursorOf : FlatCursor → Cursor
-cursorOf c = pick (eqb (c .number) 0) (readingOf c) (cursor.Refused (refusalOf (c .number) (c .detail)))
+cursorOf c = pick (eqb (c .reading) 1) (readingOf c) (cursor.Refused (refusalOf (c .refusal) (c .detail)))
 
 unfoldable pub flatCursor : Cursor → FlatCursor
 flatCursor (cursor.Reading w p) =
     record {
-      number = 0;
+      refusal = 0;
       detail = 0;
+      reading = 1;
       records = w .n;
       at = p .at;
       address = p .addr;
@@ -59,8 +60,9 @@ flatCursor (cursor.Reading w p) =
     }
 flatCursor (cursor.Refused r) =
     record {
-      number = refusalNumber r;
+      refusal = refusalNumber r;
       detail = refusalDetail r;
+      reading = 0;
       records = 0;
       at = 0;
       address = 0;
@@ -76,8 +78,9 @@ flatCursor (cursor.Refused r) =
 unfoldable pub flatTally : Tally → FlatTally
 flatTally (tally.Counted s) =
     record {
-      number = 0;
+      refusal = 0;
       detail = 0;
+      done = 1;
       ops = s .ops;
       «core_rows» = s .«core_rows»;
       «round_rows» = s .«round_rows»;
@@ -95,8 +98,9 @@ flatTally (tally.Counted s) =
     }
 flatTally (tally.Refused r) =
     record {
-      number = refusalNumber r;
+      refusal = refusalNumber r;
       detail = refusalDetail r;
+      done = 0;
       ops = 0;
       «core_rows» = 0;
       «round_rows» = 0;

@@ -1,3 +1,4 @@
 pub mod Flat
+pub mod FlatJudged
 pub mod FlatReader
 pub mod FlatLookup

@@ -24,8 +24,9 @@ pub fn flat_lookup(answer: OperationAnswer) -> FlatLookup
         OperationAnswer::Is(lookup) => {
             let kind = lookup.lookup_type;
             FlatLookup {
-                number: 0,
+                refusal: 0,
                 detail: 0,
+                done: 1,
                 kind: lookup_type_index(kind) as u64,
                 x: lookup.x as u64,
                 y: lookup.y as u64,
@@ -33,8 +34,9 @@ pub fn flat_lookup(answer: OperationAnswer) -> FlatLookup
             }
         }
         OperationAnswer::Refused(refusal) => FlatLookup {
-            number: refusal.number(),
+            refusal: refusal.number(),
             detail: refusal.detail(),
+            done: 0,
             kind: 0,
             x: 0,
             y: 0,

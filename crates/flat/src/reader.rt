@@ -58,10 +58,10 @@ fn reading(c: FlatCursor) -> Cursor
 pub fn cursor_of(c: FlatCursor) -> Cursor
     ensures { λ r. ⌜ r ≡ cursorOf c ⌝ }
 {
-    if c.number == 0 {
+    if c.reading == 1 {
         return reading(c);
     }
-    Cursor::Refused(refusal_of(c.number, c.detail))
+    Cursor::Refused(refusal_of(c.refusal, c.detail))
 }
 
 pub fn flat_cursor(c: Cursor) -> FlatCursor
@@ -71,8 +71,9 @@ pub fn flat_cursor(c: Cursor) -> FlatCursor
         Cursor::Reading(w, p) => {
             let s = w.segments;
             FlatCursor {
-                number: 0,
+                refusal: 0,
                 detail: 0,
+                reading: 1,
                 records: w.n,
                 at: p.at,
                 address: p.addr,
@@ -86,8 +87,9 @@ pub fn flat_cursor(c: Cursor) -> FlatCursor
             }
         }
         Cursor::Refused(refusal) => FlatCursor {
-            number: refusal.number(),
+            refusal: refusal.number(),
             detail: refusal.detail(),
+            reading: 0,
             records: 0,
             at: 0,
             address: 0,
@@ -109,8 +111,9 @@ pub fn flat_tally(tally: Tally) -> FlatTally
         Tally::Counted(sums) => {
             let s = sums.segments;
             FlatTally {
-                number: 0,
+                refusal: 0,
                 detail: 0,
+                done: 1,
                 ops: sums.ops,
                 core_rows: sums.core_rows,
                 round_rows: sums.round_rows,
@@ -128,8 +131,9 @@ pub fn flat_tally(tally: Tally) -> FlatTally
             }
         }
         Tally::Refused(refusal) => FlatTally {
-            number: refusal.number(),
+            refusal: refusal.number(),
             detail: refusal.detail(),
+            done: 0,
             ops: 0,
             core_rows: 0,
             round_rows: 0,

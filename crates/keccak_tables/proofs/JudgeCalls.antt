@@ -1,11 +1,10 @@
 -- What the calls that judge two tables promise (src/judge_calls.rt), as Kept.antt says.
 use mathlib.Core.Path.{_≡_}
-use mathlib.Core.List.{[], _∷_}
 use lib.ListN.{length}
-use Rattle.verdict.specs.Verdict.{verdictWords}
 use Rattle.verdict.specs.CoreAndRound.{verdictFor}
 use Rattle.judge_within.specs.Within.{withinFor, withinAfter}
 use Rattle.flat.specs.Flat.{flatNumber}
+use Rattle.flat.specs.FlatJudged.{flatVerdict}
 use Rattle.verdict_line.specs.Line.{lineAnswer, lineAfter, withinLineAnswer, withinLineAfter, withinLineLeft}
 use Rattle.keccak_tables.proofs.Kept.{Kept}
 use Rattle.keccak_tables.proofs.judge_calls.keccak_tables_verdict.Kinds as verdict-kinds
@@ -23,7 +22,7 @@ pub record JudgeCalls : Type 0 where
       let nr = lent .0 in
       let core = lent .1 .0 .now in
       let round = lent .1 .1 .0 .now in
-      answer .kind ∷ answer .first ∷ answer .second ∷ answer .third ∷ [] ≡ verdictWords (verdictFor nr core round))
+      answer ≡ flatVerdict (verdictFor nr core round))
   -- verdict_within(nr, core, round, scratch, spare) → FlatVerdict
   pub verdict-within : Kept _ verdict-within-kinds.ps verdict-within-kinds.r verdict-within-reads.Asked verdict-within-reads.Learnt (λ _ lent answer ended.
       let nr = lent .0 in
@@ -33,7 +32,7 @@ pub record JudgeCalls : Type 0 where
       let spare = lent .1 .1 .1 .1 .0 .now in
       let scratch′ = ended .1 .1 .1 .0 .now in
       let spare′ = ended .1 .1 .1 .1 .0 .now in
-      (answer .kind ∷ answer .first ∷ answer .second ∷ answer .third ∷ [] ≡ verdictWords (withinFor nr core round (length scratch) (length spare)))
+      (answer ≡ flatVerdict (withinFor nr core round (length scratch) (length spare)))
       × ((scratch′ ≡ withinAfter nr core round (length scratch) (length spare) scratch)
       × (spare′ ≡ withinAfter nr core round (length scratch) (length spare) spare)))
   -- verdict_line(nr, core, round, line) → FlatNumber

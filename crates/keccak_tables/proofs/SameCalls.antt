@@ -1,7 +1,7 @@
 -- What the call that holds a file against a core table promises (src/same_calls.rt), as Kept.antt says.
 use mathlib.Core.Path.{_≡_}
 use Rattle.same_operations.specs.Same.{sameFor}
-use Rattle.flat.specs.Flat.{flatAgreement}
+use Rattle.flat.specs.FlatJudged.{flatAgreement}
 use Rattle.keccak_tables.proofs.Kept.{Kept}
 use Rattle.keccak_tables.proofs.same_calls.keccak_tables_same_operations.Kinds as same-operations-kinds
 use Rattle.keccak_tables.proofs.same_calls.keccak_tables_same_operations.Reads as same-operations-reads

@@ -1,45 +1,22 @@
-// The verdict on two tables, in words of 64 bits and as a line of text.
+// The verdict on two tables, and the verdict as a line of text.
 use flat::FlatNumber;
+use flat::FlatVerdict;
 use flat::flat_number;
+use flat::judged::flat_verdict;
 use judge::verdict;
 use judge_within::verdict_within;
-use judge_words::verdict_words;
-use verdict::Verdict;
 use verdict_line;
 ghost use mathlib.Core.Path.{_≡_};
-ghost use mathlib.Core.List.{[], _∷_};
 ghost use lib.ListN.{length};
-ghost use Rattle.verdict.specs.Verdict.{verdictWords};
 ghost use Rattle.verdict.specs.CoreAndRound.{verdictFor};
 ghost use Rattle.judge_within.specs.Within.{withinFor, withinAfter};
 ghost use Rattle.flat.specs.Flat.{flatNumber};
+ghost use Rattle.flat.specs.FlatJudged.{flatVerdict};
 ghost use Rattle.verdict_line.specs.Line.{lineAnswer, lineAfter, withinLineAnswer, withinLineAfter, withinLineLeft};
-
-// The four words of `verdictWords`: the kind; then the count where the tables hold, or the failure's table, row and
-// index, or a refusal's number and detail.
-#[repr(C)]
-pub struct FlatVerdict {
-    pub kind: u64,
-    pub first: u64,
-    pub second: u64,
-    pub third: u64,
-}
-
-fn flat_verdict(v: Verdict) -> FlatVerdict
-    ensures { λ r. ⌜ r .kind ∷ r .first ∷ r .second ∷ r .third ∷ [] ≡ verdictWords v ⌝ }
-{
-    let words = verdict_words(v);
-    FlatVerdict {
-        kind: words[0],
-        first: words[1],
-        second: words[2],
-        third: words[3],
-    }
-}
 
 #[no_mangle]
 pub extern "C" fn keccak_tables_verdict(nr: u64, core: &[u64], round: &[u64]) -> FlatVerdict
-    ensures { λ r. ⌜ r .kind ∷ r .first ∷ r .second ∷ r .third ∷ [] ≡ verdictWords (verdictFor nr (now (core .entry)) (now (round .entry))) ⌝ }
+    ensures { λ r. ⌜ r ≡ flatVerdict (verdictFor nr (now (core .entry)) (now (round .entry))) ⌝ }
 {
     flat_verdict(verdict(nr, core, round))
 }
@@ -52,7 +29,7 @@ pub extern "C" fn keccak_tables_verdict_within<'a>(
     scratch: &mut [u64],
     spare: &mut [u64],
 ) -> FlatVerdict
-    ensures verdict { λ r. ⌜ r .kind ∷ r .first ∷ r .second ∷ r .third ∷ [] ≡ verdictWords (withinFor nr (now (core .entry)) (now (round .entry)) (length (now (scratch .entry))) (length (now (spare .entry)))) ⌝ }
+    ensures verdict { λ r. ⌜ r ≡ flatVerdict (withinFor nr (now (core .entry)) (now (round .entry)) (length (now (scratch .entry))) (length (now (spare .entry)))) ⌝ }
     ensures scratch { λ _. ⌜ now (scratch .exit) ≡ withinAfter nr (now (core .entry)) (now (round .entry)) (length (now (scratch .entry))) (length (now (spare .entry))) (now (scratch .entry)) ⌝ }
     ensures spare { λ _. ⌜ now (spare .exit) ≡ withinAfter nr (now (core .entry)) (now (round .entry)) (length (now (scratch .entry))) (length (now (spare .entry))) (now (spare .entry)) ⌝ }
 {

@@ -16,4 +16,5 @@ pub mod register_calls;
 pub mod round_calls;
 pub mod same_calls;
 pub mod segment_calls;
+pub mod state_calls;
 pub mod tally_calls;

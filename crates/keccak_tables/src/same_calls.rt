@@ -1,9 +1,9 @@
 // An operation file against a core table.
 use flat::FlatAgreement;
-use flat::flat_agreement;
+use flat::judged::flat_agreement;
 ghost use mathlib.Core.Path.{_≡_};
 ghost use Rattle.same_operations.specs.Same.{sameFor};
-ghost use Rattle.flat.specs.Flat.{flatAgreement};
+ghost use Rattle.flat.specs.FlatJudged.{flatAgreement};
 
 #[no_mangle]
 pub extern "C" fn keccak_tables_same_operations(core: &[u64], file: &[u8]) -> FlatAgreement

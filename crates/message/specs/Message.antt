@@ -19,8 +19,6 @@ use Rattle.sha3.specs.Sha3.{blocks, added, absorbed}
 use Rattle.answer.specs.Refusal.{refuseIf, accepted, tooShort, overwrite, afterwards}
 use Rattle.answer.specs.declared.Refusal.{Refusal}
 use Rattle.answer.specs.declared.Refusal.the-variants.{HighAddress, Unaligned, LongMessage, LateTimestamp}
-use Rattle.answer.specs.declared.Number.{Number}
-use Rattle.answer.specs.declared.Number.the-variants as number
 use Rattle.keccak.specs.Row.{OP-WORDS, LAST-ADDRESS, opAt, listWords}
 use Rattle.keccak.specs.Refusals.{opCount, addressAt, tooMany, notWhole, badOperation}
 use Rattle.keccak.specs.declared.KeccakOperation.{KeccakOperation}
@@ -135,9 +133,3 @@ judgedBy false = No
 unfoldable pub judgedOf : Option Refusal → Bool → Judgement
 judgedOf none b = judgedBy b
 judgedOf (some r) b = Refused r
-
--- by number: 1 for yes, 0 for no
-abbrev pub judgementNumber : Judgement → Number
-judgementNumber Yes = number.Is 1
-judgementNumber No = number.Is 0
-judgementNumber (Refused r) = number.Refused r

@@ -13,7 +13,7 @@ ghost use mathlib.Core.Path.{_≡_};
 ghost use lib.ListN.{length};
 ghost use Rattle.sha3.specs.Sha3.{blocks};
 ghost use Rattle.answer.specs.Refusal.{numberOf};
-ghost use Rattle.message.specs.Message.{messageRefusal, messageAfter, judgedRefusal, judgedOf, judgementNumber, isMessage};
+ghost use Rattle.message.specs.Message.{messageRefusal, messageAfter, judgedRefusal, judgedOf, isMessage};
 
 pub mod blocks;
 pub mod checks;
@@ -23,19 +23,6 @@ pub enum Judgement {
     Yes,
     No,
     Refused(Refusal),
-}
-
-impl Judgement {
-    // By number, as it passes by C linkage: 1 for yes, 0 for no.
-    pub fn number(self) -> Number
-        ensures { λ r. ⌜ r ≡ judgementNumber self ⌝ }
-    {
-        match self {
-            Judgement::Yes => Number::Is(1),
-            Judgement::No => Number::Is(0),
-            Judgement::Refused(refusal) => Number::Refused(refusal),
-        }
-    }
 }
 
 // The operations that hash a message, all at one address, from a first timestamp on: how many there are.

@@ -5,14 +5,10 @@
 use mathlib.Core.Path.{_≡_, refl}
 use mathlib.Core.Bool.{true}
 use mathlib.Core.List.{List, [], _∷_}
-use Rattle.answer.specs.declared.Refusal.{Refusal}
-use Rattle.answer.specs.declared.Number.the-variants as number
 use Rattle.tuple.specs.declared.Bus.the-variants.{Msb8, Msb16, Zero, IsB20, Hwsl}
 use Rattle.text.specs.Names.{busName}
 use Rattle.tally_arguments.specs.Arguments.{argumentsOf}
 use Rattle.tally_arguments.proofs.Cases.{shipped-anywhere}
-use Rattle.message.specs.Message.{judgementNumber}
-use Rattle.message.specs.declared.Judgement.the-variants.{Yes, No, Refused}
 use Rattle.flat.proofs.Cases.{FlatCases, flat-cases}
 use Rattle.keccak_tables.proofs.CoreCalls.{CoreCalls, core-calls}
 use Rattle.keccak_tables.proofs.RoundCalls.{RoundCalls, round-calls}
@@ -29,6 +25,7 @@ use Rattle.keccak_tables.proofs.SameCalls.{SameCalls, same-calls}
 use Rattle.keccak_tables.proofs.TallyCalls.{TallyCalls, tally-calls}
 use Rattle.keccak_tables.proofs.MessageCalls.{MessageCalls, message-calls}
 use Rattle.keccak_tables.proofs.MonthCalls.{MonthCalls, month-calls}
+use Rattle.keccak_tables.proofs.StateCalls.{StateCalls, state-calls}
 
 -- "Memory lent to a call (row, tuple, counters, table) holds afterwards exactly what an accepted call writes, with words past that
 -- untouched; after a refusal it holds its old words. This covers every input": what each export tells of its answer and of
@@ -49,6 +46,7 @@ pub record Exports : Type 0 where
   pub tally : TallyCalls
   pub messages : MessageCalls
   pub month : MonthCalls
+  pub state : StateCalls
 
 pub exports : Exports
 exports =
@@ -68,15 +66,12 @@ exports =
       tally = tally-calls;
       messages = message-calls;
       month = month-calls;
+      state = state-calls;
     }
 
 -- which word of a flat struct says what, on written-out answers
 pub words-flat : FlatCases
 words-flat = flat-cases
-
--- Item 13, the judge's answer as a number: 1 is yes, 0 is no, and a refusal stays one
-pub judgement-numbers : (judgementNumber Yes ≡ number.Is 1) × (judgementNumber No ≡ number.Is 0) × ((r : Refusal) → judgementNumber (Refused r) ≡ number.Refused r)
-judgement-numbers = (refl, refl, λ r. refl)
 
 -- "`tally` gains a shipped mode, chosen by the argument `shipped`": by these seven bytes
 pub shipped-bytes : (argumentsOf ((115 ∷ 104 ∷ 105 ∷ 112 ∷ 112 ∷ 101 ∷ 100 ∷ []) ∷ [])) .shipped ≡ true

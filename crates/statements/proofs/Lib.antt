@@ -6,3 +6,4 @@ pub mod Lines
 pub mod Segments
 pub mod Calls
 pub mod Exports
+pub mod Answers

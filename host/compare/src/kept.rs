@@ -1,5 +1,5 @@
 //! After a refusal every lent word is as it was: each call by each of its refusals, with drawn words in every slice, all of which have room but
-//! for what is refused. [`CALLS`] says what each call is lent; what makes it refuse follows from that, and what does not stands beside it.
+//! for what is refused. `CALLS` says what each call is lent; what makes it refuse follows from that, and what does not stands beside it.
 
 use keccak_tables::bitwise::{self, BitwiseOperation, BitwiseOperationType, NUM_COUNTERS};
 use keccak_tables::is_wh::{self, MAX_KEYS};
@@ -9,7 +9,8 @@ use keccak_tables::operation_file::{SEGMENT_RECORD_BYTES, Tally, read_operations
 use keccak_tables::same_operations::same_operations;
 use keccak_tables::verdict::{self, LINE_MOST};
 use keccak_tables::{
-    MAX_OPS, OP_WORDS, P, Parameters, Refusal, SEGMENT_WORD, job, keccak, keccak_rc, keccak_rnd, registers, segment,
+    MAX_OPS, OP_WORDS, P, Parameters, Refusal, SEGMENT_WORD, job, keccak, keccak_rc, keccak_rnd, permutation,
+    registers, segment,
 };
 
 use crate::comparison::Comparison;
@@ -156,6 +157,9 @@ enum Change {
     Other(fn(&mut Given)),
 }
 
+/// A refusal's number, and what makes a call refuse by it.
+type Other = (u64, fn(&mut Given));
+
 /// A call's numbers, the slices and the bytes that it is lent.
 type Run = fn(&Given, [&mut [u64]; 5], &mut [u8]) -> Result<(), Refusal>;
 
@@ -167,7 +171,7 @@ struct Call {
     /// Whether it takes a number that can be past its end.
     numbered: bool,
     /// What else it refuses.
-    others: &'static [(u64, fn(&mut Given))],
+    others: &'static [Other],
     run: Run,
 }
 
@@ -196,7 +200,7 @@ impl Call {
         Self { bytes, ..self }
     }
 
-    const fn and(self, others: &'static [(u64, fn(&mut Given))]) -> Self {
+    const fn and(self, others: &'static [Other]) -> Self {
         Self { others, ..self }
     }
 
@@ -364,11 +368,11 @@ const WRONG_MARK: (u64, fn(&mut Given)) = (6, |given| {
     given.bytes[start] = 0;
 });
 /// A kind past the last.
-const WRONG_KIND: (u64, fn(&mut Given)) = (1, |given| given.slices[1][bitwise::LOOKUP_WORDS] = 10);
+const WRONG_KIND: Other = (1, |given| given.slices[1][bitwise::LOOKUP_WORDS] = 10);
 /// Whichever counter is charged, it is no element.
-const NO_COUNTERS: (u64, fn(&mut Given)) = (5, |given| given.slices[1].fill(P));
+const NO_COUNTERS: Other = (5, |given| given.slices[1].fill(P));
 /// A register that is not in use.
-const NO_REGISTER: (u64, fn(&mut Given)) = (10, |given| given.number = 2);
+const NO_REGISTER: Other = (10, |given| given.number = 2);
 
 /// A kind of lookup.
 const AND: BitwiseOperationType = BitwiseOperationType::ALL[7];
@@ -381,7 +385,7 @@ fn fed(bytes: &[u8]) -> Tally {
 }
 
 /// Every call of the archive that refuses anything.
-const CALLS: [Call; 57] = [
+const CALLS: [Call; 58] = [
     numbered("generate_bitwise_row", &[out(11)], |given, [row, ..], _| {
         bitwise::generate_bitwise_row(given.number, row)
     }),
@@ -467,9 +471,11 @@ const CALLS: [Call; 57] = [
         |_, [rows, counters, ..], _| is_wh::collect_bitwise_from_is_wh(rows, counters),
     )
     .and(&[NO_COUNTERS]),
-    numbered("is_wh_bus_interaction", &[row(4), tuple(1)], |given, [row, out, ..], _| {
-        is_wh::bus_interaction(row, given.number, out).map(drop)
-    }),
+    numbered(
+        "is_wh_bus_interaction",
+        &[row(4), tuple(1)],
+        |given, [row, out, ..], _| is_wh::bus_interaction(row, given.number, out).map(drop),
+    ),
     numbered("keccak_row", &[OPS, out(486)], |given, [ops, row, ..], _| {
         keccak::keccak_row(ops, given.number, row)
     }),
@@ -563,6 +569,9 @@ const CALLS: [Call; 57] = [
         (1, |given| given.slices[0][1] = MAX_OPS as u64 + 1),
         (14, |given| given.slices[0] = vec![1; MAX_FILES + 1]),
     ]),
+    call("keccak_f", &[out(25)], |given, [state, ..], _| {
+        permutation::keccak_f_with(given.with, state)
+    }),
     call(
         "message_operations",
         &[out(2 * OP_WORDS)],

@@ -6,7 +6,7 @@
 //! of its own, on the tables of `dishonest` and in the `orders` of their rows, in the `scratch` that it is lent, `lines` its line of text, `jobs` the report on a job's segments. `tally`
 //! reads operation files, beside `plain_file`, which reads them too, `limit` the longest ones, and `refusals` has the table of what each call refuses, by which `kept` holds every lent slice against its old words. `rounds` has every number of
 //! rounds, by what `by_rounds` makes of the Rust's 24, and `floors` every floor, by what `by_floor` makes of the Rust's 4; `month` has the month
-//! by exact fractions, `message` what is written and judged for messages, by a SHA3-256 of its own, `plain_sha3`; `same` has a
+//! by exact fractions, `message` what is written and judged for messages, by a SHA3-256 of its own, `plain_sha3`, and `permutation` the permutation by itself; `same` has a
 //! core table against an operation file, by a matching over a hash map. A further area is a module beside them and a name in `bin/differential.rs`. `cases` has the small tables of the program `verdict_cases`.
 
 #![deny(unsafe_code)]
@@ -32,6 +32,7 @@ pub mod looked_up;
 pub mod message;
 pub mod month;
 pub mod orders;
+pub mod permutation;
 pub mod plain_charge;
 pub mod plain_file;
 pub mod plain_sha3;

@@ -77,7 +77,7 @@ pub fn operations_of(file: &[u8]) -> Vec<u64> {
 /// is marked 4B 50; else three zeros.
 pub fn segments(file: &[u8]) -> [u64; 3] {
     let records = records(file);
-    let counted = records.iter().filter(|(_, record)| address(record) % 8 == 0);
+    let counted = records.iter().filter(|(_, record)| address(record).is_multiple_of(8));
     let marked = counted.clone().any(|(_, record)| record[1] == b'P');
     let numbers: Vec<u64> = counted.map(|(_, record)| segment(record).into()).collect();
     match (marked, numbers.iter().min(), numbers.iter().max()) {

@@ -22,13 +22,13 @@ fn constants() -> [u64; 24] {
             let bit = u64::from(register & 1);
             // The polynomial x^8 + x^6 + x^5 + x^4 + 1, lowest bit first.
             let carry = register >> 7;
-            register = register << 1 ^ carry * 0b0111_0001;
+            register = (register << 1) ^ (carry * 0b0111_0001);
             constant | bit << ((1 << j) - 1)
         })
     })
 }
 
-/// Keccak-f[1600] of 25 lanes, lane (x, y) at x + 5y.
+/// `Keccak-f[1600]` of 25 lanes, lane (x, y) at x + 5y.
 pub fn permuted(mut lanes: [u64; 25]) -> [u64; 25] {
     let offsets = offsets();
     for constant in constants() {

@@ -24,13 +24,14 @@ use crate::scratch::Scratch;
 use crate::tally::read;
 use crate::untouched::Untouched;
 use crate::{
-    charge, jobs, kept, lines, looked_up, message, month, registers, rounds, rows, same, tuples, values, verdicts,
+    charge, jobs, kept, lines, looked_up, message, month, permutation, registers, rounds, rows, same, tuples, values,
+    verdicts,
 };
 
 /// The numbers with which each call is tried, 0 being that it does its work. What only a file of 37 GB can cause is in
 /// `limit.rs`: 1 in `tally_feed`, `tally_finish`, `read_operations` and `same_operations`. No file is refused by 7. The bindings' lookups have no kind past the
 /// last; the tests of the header try it. What depends on the number of rounds is refused by 8 before all that stands here: `charge`, `look`, the
-/// multiplicities of a constant table, a round table, its rows, height and padding, the tuples of a core row, `verdict`, `verdict_line`, `job` and these three in lent memory. What
+/// multiplicities of a constant table, a round table, its rows, height and padding, the tuples of a core row, the permutation, `verdict`, `verdict_line`, `job` and these three in lent memory. What
 /// depends on the floor is refused by 9 then: `charge`, `look`, a core table, its height, a round table, its height and padding, `tally_finish`.
 /// What goes through a register, `register_charge` and `register_look`, is refused by 8, 9 and 10.
 /// `month` is refused by 8, by 9 and then by 14.
@@ -54,6 +55,7 @@ use crate::{
 /// | values, all tuples | | | row, slice | | column | |
 /// | a tuple | index | | row, slice | | column | |
 /// | `month`, after 14 | a count | | slice | | | |
+/// | the permutation | | | state | | | |
 /// | `verdict` | | core, round | | | core, round | |
 /// | `verdict_line` | | core, round | line | | core, round | |
 /// | `job` | | core, round, counts | report | | core, round | |
@@ -63,7 +65,7 @@ use crate::{
 /// | a file's reader | n | | | address | | mark, cut |
 /// | `read_operations` | n | | list | address | | mark, cut |
 /// | `same_operations`, 2 and 5 first | n | core | | address | core | mark, cut |
-pub const MATRIX: [(&str, &[u64]); 62] = [
+pub const MATRIX: [(&str, &[u64]); 63] = [
     ("generate_bitwise_row", &[0, 1, 3]),
     ("bitwise_row_index", &[0, 1]),
     ("bitwise_bump", &[0, 1, 3, 5]),
@@ -112,6 +114,7 @@ pub const MATRIX: [(&str, &[u64]); 62] = [
     ("register_charge", &[0, 1, 2, 3, 4, 5, 7, 8, 9, 10, 11]),
     ("register_look", &[0, 1, 2, 3, 4, 5, 7, 8, 9, 10, 11]),
     ("month", &[0, 1, 3, 8, 9, 14]),
+    ("keccak_f", &[0, 3, 8]),
     ("message_operations", &[0, 3, 4, 7, 12, 13]),
     ("judge_message", &[0, 1, 2, 4, 7, 11, 12]),
     ("verdict", &[0, 2, 5, 8]),
@@ -143,6 +146,7 @@ pub fn compare(comparison: &mut Comparison, seed: u64, n: usize) {
     }
     rounds::refusals::compare(comparison, &mut words);
     month::refusals(comparison, &mut words, n);
+    permutation::refusals(comparison, &mut words);
     message::refusals::compare(comparison, &mut words);
     same::refusals::compare(comparison, &mut words);
     comparison.group("refusals: counters, every set of conditions");

@@ -1,4 +1,5 @@
-//! `explain core|round column|value|tuple INDEX`: what stands at an index, in words; `explain LINE`: what the line of a verdict says.
+//! `explain core|round column|value|tuple INDEX`: what stands at an index, in words; `explain LINE`: what a line says that
+//! `judge`, `job` or `same` printed, or a refusal.
 
 use std::ffi::OsString;
 
@@ -8,16 +9,20 @@ use keccak_tables::verdict::Table;
 use keccak_tables::{Bus, Side};
 
 mod failed;
+mod lines;
 
 pub fn explain(arguments: &[OsString], streams: &mut Streams) -> Result<Outcome, Failure> {
     let words: Option<Vec<&str>> = arguments.iter().map(|argument| argument.to_str()).collect();
     let words: Option<Vec<&str>> = words.map(|words| words.iter().flat_map(|word| word.split(' ')).collect());
-    let text = match words.as_deref() {
-        Some(line @ (["holds", _] | [_, "row", ..])) => failed::text(line).map_err(Failure::Usage)?,
-        Some([table, kind, index]) => text(table, kind, index).map_err(Failure::Usage)?,
+    let words = words.unwrap_or_default();
+    let text = match (lines::text(&words), words.as_slice()) {
+        (Some(text), _) => text.map_err(Failure::Usage)?,
+        (None, line @ (["holds", _] | [_, "row", ..])) => failed::text(line).map_err(Failure::Usage)?,
+        (None, [table, kind, index]) => text(table, kind, index).map_err(Failure::Usage)?,
         _ => {
             return Err(Failure::Usage(
-                "explain takes core or round, then column, value or tuple, then INDEX; or the line of a verdict".into(),
+                "explain takes core or round, then column, value or tuple, then INDEX; or a line that another command printed"
+                    .into(),
             ));
         }
     };

@@ -109,21 +109,25 @@ static CONSTANTS: LazyLock<HashSet<[u64; keccak_rc::NUM_PRECOMPUTED_COLS]>> = La
 
 /// Whether a tuple needs no match or has one. What belongs to tables outside, and the Keccak bus, which is balanced, need none here.
 fn is_found(tuple: &BusInteraction, values: &[u64]) -> bool {
+    tuple.multiplicity == 0 || is_found_on(tuple.bus, values)
+}
+
+/// Whether these values are found where they are looked up.
+pub(crate) fn is_found_on(bus: Bus, values: &[u64]) -> bool {
     let byte = |value: u64| value < 256;
-    tuple.multiplicity == 0
-        || match (tuple.bus, values) {
-            (Bus::ByteAlu, &[operation, left, right, result]) => {
-                let expected = [left & right, left | right, left ^ right];
-                byte(left) && byte(right) && expected.get(operation as usize) == Some(&result)
-            }
-            (Bus::AreBytes, &[low, high]) => byte(low) && byte(high),
-            (Bus::IsHalfword, &[half]) => half < 1 << 16,
-            (Bus::IsWh, &[word, half]) => word < 1 << 32 && half < 1 << 16,
-            (Bus::KeccakRc, values) => values
-                .try_into()
-                .is_ok_and(|values: [u64; 9]| CONSTANTS.contains(&values)),
-            (bus, _) => [Bus::Keccak, Bus::Memw, Bus::Ecall].contains(&bus),
+    match (bus, values) {
+        (Bus::ByteAlu, &[operation, left, right, result]) => {
+            let expected = [left & right, left | right, left ^ right];
+            byte(left) && byte(right) && expected.get(operation as usize) == Some(&result)
         }
+        (Bus::AreBytes, &[low, high]) => byte(low) && byte(high),
+        (Bus::IsHalfword, &[half]) => half < 1 << 16,
+        (Bus::IsWh, &[word, half]) => word < 1 << 32 && half < 1 << 16,
+        (Bus::KeccakRc, values) => values
+            .try_into()
+            .is_ok_and(|values: [u64; 9]| CONSTANTS.contains(&values)),
+        (bus, _) => [Bus::Keccak, Bus::Memw, Bus::Ecall].contains(&bus),
+    }
 }
 
 fn repeated(core: &Rows, found: &mut Vec<Verdict>) {

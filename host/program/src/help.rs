@@ -2,7 +2,7 @@
 
 use std::ffi::OsString;
 
-use super::{Failure, Outcome, Streams};
+use super::{Failure, Outcome, Streams, options};
 
 /// A command: its name, what stands behind it, and what it does, in short and at length.
 pub struct Command {
@@ -32,9 +32,10 @@ Exit status: 0 where every answer is the expected one, else 1.
         short: "writes the core and the round table of an operation file, or with --all every table of its segment",
         long: "\
 Reads the operation file OPS to its end and, where nothing in it is refused, writes its two tables, padding rows included,
-and prints the count of operations and the two heights. OPS is read twice, so it can't be a pipe. A table is written beside
-its name, as NAME.N.part, and takes its name when both are whole: a run that is cut short leaves what was there before.
-The three names must lead to three files, and none to where the program prints.
+and prints the count of operations and the two heights. A file OPS is read twice; of a pipe the operations are held in memory.
+The tables are written beside their names and take them together, when both are on the disk and the lines are printed: a run
+that fails leaves what was there before. What a kill leaves open between the two names, the next command that comes upon
+either finishes or undoes, and says so. The three names must lead to three files, and none to where the program prints.
 With --rounds NR the round table has NR rows to an operation, those of the last NR of the 24 rounds: NR is 1 to 24, and 24
 where it is not given. Another number is refused by 8, before any file is read.
 With --floor F neither table has fewer than F rows: F is a power of two from 4 to 65536, and 4 where it is not given. Another
@@ -43,7 +44,7 @@ With --all it makes the folder DIR with the files core, round, is_wh, constants 
 constants' multiplicities are the count of operations, those of the bitwise table what the rows of the core, the round and the
 IS_WH table look up, padding rows included. Of an empty file there is no is_wh, and without --shipped no core and no round, so
 that every lookup of a file is counted in another; what is not there has height 0. DIR must be new or empty; it is written
-beside its name, as DIR.N.part, and has all its tables or is as it was. The list of operations is held in memory.
+beside its name, and has all its tables or is as it was. The list of operations is held in memory.
 Exit status: 0 the tables are there; 1 refused; 2 a file can't be read or written.
 ",
     },
@@ -55,7 +56,7 @@ Exit status: 0 the tables are there; 1 refused; 2 a file can't be read or writte
 Prints one line: `holds N`, N the active core rows; or `core` or `round`, `row R`, and `value I`, `lookup I`, `timestamp 0`
 or `balance I`, all from 0; behind a lookup or a balance the bus's name and the tuple's values. `keccak-tables explain TABLE
 value I` says what a value is, `explain TABLE tuple I` what the tuple of a lookup or a balance is. Both files are held in
-memory, and 32 bytes beside them for each of their rows, which may stand in any order. With --all every failing value, lookup,
+memory, and 32 bytes beside them for each of their rows, which may stand in any order; of what is no file at most 4 GiB. With --all every failing value, lookup,
 timestamp and tuple has a line, without values, the first being the verdict's; with --most N the first N of them. A failure
 can bring others with it.
 With --rounds NR the tables are judged as those of NR rounds, 1 to 24: a core row hands its INPUT to round 24 - NR, and what
@@ -66,11 +67,11 @@ Exit status: 0 the tables hold; 1 they don't, or refused; 2 a file can't be read
     },
     Command {
         name: "job",
-        arguments: "[--rounds NR] CORE ROUND COUNTS",
+        arguments: "[--rounds NR] [--binary] CORE ROUND COUNTS",
         short: "says of each segment of a job, and then of the job, whether its tables hold together",
         long: "\
-CORE and ROUND have all rows of a job's segments, one segment after the other; COUNTS is a file of words, two a segment: its
-core rows and its round rows. Prints for each segment, from 0, `segment I: VERDICT`, and then `job: VERDICT`, a verdict as
+CORE and ROUND have all rows of a job's segments, one segment after the other; COUNTS is a text, on each line two decimals, a
+segment's core rows and its round rows; with --binary it is a file of words, two a segment. Prints for each segment, from 0, `segment I: VERDICT`, and then `job: VERDICT`, a verdict as
 `judge` prints it, without the tuple; rows count from the first of what was judged. Where every segment holds and no timestamp
 is active in two of them, the job holds. It can hold where a segment does not: a round row stands with another segment. Counts
 that are not pairs, or whose sums are not the rows of the tables, are refused by 2 with detail 2. The files are held in memory,
@@ -118,8 +119,7 @@ for each kind, `KIND SUM LARGEST`: how many lookups the core and the round table
 kind's largest counter after them. No file is changed. Of an empty OPS they make none; with --shipped they make those of
 their zero rows, 220 times the floor of ARE_BYTES. The round table is that of NR rounds, 1 to 24 and 24 without --rounds;
 neither table has fewer rows than the floor F, a power of two from 4 to 65536 and 4 without --floor. Another number of rounds
-is refused by 8 and another floor by 9, before any file is read. OPS is read twice, so it can't be a pipe; both files are held
-in memory.
+is refused by 8 and another floor by 9, before any file is read. Both files are held in memory.
 With --register R the charge is one of register R, which has ten words of LEDGERS from word 10 R on, the sums that it has
 charged of each kind, mod p. In use are as many registers as whole ledgers stand in LEDGERS, 16 at most; another is refused by
 10, after 9 and before OPS is read. Ten more lines, `ledger KIND SUM`, are the register's ledger as the charge would leave it.
@@ -128,16 +128,23 @@ Exit status: 0; 1 refused; 2 a file can't be read.
     },
     Command {
         name: "charge",
-        arguments: "[--rounds NR] [--floor F] [--shipped] [--register R --ledgers LEDGERS] OPS COUNTERS",
+        arguments: "[--again] [--rounds NR] [--floor F] [--shipped] [--register R --ledgers LEDGERS] OPS COUNTERS",
         short: "charges the lookups of an operation file to a file of the bitwise table's counters",
         long: "\
 Adds to the counters what the core and the round table of OPS look up, mod p, and prints `KIND SUM` for each kind: it is the
-look, whose counters then take the place of the file. They are written beside it, as NAME.N.part, and take its name when they
-are on the disk and the lines are printed; words past the counters stay. A run that fails or is cut short leaves the file as
-it was. Two runs at once are made one after the other. What the IS_WH table looks up is not among it (`write --all`).
+look, whose counters then take the place of the file. They are written beside it, and take its name when they are on the disk
+and the lines are printed; words past the counters stay. Two runs at once are made one after the other. What the IS_WH table
+looks up is not among it (`write --all`).
 With --register R --ledgers LEDGERS the sums are added to the register's ledger too, mod p, and every other word of LEDGERS
-stays; both files are written beside their names and take them together, or neither does.
-Exit status: 0 exactly where the file, or both, are charged; 1 refused; 2 a file can't be read or written.
+stays.
+The last line, `digest D`, is the SHA-256 of what was charged: operations, rounds, floor, mode and register. It is recorded in
+COUNTERS.charged, a text with a line for each charge. All these files take their names together, or none does. What stands in
+the record is not charged again: the line is `charged D`, the status 1; with --again it is charged once more. Of counters that
+are all 0 the record is begun anew.
+So a charge that was cut short can be asked for again until its status is 0, or 1 with `charged D`, and is then made exactly
+once. Signals are held back from the first name on; a kill, or a machine that stops, may leave the charge open there: then the
+next command that comes upon these files finishes or undoes it, and says so.
+Exit status: 0 exactly where the files are charged; 1 refused, or charged before; 2 a file can't be read or written.
 ",
     },
     Command {
@@ -146,14 +153,14 @@ Exit status: 0 exactly where the file, or both, are charged; 1 refused; 2 a file
         short: "says how full the round tables of a month's files are, from a text of operation counts",
         long: "\
 COUNTS, or standard input, is a text: on each line a decimal, the operations of a file; 4096 files at most. Prints `files N`,
-`operations N`, `used-rows N` and `padding-rows N` of all round tables; `fullest USED TOTAL` and `emptiest USED TOTAL`, the
-rows of the fullest and of the emptiest round table, the first of those that are equally full, where there is a file; and
-`height H N`, how many files have a round table of H rows, for each of the 30 heights from 4 to 2147483648. On a terminal the
+`operations N`, `used-rows N` and `padding-rows N` of all round tables; `fullest USED TOTAL file I` and `emptiest USED TOTAL
+file I`, the rows of the fullest and of the emptiest round table and its line in COUNTS, the first of those that are equally
+full, where there is a file; and `height H N`, how many files have a round table of H rows, for each of the 30 heights from 4 to 2147483648. On a terminal the
 heights are drawn as bars instead. A file without operations counts as one whose table is shipped, padding alone. An operation
 has NR rows, 1 to 24 and 24 without --rounds; no table has fewer rows than the floor F, a power of two from 4 to 65536 and 4
 without --floor. Another number of rounds is refused by 8 and another floor by 9, before COUNTS is read; more files by 14,
-then a count above 89478485 by 1. With --svg FILE a picture is drawn to FILE: how full each file's round table is, file by
-file. It is written beside its name, as NAME.N.part, and takes it when all is printed.
+then a count above 89478485 by 1. A text has at most 16 MiB. With --svg FILE a picture is drawn to FILE: how full each file's
+round table is, file by file. It is written beside its name, and takes it when all is printed.
 Exit status: 0; 1 refused; 2 COUNTS can't be read or is no such text, or FILE can't be written.
 ",
     },
@@ -165,7 +172,7 @@ Exit status: 0; 1 refused; 2 COUNTS can't be read or is no such text, or FILE ca
 Writes the operation file OPS: the calls of the permutation that hash the bytes of the file MESSAGE, a block of 136 bytes
 each, all with their state at ADDRESS, the first at TIMESTAMP and each other one later. Prints their number, `ops N`, and the
 digest in hexadecimal, `sha3-256 D`. A message has at most 65,536 bytes, else 12 refuses it; timestamps that would pass
-2^64 - 1 are refused by 13, an address by 4 or 7. OPS is written beside its name, as OPS.N.part, and takes it when it is whole.
+2^64 - 1 are refused by 13, an address by 4 or 7. OPS is written beside its name, and takes it when all is printed.
 Exit status: 0 the file is there; 1 refused; 2 a file can't be read or written.
 ",
     },
@@ -176,19 +183,20 @@ Exit status: 0 the file is there; 1 refused; 2 a file can't be read or written.
         long: "\
 Prints `yes` where the records of OPS are what `message` writes for the file MESSAGE, at the address and from the timestamp of
 the first record on, and else `no`; an empty OPS gets `no`. OPS is refused as `tally` refuses it, then MESSAGE by 12 where it
-has more than 65,536 bytes, then a record at an address that is no multiple of 8 by 7. OPS is read twice, so it can't be a pipe.
+has more than 65,536 bytes, then a record at an address that is no multiple of 8 by 7.
 Exit status: 0 yes; 1 no, or refused; 2 a file can't be read.
 ",
     },
     Command {
         name: "explain",
         arguments: "core|round column|value|tuple INDEX, or LINE",
-        short: "says what a column, a constraint value or a tuple of a row is, or what the line of a verdict says",
+        short: "says what a column, a constraint value or a tuple of a row is, or what a line says that was printed",
         long: "\
 Says what stands at an index: group, x, y, byte or halfword; a value's formula; a tuple's bus, side and operands by the
-columns' names. A column's name, as in THETA[1][2][3] (x, y, byte), may stand for its index. Of a line that `judge` printed, as
-one argument or as many, it says which rule failed, what the columns are and what was found there.
-Exit status: 0; 2 there is no such index, or the line is no verdict.
+columns' names. A column's name, as in THETA[1][2][3] (x, y, byte), may stand for its index. Of a line that `judge`, `job` or
+`same` printed, or of `refused N D`, as one argument or as many, it says what that means: which rule failed, what the columns
+are and what was found there.
+Exit status: 0; 2 there is no such index, or the line is none of these.
 ",
     },
 ];
@@ -201,11 +209,21 @@ A table is a file of words, row after row: 486 to a core row, 1,480 to a round r
 
 What is refused gives the line `refused N D`, and what that means on standard error. An address is to be a multiple of 8: `tally`
 counts records at others apart, and what makes tables of the operations refuses the first of them, by 7.
+Files that are written take their names when they are whole, on the disk, and the lines are printed; several together, or none.
+While they do, NAME.keccak-lock, NAME.keccak-journal and NAME.X.part or NAME.X.old stand beside them, X being drawn; what a run
+that was killed leaves of these, the next command on the name ends and removes. Of what is no file at most 4 GiB are held.
 Exit status: 0 fine; 1 the tables do not hold, or refused; 2 wrong usage, or a file that can't be read or written.
 ";
 
-/// That a command was given something else than it takes.
-pub fn wrong(name: &str) -> Failure {
+/// That a command was given something else than it takes. An option behind a file is named.
+pub fn wrong(name: &str, files: &[OsString]) -> Failure {
+    if let Some(late) = files.iter().find(|word| options::is_option(word)) {
+        let words = format!(
+            "{name}: {} stands behind a file, and options stand before the files",
+            late.display()
+        );
+        return Failure::Usage(words);
+    }
     let takes = COMMANDS.iter().find(|command| command.name == name);
     let arguments = takes.map_or("", |command| command.arguments);
     Failure::Usage(format!("{name} takes {arguments}"))
@@ -214,6 +232,7 @@ pub fn wrong(name: &str) -> Failure {
 pub fn help(arguments: &[OsString], streams: &mut Streams) -> Result<Outcome, Failure> {
     let text = match arguments {
         [] => all(),
+        [name] if ["help", "--help", "-h"].iter().any(|word| name == word) => all(),
         [name] => match COMMANDS.iter().find(|command| name == command.name) {
             Some(Command {
                 name, arguments, long, ..

@@ -1,24 +1,36 @@
 //! `job CORE ROUND COUNTS`: the verdicts on the segments of a job, a line each, and then that on the job. `--rounds NR` judges tables of NR
-//! rounds.
+//! rounds, with `--binary` COUNTS is a file of words.
 
 use std::ffi::OsString;
 use std::path::Path;
 
+use super::commit::open_together;
+use super::files::zeros;
 use super::judge::{rows, words};
+use super::numbers::numbers;
 use super::options::Options;
 use super::progress::Waiting;
 use super::{Failure, Outcome, Streams, files, help, refused};
-use keccak_tables::job::{COUNT_WORDS, Report};
+use keccak_tables::job::{COUNT_WORDS, Report, VERDICT_WORDS};
+use keccak_tables::verdict::scratch_words;
 use keccak_tables::{Lent, Refusal, keccak, keccak_rnd};
 
 pub fn job(arguments: &[OsString], streams: &mut Streams) -> Result<Outcome, Failure> {
-    let wrong = || help::wrong("job");
-    let (options, files) = Options::read(&["--rounds"], arguments).ok_or_else(wrong)?;
-    let [core, round, counts]: &[OsString; 3] = files.try_into().map_err(|_| wrong())?;
+    let (options, files) = Options::read("job", &["--rounds", "--binary"], arguments)?;
+    let files: &[OsString; 3] = files.try_into().map_err(|_| help::wrong("job", files))?;
     let parameters = options.parameters()?;
-    let core = files::read_words(Path::new(core))?;
-    let round = files::read_words(Path::new(round))?;
-    let counts = files::read_words(Path::new(counts))?;
+    let paths = files.each_ref().map(Path::new);
+    let [core, round, counts] = open_together(paths, streams.errors)?;
+    let core = files::words(paths[0], core)?;
+    let round = files::words(paths[1], round)?;
+    let counts = match options.has("--binary") {
+        true => files::words(paths[2], counts)?,
+        false => numbers(paths[2], counts, COUNT_WORDS)?,
+    };
+    // The call takes as much, and gives it back.
+    drop(zeros::<u64>(
+        scratch_words(&core, &round) + 2 * counts.len() + VERDICT_WORDS,
+    )?);
     let waiting = Waiting::new(&format!(
         "judging {} rows in {} segments, and then as one job",
         rows(&core, &round),
@@ -46,7 +58,7 @@ fn said(refusal: Refusal, core: &[u64], round: &[u64], counts: &[u64]) -> String
     match refusal {
         Refusal::NotWhole { which: Lent::List, .. } => {
             let sum = |k| -> u128 { counts.iter().skip(k).step_by(COUNT_WORDS).map(|&n| u128::from(n)).sum() };
-            if counts.len() % COUNT_WORDS == 0 {
+            if counts.len().is_multiple_of(COUNT_WORDS) {
                 format!(
                     "COUNTS has {} core rows and {} round rows, and the tables have {} and {}",
                     sum(0),

@@ -1,47 +1,57 @@
 //! `judge CORE ROUND`: the verdict on two tables, as one line; `judge --all CORE ROUND`: every failure. `--rounds NR` judges tables of NR rounds.
 
 use std::ffi::OsString;
+use std::io::{BufWriter, Write};
 use std::path::Path;
 
+use super::commit::open_together;
 use super::failures::failures;
+use super::files::zeros;
 use super::options::Options;
 use super::progress::{Progress, Waiting};
 use super::{Failure, Outcome, Streams, files, help, refused};
-use keccak_tables::verdict::{Table, verdict_text_with};
+use keccak_tables::verdict::{LINE_MOST, Table, scratch_words, verdict_line_within_with};
 use keccak_tables::{Lent, Parameters, Refusal, keccak, keccak_rnd, layout};
 
 pub fn judge(arguments: &[OsString], streams: &mut Streams) -> Result<Outcome, Failure> {
-    let (options, most, [core, round]) = options(arguments).ok_or_else(|| help::wrong("judge"))?;
+    let (options, most, files) = options(arguments)?;
     let parameters = options.parameters()?;
-    let core = files::read_words(Path::new(core))?;
-    let round = files::read_words(Path::new(round))?;
+    let paths = files.each_ref().map(Path::new);
+    let [core, round] = open_together(paths, streams.errors)?;
+    let core = files::words(paths[0], core)?;
+    let round = files::words(paths[1], round)?;
+    let (mut scratch, mut line) = (zeros(scratch_words(&core, &round))?, [0; LINE_MOST]);
     let waiting = Waiting::new(&format!("judging {} rows", rows(&core, &round)));
-    let answer = verdict_text_with(parameters, &core, &round);
-    drop(waiting);
-    let holds = |line: &str| line.starts_with("holds ");
-    match (answer, most) {
-        (Ok(line), Some(most)) if !holds(&line) => {
-            list(parameters, &core, &round, most, streams)?;
-            Ok(Outcome::DoesNotHold)
-        }
-        (Ok(line), _) => {
-            writeln!(streams.output, "{line}")?;
-            Ok(Outcome::of(holds(&line)))
-        }
-        (Err(refusal), _) => refused(refusal, &words(refusal, &core, &round), streams),
+    let answer = verdict_line_within_with(parameters, &core, &round, &mut line, &mut scratch);
+    drop((waiting, scratch));
+    let line = match answer {
+        Ok(length) => String::from_utf8_lossy(&line[..length]),
+        Err(refusal) => return refused(refusal, &words(refusal, &core, &round), streams),
+    };
+    let holds = line.starts_with("holds ");
+    match most.filter(|_| !holds) {
+        Some(most) => list(parameters, &core, &round, most, streams)?,
+        None => writeln!(streams.output, "{line}")?,
     }
+    Ok(Outcome::of(holds))
 }
 
 /// The options, how many failures are wanted, where more than the verdict is, and the two files.
-fn options(arguments: &[OsString]) -> Option<(Options<'_>, Option<usize>, &[OsString; 2])> {
-    let (options, files) = Options::read(&["--rounds", "--all", "--most"], arguments)?;
+fn options(arguments: &[OsString]) -> Result<(Options<'_>, Option<usize>, &[OsString; 2]), Failure> {
+    let (options, files) = Options::read("judge", &["--rounds", "--all", "--most"], arguments)?;
     let most = match (options.has("--all"), options.number("--most")) {
         (false, None) => None,
         (true, None) => Some(usize::MAX),
         (true, Some(most @ 1..)) => Some(most as usize),
-        _ => return None,
+        (true, Some(0)) => {
+            return Err(Failure::Usage(
+                "judge: behind --most stands 0, and 1 is the least".into(),
+            ));
+        }
+        (false, Some(_)) => return Err(Failure::Usage("judge: --most is taken with --all alone".into())),
     };
-    Some((options, most, files.try_into().ok()?))
+    let files = files.try_into().map_err(|_| help::wrong("judge", files))?;
+    Ok((options, most, files))
 }
 
 /// The rows of both tables.
@@ -61,9 +71,13 @@ fn list(
     let found = failures(parameters, core, round, &mut |more| progress.add(more)).expect("the verdict refused nothing");
     drop(progress);
     let shown = most.min(found.len());
+    // Of lines by the million each would be written alone.
+    let mut output = BufWriter::with_capacity(files::PIECE_BYTES, &mut *streams.output);
     found[..shown]
         .iter()
-        .try_for_each(|failure| writeln!(streams.output, "{failure}"))?;
+        .try_for_each(|failure| writeln!(output, "{failure}"))?;
+    output.flush()?;
+    drop(output);
     if shown < found.len() {
         let _ = writeln!(streams.errors, "{} more are not shown", found.len() - shown);
     }

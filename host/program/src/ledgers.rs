@@ -3,9 +3,10 @@
 use std::fs::File;
 use std::path::Path;
 
-use super::Failure;
 use super::charge::to_be_changed;
-use super::files::{self, Target, WordFile};
+use super::commit::WordFile;
+use super::files::{self, Target};
+use super::{Failure, Streams};
 use keccak_tables::registers::{self, LEDGER_WORDS};
 use keccak_tables::{Parameters, Refusal};
 
@@ -16,9 +17,8 @@ pub struct Ledgers {
 }
 
 impl Ledgers {
-    /// The ledgers of a file. A register that is not in use is refused.
-    pub fn read(parameters: Parameters, register: u64, path: &Path) -> Result<Self, Failure> {
-        let words = files::read_words(path)?;
+    /// The ledgers of a file of these words. A register that is not in use is refused.
+    pub fn read(parameters: Parameters, register: u64, words: Vec<u64>) -> Result<Self, Failure> {
         // Of no counters it is refused for the register or for want of them.
         match registers::look_with(parameters, register, &[], &[], &words, &mut [], &mut []) {
             Err(refusal @ Refusal::Register { .. }) => Err(Failure::Refused(refusal)),
@@ -36,20 +36,20 @@ pub struct Locked<'a> {
 
 impl<'a> Locked<'a> {
     /// Locks the file, and reads it then.
-    pub fn read(parameters: Parameters, register: u64, path: &'a Path) -> Result<Self, Failure> {
-        let (file, target) = to_be_changed("LEDGERS", path, &[])?;
-        let ledgers = Ledgers::read(parameters, register, path)?;
+    pub fn read(parameters: Parameters, register: u64, path: &'a Path, streams: &mut Streams) -> Result<Self, Failure> {
+        let (file, target) = to_be_changed("LEDGERS", path, &[], streams)?;
+        let ledgers = Ledgers::read(parameters, register, files::words(path, file.try_clone())?)?;
         Ok(Self { ledgers, file, target })
     }
 
     /// All ledgers with this one in the register's place, beside the file and on the disk.
-    pub fn written(&self, ledger: &[u64; LEDGER_WORDS]) -> Result<WordFile, Failure> {
+    pub fn written(&self, ledger: &[u64]) -> Result<WordFile, Failure> {
         let Ledgers { register, words } = &self.ledgers;
-        let mut words = words.clone();
-        let at = *register as usize * LEDGER_WORDS;
-        words[at..at + LEDGER_WORDS].copy_from_slice(ledger);
+        let (before, behind) = words.split_at(*register as usize * LEDGER_WORDS);
         let mut file = WordFile::beside(&self.target)?;
-        file.put(&words)?;
+        for words in [before, ledger, &behind[LEDGER_WORDS..]] {
+            file.put(words)?;
+        }
         file.sync()?;
         Ok(file)
     }

@@ -4,8 +4,10 @@
 #![warn(missing_docs)]
 
 mod charge;
+mod charged;
 #[allow(unsafe_code)]
 pub mod closed;
+mod commit;
 mod demo;
 mod explain;
 pub mod failures;
@@ -17,10 +19,16 @@ mod ledgers;
 mod list;
 mod message;
 mod month;
+mod numbers;
 mod options;
 mod picture;
 mod progress;
+mod records;
 mod same;
+#[path = "../../build/sha256.rs"]
+mod sha256;
+#[allow(unsafe_code)]
+mod system;
 mod tally;
 #[cfg(test)]
 mod tests;
@@ -35,6 +43,8 @@ use std::process::ExitCode;
 
 use keccak_tables::Refusal;
 
+pub use system::Memory;
+
 const HINT: &str = "`keccak-tables help` tells the commands";
 const JUDGE_HINT: &str = "`judge --help` tells more";
 
@@ -48,6 +58,8 @@ pub struct Streams<'a> {
     pub errors: &'a mut dyn Write,
     /// Whether standard output is a terminal, for which something may be drawn.
     pub terminal: bool,
+    /// Whether the run is all that its process does: then it ends the process where files have taken their names.
+    pub process: bool,
 }
 
 /// How a command ended, where it could do its work.
@@ -68,8 +80,11 @@ impl Outcome {
 enum Failure {
     Usage(String),
     Refused(Refusal),
+    /// A refusal, in words of its own.
+    Told(Refusal, String),
     File(PathBuf, io::Error),
     Stream(io::Error),
+    Memory,
 }
 
 impl Failure {
@@ -110,6 +125,7 @@ pub fn main(run: fn(&[OsString], &mut Streams) -> u8) -> ExitCode {
         output: &mut io::stdout().lock(),
         errors: &mut io::stderr(),
         terminal: io::stdout().is_terminal(),
+        process: true,
     };
     ExitCode::from(run(&arguments, &mut streams))
 }
@@ -166,9 +182,10 @@ fn status(outcome: Result<Outcome, Failure>, hint: &str, streams: &mut Streams) 
         Ok(Outcome::DoesNotHold) => return 1,
         Err(Failure::Usage(message)) => format!("{message}\n{hint}\n"),
         Err(Failure::Refused(refusal)) => {
-            let told = refused(refusal, &refusal.to_string(), streams);
-            return status(told, hint, streams);
+            return status(Err(Failure::Told(refusal, refusal.to_string())), hint, streams);
         }
+        Err(Failure::Told(refusal, words)) => return status(refused(refusal, &words, streams), hint, streams),
+        Err(Failure::Memory) => "there is not enough memory\n".into(),
         Err(Failure::File(path, error)) => format!("{}: {error}\n", path.display()),
         // Whoever reads the output has seen enough.
         Err(Failure::Stream(error)) if error.kind() == io::ErrorKind::BrokenPipe => return 2,
@@ -183,18 +200,6 @@ fn refused(refusal: Refusal, words: &str, streams: &mut Streams) -> Result<Outco
     writeln!(streams.output, "{}", refused_line(refusal))?;
     let _ = writeln!(streams.errors, "{words}");
     Ok(Outcome::DoesNotHold)
-}
-
-/// The refusal of an operation file, in words.
-fn file_refused(refusal: Refusal, streams: &mut Streams) -> Result<Outcome, Failure> {
-    let words = match refusal {
-        Refusal::PastEnd { limit, .. } => format!(
-            "the file goes on after record {}, which is the last that it may have",
-            limit - 1
-        ),
-        other => other.to_string(),
-    };
-    refused(refusal, &words, streams)
 }
 
 fn refused_line(refusal: Refusal) -> String {

@@ -1,28 +1,34 @@
 //! `message MESSAGE ADDRESS TIMESTAMP OPS`: the operations that hash a file with SHA3-256, as an operation file; `is-message MESSAGE OPS`:
 //! whether an operation file is a message's.
 //!
-//! The operation file is written beside its name and takes it when it is whole, as a table is.
+//! The operation file is written beside its name and takes it when it is whole and the lines are printed, as a table does.
 
 use std::ffi::OsString;
-use std::fs::{self, File};
+use std::fs::File;
 use std::path::Path;
 
-use super::files::{Target, WordFile};
+use super::commit::{WordFile, commit};
+use super::files::{self, Target, zeros};
 use super::options::number;
-use super::{Failure, Outcome, Streams, file_refused, help, list, refused, unaligned};
+use super::{Failure, Outcome, Streams, help, list, tally};
 use keccak_tables::message::{Digest, judge_message};
 use keccak_tables::operation_file::{RECORD_BYTES, write_operations};
-use keccak_tables::{OP_WORDS, Parameters};
+use keccak_tables::{OP_WORDS, Parameters, Refusal};
 
 pub fn message(arguments: &[OsString], streams: &mut Streams) -> Result<Outcome, Failure> {
-    let wrong = || help::wrong("message");
     let [message, address, timestamp, ops] = arguments else {
-        return Err(wrong());
+        return Err(help::wrong("message", arguments));
     };
-    let [address, timestamp] = [address, timestamp].map(|word| word.to_str().and_then(number));
-    let (Some(address), Some(timestamp)) = (address, timestamp) else {
-        return Err(wrong());
-    };
+    let [address, timestamp] = [("ADDRESS", address), ("TIMESTAMP", timestamp)].map(|(name, word)| {
+        let wrong = || {
+            format!(
+                "message: {name} is `{}`, which is no decimal below 2^64",
+                word.display()
+            )
+        };
+        word.to_str().and_then(number).ok_or_else(|| Failure::Usage(wrong()))
+    });
+    let (address, timestamp) = (address?, timestamp?);
     let (path, ops) = (Path::new(message), Path::new(ops));
     let target = Target::of(ops)?;
     let file = File::open(path).map_err(Failure::file(path))?;
@@ -33,43 +39,36 @@ pub fn message(arguments: &[OsString], streams: &mut Streams) -> Result<Outcome,
         let message = "OPS can't be standard output or standard error, where this program prints";
         return Err(Failure::Usage(message.into()));
     }
-    let digest = Digest::new(&read(path)?, address, timestamp).map_err(Failure::Refused)?;
-    written(&target, digest.list())?.finish()?;
+    let digest = Digest::new(&files::bytes(path, Ok(file))?, address, timestamp).map_err(Failure::Refused)?;
+    let file = written(&target, digest.list())?;
     writeln!(
         streams.output,
         "ops {}\nsha3-256 {digest}",
         digest.list().len() / OP_WORDS
     )?;
-    Ok(Outcome::Fine)
+    commit(vec![file], streams)
 }
 
 pub fn is_message(arguments: &[OsString], streams: &mut Streams) -> Result<Outcome, Failure> {
     let [message, ops] = arguments else {
-        return Err(help::wrong("is-message"));
+        return Err(help::wrong("is-message", arguments));
     };
-    let (message, path) = (read(Path::new(message))?, Path::new(ops));
-    let mut file = File::open(path).map_err(Failure::file(path))?;
-    let (sums, ops) = match list::read(&mut file, path, Parameters::default())? {
-        Ok(read) => read,
-        Err(refusal) => return file_refused(refusal, streams),
-    };
-    match judge_message(&message, &ops) {
+    let (name, path) = (Path::new(message), Path::new(ops));
+    let message = files::bytes(name, File::open(name))?;
+    let operations = list::read(&mut tally::open(path, streams)?, path, Parameters::default())?;
+    match judge_message(&message, &operations.list) {
         Ok(yes) => {
             writeln!(streams.output, "{}", if yes { "yes" } else { "no" })?;
             Ok(Outcome::of(yes))
         }
-        Err(refusal) => refused(refusal, &unaligned::said(refusal, &sums), streams),
+        Err(refusal @ Refusal::Unaligned { .. }) => Err(Failure::Told(refusal, operations.words(refusal, path))),
+        Err(refusal) => Err(Failure::Refused(refusal)),
     }
-}
-
-/// The bytes of a message.
-fn read(path: &Path) -> Result<Vec<u8>, Failure> {
-    fs::read(path).map_err(Failure::file(path))
 }
 
 /// The records of a list, beside their file's name and on the disk.
 fn written(target: &Target, list: &[u64]) -> Result<WordFile, Failure> {
-    let mut records = vec![0; list.len() / OP_WORDS * RECORD_BYTES];
+    let mut records = zeros(list.len() / OP_WORDS * RECORD_BYTES)?;
     write_operations(list, &mut records).map_err(Failure::Refused)?;
     let mut file = WordFile::beside(target)?;
     file.put_bytes(&records)?;

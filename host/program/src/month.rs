@@ -2,10 +2,11 @@
 
 use std::ffi::OsString;
 use std::fs::File;
-use std::io::{self, BufRead, BufReader, Read};
 use std::path::Path;
 
-use super::files::{Target, WordFile};
+use super::commit::{WordFile, commit};
+use super::files::Target;
+use super::numbers::{numbers, numbers_of};
 use super::options::Options;
 use super::{Failure, Outcome, Streams, help, picture, refused};
 use keccak_tables::month::Month;
@@ -15,24 +16,23 @@ use keccak_tables::{MAX_OPS, Parameters, Refusal};
 const LONGEST: u64 = 50;
 
 pub fn month(arguments: &[OsString], streams: &mut Streams) -> Result<Outcome, Failure> {
-    let wrong = || help::wrong("month");
-    let (options, files) = Options::read(&["--rounds", "--floor", "--svg"], arguments).ok_or_else(wrong)?;
+    let (options, files) = Options::read("month", &["--rounds", "--floor", "--svg"], arguments)?;
     let svg = options.word("--svg").map(Path::new);
     match files {
         [] => {
             let parameters = options.parameters()?;
-            let counts = counts_of(streams.input)?;
+            let counts = numbers_of(streams.input, 1)?;
             let target = svg.map(|path| to_be_drawn(path, None)).transpose()?;
             tell(parameters, &counts, target.as_ref(), streams)
         }
         [path] => {
             let (path, parameters) = (Path::new(path), options.parameters()?);
-            let mut file = File::open(path).map_err(Failure::file(path))?;
-            let counts = counts_of(&mut file).map_err(Failure::file(path))?;
+            let file = File::open(path).map_err(Failure::file(path))?;
+            let counts = numbers(path, file.try_clone(), 1)?;
             let target = svg.map(|path| to_be_drawn(path, Some(&file))).transpose()?;
             tell(parameters, &counts, target.as_ref(), streams)
         }
-        _ => Err(wrong()),
+        _ => Err(help::wrong("month", files)),
     }
 }
 
@@ -49,34 +49,11 @@ fn tell(
     };
     let drawn = svg.map(|target| drawn(target, &picture::svg(parameters, counts, &month)));
     let drawn = drawn.transpose()?;
-    print(&month, streams)?;
-    if let Some(file) = drawn {
-        streams.output.flush()?;
-        file.finish()?;
+    print(parameters, counts, &month, streams)?;
+    match drawn {
+        Some(file) => commit(vec![file], streams),
+        None => Ok(Outcome::Fine),
     }
-    Ok(Outcome::Fine)
-}
-
-/// The numbers of a text, one on each line.
-fn counts_of(input: &mut dyn Read) -> io::Result<Vec<u64>> {
-    let mut counts = Vec::new();
-    for (at, line) in BufReader::new(input).split(b'\n').enumerate() {
-        let line = line?;
-        let word = line.trim_ascii();
-        let count = count_of(word).ok_or_else(|| {
-            let word = String::from_utf8_lossy(word);
-            io::Error::other(format!("line {}: `{word}` is no decimal number", at + 1))
-        })?;
-        counts.push(count);
-    }
-    Ok(counts)
-}
-
-/// A decimal; one that is no word is past every limit, as the largest word is.
-fn count_of(word: &[u8]) -> Option<u64> {
-    let digits = !word.is_empty() && word.iter().all(u8::is_ascii_digit);
-    let number = str::from_utf8(word).ok().filter(|_| digits)?;
-    Some(number.parse().unwrap_or(u64::MAX))
 }
 
 /// What a refusal says of the text.
@@ -107,12 +84,12 @@ fn to_be_drawn<'a>(path: &'a Path, counts: Option<&File>) -> Result<Target<'a>, 
 fn drawn(target: &Target, picture: &str) -> Result<WordFile, Failure> {
     let mut file = WordFile::beside(target)?;
     file.put_bytes(picture.as_bytes())?;
-    file.flush()?;
+    file.sync()?;
     Ok(file)
 }
 
 /// A line for each number; a terminal gets bars in place of the heights' lines.
-fn print(month: &Month, streams: &mut Streams) -> Result<(), Failure> {
+fn print(parameters: Parameters, counts: &[u64], month: &Month, streams: &mut Streams) -> Result<(), Failure> {
     let output = &mut streams.output;
     writeln!(output, "files {}", month.files)?;
     writeln!(output, "operations {}", month.operations)?;
@@ -120,7 +97,11 @@ fn print(month: &Month, streams: &mut Streams) -> Result<(), Failure> {
     writeln!(output, "padding-rows {}", month.padding_rows)?;
     for (name, fill) in [("fullest", month.fullest), ("emptiest", month.emptiest)] {
         if let Some(fill) = fill {
-            writeln!(output, "{name} {} {}", fill.used, fill.total)?;
+            let file = counts
+                .iter()
+                .position(|&count| picture::fill_of(parameters, count) == fill);
+            let file = file.expect("it is a file's") + 1;
+            writeln!(output, "{name} {} {} file {file}", fill.used, fill.total)?;
         }
     }
     if streams.terminal {

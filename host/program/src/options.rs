@@ -21,26 +21,28 @@ enum Value<'a> {
 pub struct Options<'a>(Vec<(&'static str, Value<'a>)>);
 
 impl<'a> Options<'a> {
-    /// Those of the options that a command takes, in any order, and what stands behind them. None where one stands twice or lacks its number
-    /// or its name.
-    pub fn read(takes: &[&'static str], arguments: &'a [OsString]) -> Option<(Self, &'a [OsString])> {
+    /// Those of the options that a command takes, in any order, and what stands behind them. A word that is wrong is named.
+    pub fn read(
+        command: &str,
+        takes: &[&'static str],
+        arguments: &'a [OsString],
+    ) -> Result<(Self, &'a [OsString]), Failure> {
         let (mut options, mut files) = (Self(Vec::new()), arguments);
-        while let [option, behind @ ..] = files
-            && let Some(&name) = takes.iter().find(|&name| option == name)
-        {
-            let (value, behind) = match behind {
-                [value, behind @ ..] if NUMBERED.contains(&name) => (Value::Number(number(value.to_str()?)?), behind),
-                [value, behind @ ..] if NAMED.contains(&name) => (Value::Name(value), behind),
-                [] if NUMBERED.contains(&name) || NAMED.contains(&name) => return None,
-                _ => (Value::Flag, behind),
+        while let [option, behind @ ..] = files {
+            let Some(&name) = takes.iter().find(|&name| option == name) else {
+                break;
             };
+            let (value, behind) = value_of(name, behind).map_err(|words| wrong(command, &words))?;
             if options.has(name) {
-                return None;
+                return Err(wrong(command, &format!("{name} stands twice")));
             }
             options.0.push((name, value));
             files = behind;
         }
-        Some((options, files))
+        match files.first().filter(|word| is_option(word)) {
+            Some(word) => Err(wrong(command, &format!("there is no option {}", word.display()))),
+            None => Ok((options, files)),
+        }
     }
 
     fn value(&self, name: &str) -> Option<Value<'a>> {
@@ -84,6 +86,33 @@ impl<'a> Options<'a> {
     }
 }
 
+/// Whether a word is written as an option. A file of such a name is told as ./NAME.
+pub fn is_option(word: &OsStr) -> bool {
+    word.as_encoded_bytes().starts_with(b"--")
+}
+
+fn wrong(command: &str, words: &str) -> Failure {
+    Failure::Usage(format!("{command}: {words}"))
+}
+
+/// What the words behind an option make of it, and what is behind them.
+fn value_of<'a>(name: &str, behind: &'a [OsString]) -> Result<(Value<'a>, &'a [OsString]), String> {
+    let (numbered, named) = (NUMBERED.contains(&name), NAMED.contains(&name));
+    match behind {
+        [value, behind @ ..] if numbered => match value.to_str().and_then(number) {
+            Some(number) => Ok((Value::Number(number), behind)),
+            None => Err(format!(
+                "behind {name} stands `{}`, which is no decimal below 2^64",
+                value.display()
+            )),
+        },
+        [value, behind @ ..] if named => Ok((Value::Name(value), behind)),
+        [] if numbered => Err(format!("behind {name} a number is missing")),
+        [] if named => Err(format!("behind {name} a file is missing")),
+        _ => Ok((Value::Flag, behind)),
+    }
+}
+
 /// A decimal below 2^64.
 pub fn number(word: &str) -> Option<u64> {
     let digits = word.bytes().all(|byte| byte.is_ascii_digit());
@@ -97,7 +126,7 @@ mod tests {
     /// The names and numbers that are read, 0 where there is none, and how many arguments are left.
     fn read(arguments: &[&str]) -> Option<(Vec<(&'static str, u64)>, usize)> {
         let arguments: Vec<OsString> = arguments.iter().map(OsString::from).collect();
-        let (options, files) = Options::read(&["--rounds", "--floor", "--shipped"], &arguments)?;
+        let (options, files) = Options::read("any", &["--rounds", "--floor", "--shipped"], &arguments).ok()?;
         let numbers = options.0.iter().map(|&(name, value)| match value {
             Value::Number(number) => (name, number),
             _ => (name, 0),
@@ -108,7 +137,7 @@ mod tests {
     #[test]
     fn a_name_stands_behind_its_option() {
         let arguments = ["--ledgers", "--register", "--register", "007", "a"].map(OsString::from);
-        let (options, files) = Options::read(&["--register", "--ledgers"], &arguments).expect("options");
+        let (options, files) = Options::read("any", &["--register", "--ledgers"], &arguments).expect("options");
         assert_eq!(options.word("--ledgers"), Some(OsStr::new("--register")));
         assert_eq!(
             (options.number("--register"), options.number("--ledgers")),
@@ -122,7 +151,7 @@ mod tests {
         ] {
             let arguments: Vec<OsString> = wrong.iter().map(OsString::from).collect();
             assert!(
-                Options::read(&["--register", "--ledgers"], &arguments).is_none(),
+                Options::read("any", &["--register", "--ledgers"], &arguments).is_err(),
                 "{wrong:?}"
             );
         }
@@ -138,11 +167,13 @@ mod tests {
         assert_eq!(read(&["--rounds", &most, "--shipped", "a"]), both(u64::MAX));
         let numbers = |floor, rounds| Some((vec![("--floor", floor), ("--rounds", rounds)], 2));
         assert_eq!(read(&["--floor", "0008", "--rounds", "4", "a", "b"]), numbers(8, 4));
-        assert_eq!(read(&["--floor", "0", "--rounds", "99", "--all", "a"]), numbers(0, 99));
-        // What a command does not take is a file's name to it.
-        assert_eq!(read(&["--all", "a"]), Some((vec![], 2)));
+        assert_eq!(read(&["--floor", "0", "--rounds", "99", "-", "a"]), numbers(0, 99));
+        // A file may be called so all the same.
+        assert_eq!(read(&["./--all", "a"]), Some((vec![], 2)));
         for wrong in [
             &["--rounds"][..],
+            &["--all", "a"],
+            &["--floor", "0", "--rounds", "99", "--all", "a"],
             &["--rounds", "--shipped", "a"],
             &["--rounds", "", "a"],
             &["--rounds", "+1", "a"],

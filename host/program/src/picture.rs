@@ -40,7 +40,7 @@ pub fn svg(parameters: Parameters, counts: &[u64], month: &Month) -> String {
 }
 
 /// The rows of a table of so many operations, as the call has them that the month was made by.
-fn fill_of(parameters: Parameters, count: u64) -> Fill {
+pub fn fill_of(parameters: Parameters, count: u64) -> Fill {
     let total = keccak_rnd::keccak_rnd_height_with(parameters, count as usize);
     Fill {
         used: count * parameters.rounds,
@@ -84,7 +84,7 @@ fn grouped(number: u64) -> String {
     let digits = number.to_string();
     let mut text = String::new();
     for (place, digit) in digits.chars().enumerate() {
-        if place > 0 && (digits.len() - place) % 3 == 0 {
+        if place > 0 && (digits.len() - place).is_multiple_of(3) {
             text.push(',');
         }
         text.push(digit);

@@ -2,7 +2,7 @@
 
 use std::io::{IsTerminal, Write};
 use std::sync::mpsc::{RecvTimeoutError, Sender, channel};
-use std::thread::{self, JoinHandle};
+use std::thread::{Builder, JoinHandle};
 use std::time::{Duration, Instant};
 
 /// How often the line changes.
@@ -33,12 +33,13 @@ impl Waiting {
         let (what, start) = (what.to_string(), Instant::now());
         say(&what);
         let (end, ended) = channel();
-        let line = thread::spawn(move || {
+        let line = Builder::new().spawn(move || {
             while ended.recv_timeout(PAUSE) == Err(RecvTimeoutError::Timeout) {
                 say(&format!("{what}, {} s", start.elapsed().as_secs()));
             }
         });
-        Self(Some((end, line)))
+        // Where there is no thread for it, the line stays as it is.
+        Self(line.ok().map(|line| (end, line)))
     }
 }
 

@@ -1,12 +1,13 @@
 //! `same CORE OPS`: whether a core table and an operation file record the same calls, or the first record or row without a partner.
 
 use std::ffi::OsString;
-use std::fs;
 use std::path::Path;
 
+use super::commit::open_together;
 use super::judge::words;
 use super::progress::Waiting;
-use super::{Failure, Outcome, Streams, file_refused, files, help, refused};
+use super::records::Places;
+use super::{Failure, Outcome, Streams, files, help, refused};
 use keccak_tables::Refusal;
 use keccak_tables::keccak::{NUM_COLUMNS, cols};
 use keccak_tables::operation_file::{RECORD_BYTES, SEGMENT_MARK, SEGMENT_RECORD_BYTES};
@@ -14,10 +15,12 @@ use keccak_tables::same_operations::same_operations;
 
 pub fn same(arguments: &[OsString], streams: &mut Streams) -> Result<Outcome, Failure> {
     let [core, ops] = arguments else {
-        return Err(help::wrong("same"));
+        return Err(help::wrong("same", arguments));
     };
-    let core = files::read_words(Path::new(core))?;
-    let ops = fs::read(ops).map_err(Failure::file(Path::new(ops)))?;
+    let paths = [core, ops].map(Path::new);
+    let [core, ops] = open_together(paths, streams.errors)?;
+    let core = files::words(paths[0], core)?;
+    let ops = files::bytes(paths[1], ops)?;
     let waiting = Waiting::new(&comparing(&core, &ops));
     let answer = same_operations(&core, &ops);
     drop(waiting);
@@ -29,7 +32,10 @@ pub fn same(arguments: &[OsString], streams: &mut Streams) -> Result<Outcome, Fa
         Err(refusal @ (Refusal::NotWhole { .. } | Refusal::NotElement { .. })) => {
             refused(refusal, &words(refusal, &core, &[]), streams)
         }
-        Err(refusal) => file_refused(refusal, streams),
+        Err(refusal) => {
+            let words = Places::of(&ops).words(refusal, &paths[1].display().to_string());
+            Err(Failure::Told(refusal, words))
+        }
     }
 }
 

@@ -6,32 +6,35 @@ use std::fs::File;
 use std::io::{self, Read};
 use std::path::Path;
 
+use super::commit::open_together;
 use super::options::Options;
 use super::progress::Progress;
-use super::{Failure, Outcome, Streams, file_refused, files, help};
-use keccak_tables::operation_file::{Sums, Tally};
-use keccak_tables::{Parameters, Refusal};
+use super::records::{Places, Reader};
+use super::{Failure, Outcome, Streams, files, help};
+use keccak_tables::Parameters;
+use keccak_tables::operation_file::Sums;
 
 pub fn tally(arguments: &[OsString], streams: &mut Streams) -> Result<Outcome, Failure> {
-    let wrong = || help::wrong("tally");
-    let (options, files) = Options::read(&["--shipped", "--floor"], arguments).ok_or_else(wrong)?;
-    let answer = match files {
-        [] => sums_of(streams.input, 0, options.parameters()?)?,
+    let (options, files) = Options::read("tally", &["--shipped", "--floor"], arguments)?;
+    let (sums, _) = match files {
+        [] => {
+            let (parameters, input) = (options.parameters()?, &mut *streams.input);
+            read(input, 0)?.finish(parameters, Path::new("standard input"))?
+        }
         [path] => {
             let (path, parameters) = (Path::new(path), options.parameters()?);
-            let file = File::open(path);
-            file.and_then(|mut file| sums_of_file(&mut file, parameters))
-                .map_err(Failure::file(path))?
+            sums_of_file(&mut open(path, streams)?, path, parameters)?
         }
-        _ => return Err(wrong()),
+        _ => return Err(help::wrong("tally", files)),
     };
-    match answer {
-        Ok(sums) => {
-            write!(streams.output, "{sums}")?;
-            Ok(Outcome::Fine)
-        }
-        Err(refusal) => file_refused(refusal, streams),
-    }
+    write!(streams.output, "{sums}")?;
+    Ok(Outcome::Fine)
+}
+
+/// Opens a file of operations. A change of it that was cut short is ended first.
+pub fn open(path: &Path, streams: &mut Streams) -> Result<File, Failure> {
+    let [file] = open_together([path], streams.errors)?;
+    file.map_err(Failure::file(path))
 }
 
 /// Prints some lines of names and numbers, as those of the sums.
@@ -42,17 +45,18 @@ pub fn print(lines: &[(&str, u64)], streams: &mut Streams) -> Result<Outcome, Fa
     Ok(Outcome::Fine)
 }
 
-/// The sums of a file that is read to its end or its first fault.
-pub fn sums_of_file(file: &mut File, parameters: Parameters) -> io::Result<Result<Sums, Refusal>> {
-    let bytes = file.metadata()?.len();
-    sums_of(file, bytes, parameters)
+/// The sums of a file that is read to its end or its first fault, and where its records are.
+pub fn sums_of_file(file: &mut File, path: &Path, parameters: Parameters) -> Result<(Sums, Places), Failure> {
+    let bytes = file.metadata().map_err(Failure::file(path))?.len();
+    let reader = read(file, bytes).map_err(Failure::file(path))?;
+    reader.finish(parameters, path)
 }
 
-fn sums_of(input: &mut dyn Read, bytes: u64, parameters: Parameters) -> io::Result<Result<Sums, Refusal>> {
+fn read(input: &mut dyn Read, bytes: u64) -> io::Result<Reader> {
     let mut progress = Progress::new("bytes read", bytes);
-    let mut reader = Tally::new();
+    let mut reader = Reader::default();
     let mut buffer = [0; files::PIECE_BYTES];
-    while reader.fault().is_none() {
+    while !reader.has_fault() {
         match files::fill(input, &mut buffer)? {
             0 => break,
             got => {
@@ -61,5 +65,5 @@ fn sums_of(input: &mut dyn Read, bytes: u64, parameters: Parameters) -> io::Resu
             }
         }
     }
-    Ok(reader.finish_with(parameters))
+    Ok(reader)
 }

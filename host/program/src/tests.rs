@@ -7,7 +7,8 @@ use std::io::{self, ErrorKind, Read, Write};
 use std::os::fd::AsRawFd;
 use std::path::{Path, PathBuf};
 
-use super::files::{self, Target, WordFile};
+use super::commit::{WordFile, commit};
+use super::files::Target;
 use super::{Streams, run, run_judge};
 use keccak_tables::bitwise::{self, NUM_COUNTERS};
 use keccak_tables::is_wh::{self, IsWhRows};
@@ -33,6 +34,7 @@ fn ran(run: Run, arguments: &[&str], input: &[u8]) -> (u8, String, String) {
         output: &mut output,
         errors: &mut errors,
         terminal: false,
+        process: false,
     };
     let status = run(&arguments, &mut streams);
     (
@@ -343,6 +345,7 @@ fn another_floor_is_refused_before_any_file_is_read() {
         output: &mut output,
         errors: &mut errors,
         terminal: false,
+        process: false,
     };
     assert_eq!(run(&["tally", "--floor", "5"].map(OsString::from), &mut streams), 1);
     assert_eq!(output, b"refused 9 5\n");
@@ -381,6 +384,7 @@ fn another_number_of_rounds_is_refused_before_any_file_is_read() {
         output: &mut Broken(ErrorKind::StorageFull),
         errors: &mut Vec::new(),
         terminal: false,
+        process: false,
     };
     let arguments = ["judge", "--rounds", "0", &a, &b].map(OsString::from);
     assert_eq!(run(&arguments, &mut streams), 2);
@@ -450,7 +454,7 @@ fn records_off_the_eight() -> Vec<u8> {
 }
 
 /// What is said of it.
-const OFF_THE_EIGHT: &str = "address 4100 is not a multiple of 8, and the row of an operation there can't be proved; 2 of the 130 records are \
+const OFF_THE_EIGHT: &str = "record 100, from byte 41800: address 4100 is not a multiple of 8, and the row of an operation there can't be proved; 2 of the 130 records are \
                              at such addresses, which `tally` leaves out\n";
 
 /// What can't be proved is not written: the first such address of the whole file is told, and how many there are; but what `tally` refuses
@@ -465,7 +469,8 @@ fn records_off_the_eight_are_counted_and_not_written() {
     let cut = folder.put("cut", &file[..129 * RECORD_BYTES + 1]);
     let (core, round) = (folder.put("core", b"before"), folder.path("round"));
     let written = ran(run, &["write", &off, &core, &round], &[]);
-    assert_eq!(written, (1, "refused 7 4100\n".into(), OFF_THE_EIGHT.into()));
+    let words = format!("{off}, {OFF_THE_EIGHT}");
+    assert_eq!(written, (1, "refused 7 4100\n".into(), words));
     for (path, line) in [
         (&high, "refused 4 18446744073709551424\n".to_string()),
         (&cut, format!("refused 6 {}\n", 129 * RECORD_BYTES)),
@@ -540,15 +545,48 @@ fn what_cannot_be_written_leaves_the_tables_alone() {
     assert!(errors.starts_with("/dev/full: No space left"), "{errors}");
     assert!(!fs::exists(&new).unwrap());
 
-    // A pipe ends where it was read, so that a second reading finds nothing.
-    let (reader, mut writer) = std::io::pipe().unwrap();
-    writer.write_all(&records).unwrap();
-    drop(writer);
-    let pipe = format!("/dev/fd/{}", reader.as_raw_fd());
-    let (status, output, errors) = ran(run, &["write", &pipe, &core, &folder.path("round")], &[]);
-    assert_eq!((status, output.as_str()), (2, ""));
-    assert!(errors.starts_with(&pipe), "{errors}");
     assert_eq!(fs::read(&core).unwrap(), b"before");
+}
+
+/// Operations that come through a pipe are those of a file, for every command that takes them; what is wrong with them is told.
+#[test]
+fn operations_from_a_pipe_are_read() {
+    let folder = Folder::new("pipe");
+    let list = operations(70);
+    let through = |records: &[u8], arguments: &dyn Fn(&str) -> Vec<String>| {
+        let (reader, mut writer) = std::io::pipe().unwrap();
+        writer.write_all(records).unwrap();
+        drop(writer);
+        let pipe = format!("/dev/fd/{}", reader.as_raw_fd());
+        let arguments = arguments(&pipe);
+        let (status, output, errors) = ran(run, &arguments.iter().map(String::as_str).collect::<Vec<_>>(), &[]);
+        (status, output, errors.replace(&pipe, "PIPE"))
+    };
+    let (core, round) = (folder.path("core"), folder.path("round"));
+    let write = |pipe: &str| ["write", pipe, &core, &round].map(String::from).to_vec();
+    let lines = "ops 70\ncore-rows 128\nround-rows 2048\n";
+    assert_eq!(through(&records(&list), &write), (0, lines.into(), String::new()));
+    assert!(fs::read(&core).unwrap() == bytes(&keccak::keccak_table(&list).unwrap()));
+    assert!(fs::read(&round).unwrap() == bytes(&keccak_rnd::keccak_rnd_table(&list).unwrap()));
+    let counters = folder.put("counters", &bytes(&vec![0; NUM_COUNTERS]));
+    let ops = folder.put("ops", &records(&list));
+    let look = |ops: &str| ["look", ops, &counters].map(String::from).to_vec();
+    assert_eq!(through(&records(&list), &look), through(&[], &|_| look(&ops)));
+    let same = |ops: &str| ["same", &core, ops].map(String::from).to_vec();
+    assert_eq!(through(&records(&list), &same).1, "same\n");
+
+    let mut off = records(&list);
+    set_address(&mut off, 3, 12);
+    let words = "PIPE, record 3, from byte 1254: address 12 is not a multiple of 8, and the row of an operation there can't be proved; \
+                 1 of the 70 records are at such addresses, which `tally` leaves out\n";
+    assert_eq!(through(&off, &write), (1, "refused 7 12\n".into(), words.into()));
+    set_address(&mut off, 5, u64::MAX);
+    assert_eq!(through(&off, &write).1, "refused 4 18446744073709551615\n");
+    let cut = "PIPE, record 1, from byte 418, is cut: 1 of its 418 or 422 bytes are there\n";
+    assert_eq!(
+        through(&records(&list)[..419], &write),
+        (1, "refused 6 418\n".into(), cut.into())
+    );
 }
 
 /// Counters that are small, some about p, and words past them that are no elements.
@@ -594,13 +632,23 @@ fn a_look_changes_no_file_and_a_charge_is_what_it_said() {
         let run_on = |name| ran(run, &[&[name], options, &[&file, &counters]].concat(), &[]);
         assert_eq!(run_on("look"), (0, lines(true), String::new()));
         assert!(fs::read(&counters).unwrap() == bytes(&before), "a look changes nothing");
-        assert_eq!(run_on("charge"), (0, lines(false), String::new()));
+        let (status, output, errors) = run_on("charge");
+        let (told, digest) = output.split_at(lines(false).len());
+        assert_eq!((status, told, errors.as_str()), (0, lines(false).as_str(), ""));
+        let record = fs::read_to_string(folder.path("counters.charged")).unwrap();
+        assert_eq!(
+            format!(
+                "digest {}\n",
+                &record[record.trim_end().rfind('\n').map_or(0, |at| at + 1)..][..64]
+            ),
+            digest
+        );
         let after = [look.counters(), &before[NUM_COUNTERS..]].concat();
         assert!(
             fs::read(&counters).unwrap() == bytes(&after),
             "{count} operations, {options:?}"
         );
-        assert_eq!(folder.names(), ["counters", "ops"]);
+        assert_eq!(folder.names(), ["counters", "counters.charged", "ops"]);
     }
     let shipped = ran(run, &["look", "--shipped", "/dev/null", &folder.path("counters")], &[]).1;
     assert!(shipped.starts_with("MSB8 0 "), "{shipped}");
@@ -667,7 +715,7 @@ fn a_refused_charge_leaves_the_counters_alone() {
         for name in ["look", "charge"] {
             let (status, output, errors) = ran(run, &[name, ops, counters], &[]);
             assert_eq!((status, output.as_str()), (1, line), "{name}");
-            assert!(!errors.is_empty() && (said.is_empty() || errors == said), "{errors}");
+            assert!(!errors.is_empty() && errors.ends_with(said), "{errors}");
             assert!(fs::read(counters).unwrap() == before, "{name}: {line}");
         }
     }
@@ -705,6 +753,7 @@ fn a_charge_that_fails_leaves_the_counters_alone() {
             output: &mut Broken(kind),
             errors: &mut Vec::new(),
             terminal: false,
+            process: false,
         };
         let arguments: [OsString; 3] = ["charge".into(), ops.clone().into(), counters.clone().into()];
         assert_eq!(run(&arguments, &mut streams), 2);
@@ -746,12 +795,14 @@ fn a_register_is_shown_its_ledger_and_charges_both_files() {
         assert_eq!(run_on("look"), (0, shown.concat() + &own.concat(), String::new()));
         assert!(fs::read(counters).unwrap() == bytes(&before) && fs::read(kept).unwrap() == bytes(&ledgers));
         let charged = kinds.map(|kind| format!("{} {}\n", kind.kind.name(), kind.sum));
-        assert_eq!(run_on("charge"), (0, charged.concat(), String::new()));
+        let (status, output, errors) = run_on("charge");
+        assert_eq!((status, errors.as_str()), (0, ""));
+        assert!(output.starts_with(&(charged.concat() + "digest ")), "{output}");
         let (mut after, mut sums) = (before.clone(), ledgers.clone());
         registers::charge_with(parameters, register, &ops, &mut after, &mut sums).unwrap();
         assert!(fs::read(counters).unwrap() == bytes(&after), "register {register}");
         assert_eq!(fs::read(kept).unwrap(), bytes(&sums), "register {register}");
-        assert_eq!(folder.names(), ["counters", "ledgers", "ops"]);
+        assert_eq!(folder.names(), ["counters", "counters.charged", "ledgers", "ops"]);
     }
 }
 
@@ -814,7 +865,7 @@ fn a_refused_register_leaves_both_files_alone() {
 fn a_register_whose_charge_fails_leaves_both_files_alone() {
     let folder = Folder::new("register-fails");
     let ops = folder.put("ops", &records(&operations(1)));
-    let (counters, ledgers) = (bytes(&vec![7; NUM_COUNTERS]), bytes(&vec![7; 20]));
+    let (counters, ledgers) = (bytes(&vec![7; NUM_COUNTERS]), bytes(&[7; 20]));
     let (first, second) = (folder.put("counters", &counters), folder.put("ledgers", &ledgers));
     let (odd, linked) = (folder.put("odd", &[0; 81]), folder.path("linked"));
     fs::hard_link(&second, &linked).unwrap();
@@ -845,6 +896,7 @@ fn a_register_whose_charge_fails_leaves_both_files_alone() {
             output: &mut Broken(kind),
             errors: &mut Vec::new(),
             terminal: false,
+            process: false,
         };
         assert_eq!(run(&through(&second, &ops, &first), &mut streams), 2);
     }
@@ -852,7 +904,7 @@ fn a_register_whose_charge_fails_leaves_both_files_alone() {
     assert_eq!(folder.names(), names);
 }
 
-/// Two files take their names, or neither does: a folder that is not empty has the second one's.
+/// Two files take their names, or neither does: a folder has the second one's.
 #[test]
 fn two_files_take_their_names_together() {
     let folder = Folder::new("together");
@@ -864,21 +916,32 @@ fn two_files_take_their_names_together() {
         file.sync().unwrap();
         file
     };
+    let commit = |files| {
+        let mut streams = Streams {
+            input: &mut &[][..],
+            output: &mut Vec::new(),
+            errors: &mut Vec::new(),
+            terminal: false,
+            process: false,
+        };
+        commit(files, &mut streams).is_ok()
+    };
     let (first, second) = (folder.put("first", b"old"), folder.put("second", b"old"));
-    files::finish_both(written("first", &[1]), written("second", &[2])).unwrap();
+    assert!(commit(vec![written("first", &[1]), written("second", &[2])]));
     assert_eq!(fs::read(&first).unwrap(), bytes(&[1]));
     assert_eq!(fs::read(&second).unwrap(), bytes(&[2]));
-    let (one, two) = (written("first", &[3]), written("second", &[4]));
+    let files = vec![written("first", &[3]), written("second", &[4])];
     fs::remove_file(&second).unwrap();
     fs::create_dir(&second).unwrap();
     folder.put("second/in it", b"");
-    assert!(files::finish_both(one, two).is_err());
+    assert!(!commit(files));
     assert_eq!(fs::read(&first).unwrap(), bytes(&[1]));
     assert_eq!(folder.names(), ["first", "second"]);
 }
 
 /// The lines of a month of 0, 1, 2 and 4 operations.
-const MONTH: &str = "files 4\noperations 7\nused-rows 168\npadding-rows 60\nfullest 24 32\nemptiest 0 4\n";
+const MONTH: &str =
+    "files 4\noperations 7\nused-rows 168\npadding-rows 60\nfullest 24 32 file 2\nemptiest 0 4 file 1\n";
 
 /// A line for each height, with a file at these.
 fn height_lines(heights: &[u64]) -> String {
@@ -904,7 +967,7 @@ fn a_month_has_a_line_for_each_number() {
     }
     let counts = folder.path("counts");
     let other = ran(run, &["month", "--floor", "64", "--rounds", "12", &counts], &[]).1;
-    let words = "used-rows 84\npadding-rows 172\nfullest 48 64\nemptiest 0 64\nheight 4 0\n";
+    let words = "used-rows 84\npadding-rows 172\nfullest 48 64 file 4\nemptiest 0 64 file 1\nheight 4 0\n";
     assert!(other.contains(words) && other.contains("\nheight 64 4\n"), "{other}");
     // Without a file there is nothing that is fullest.
     let none = "files 0\noperations 0\nused-rows 0\npadding-rows 0\n".to_string() + &height_lines(&[]);
@@ -921,6 +984,7 @@ fn a_month_is_drawn_on_a_terminal() {
             output: &mut output,
             errors: &mut Vec::new(),
             terminal: true,
+            process: false,
         };
         assert_eq!(run(&["month".into()], &mut streams), 0);
         String::from_utf8(output).unwrap()
@@ -1026,6 +1090,7 @@ fn a_month_has_a_picture() {
         output: &mut Broken(ErrorKind::StorageFull),
         errors: &mut Vec::new(),
         terminal: false,
+        process: false,
     };
     assert_eq!(run(&["month", "--svg", &svg].map(OsString::from), &mut streams), 2);
     assert_eq!(fs::read(&svg).unwrap(), b"old");
@@ -1315,7 +1380,7 @@ fn rows_in_the_other_order_are_judged_alike() {
     let core = turned(keccak::keccak_table(&list).unwrap(), keccak::NUM_COLUMNS);
     let round = turned(keccak_rnd::keccak_rnd_table(&list).unwrap(), keccak_rnd::NUM_COLUMNS);
     let [core_rows, round_rows] = [core.len() / keccak::NUM_COLUMNS, round.len() / keccak_rnd::NUM_COLUMNS];
-    let counts = folder.put("counts", &bytes(&[core_rows as u64, round_rows as u64]));
+    let counts = folder.put("counts", format!("{core_rows} {round_rows}\n").as_bytes());
     let (core, round) = (folder.put("core", &bytes(&core)), folder.put("round", &bytes(&round)));
     let fine = |line: &str| (0, line.to_string(), String::new());
     assert_eq!(ran(run, &["judge", &core, &round], &[]), fine("holds 3\n"));
@@ -1335,8 +1400,14 @@ fn segments_and_then_the_job() {
     let core = folder.put("core", &bytes(&table(keccak::keccak_table_with)));
     let round = folder.put("round", &bytes(&table(keccak_rnd::keccak_rnd_table_with)));
     let told = |counts: &[u64]| {
-        let counts = folder.put("counts", &bytes(counts));
-        ran(run, &["job", "--rounds", "12", &core, &round, &counts], &[])
+        let binary = folder.put("binary", &bytes(counts));
+        let told = ran(run, &["job", "--binary", "--rounds", "12", &core, &round, &binary], &[]);
+        if counts.len().is_multiple_of(2) {
+            let lines = counts.chunks(2).map(|pair| format!("{}  {} \n", pair[0], pair[1]));
+            let text = folder.put("counts", lines.collect::<String>().as_bytes());
+            assert_eq!(ran(run, &["job", "--rounds", "12", &core, &round, &text], &[]), told);
+        }
+        told
     };
     let lines = |first: &str, second: &str| format!("segment 0: {first}\nsegment 1: {second}\njob: holds 3\n");
     let fine = String::new();
@@ -1371,7 +1442,14 @@ fn segments_and_then_the_job() {
         assert_eq!((status, output.as_str(), errors.is_empty()), (2, "", false));
     }
     let large = folder.put("large", &bytes(&[vec![0; 485], vec![P]].concat()));
-    let counts = folder.put("counts", &bytes(&[1, 0]));
+    let counts = folder.put("counts", b"1 0");
+    for wrong in ["1", "1 2 3", "1\n2", "1 x", "1 2\n\n"] {
+        let (status, _, errors) = ran(run, &["job", &none, &none, &folder.put("wrong", wrong.as_bytes())], &[]);
+        assert!(
+            status == 2 && errors.ends_with("is not two decimal numbers\n"),
+            "{errors}"
+        );
+    }
     let words = format!("CORE, row 0, column 485 (MU): {P} is not below p\n");
     assert_eq!(
         ran(run, &["job", &large, &none, &counts], &[]),
@@ -1410,14 +1488,12 @@ fn a_table_and_a_file_of_the_same_calls() {
     assert_eq!(same(&core, &folder.put("old", &old)), told(1, "record 2"));
     set_address(&mut old, 1, u64::MAX);
     let cut = folder.put("cut", &old[..1253]);
-    let high = "the last of the 25 lanes from address 18446744073709551615 would start past 2^64 - 1\n";
-    assert_eq!(
-        same(&core, &cut),
-        (1, "refused 4 18446744073709551615\n".into(), high.into())
-    );
+    let high = "record 1, from byte 418: the last of the 25 lanes from address 18446744073709551615 would start past 2^64 - 1\n";
+    let words = format!("{cut}, {high}");
+    assert_eq!(same(&core, &cut), (1, "refused 4 18446744073709551615\n".into(), words));
     let cut = folder.put("cut", &file[..1253]);
-    let words = "the record that starts at byte 836 is cut or has a wrong mark\n";
-    assert_eq!(same(&core, &cut), (1, "refused 6 836\n".into(), words.into()));
+    let words = format!("{cut}, record 2, from byte 836, is cut: 417 of its 418 bytes are there\n");
+    assert_eq!(same(&core, &cut), (1, "refused 6 836\n".into(), words));
     let large = folder.put("large", &bytes(&[vec![0; 485], vec![P]].concat()));
     let words = format!("CORE, row 0, column 485 (MU): {P} is not below p\n");
     assert_eq!(same(&large, &cut), (1, "refused 5 485\n".into(), words));
@@ -1565,6 +1641,7 @@ fn tallied(input: &mut dyn Read, output: &mut dyn Write) -> (u8, String) {
         output,
         errors: &mut errors,
         terminal: false,
+        process: false,
     };
     let status = run(&["tally".into()], &mut streams);
     (status, String::from_utf8(errors).unwrap())
@@ -1828,4 +1905,145 @@ fn every_command_has_its_help() {
     for arguments in [["help", "undo"], ["--version", "1"]] {
         assert_eq!(ran(run, &arguments, &[]).0, 2);
     }
+}
+
+/// What is wrong is named: an option that is none, stands twice, lacks its value or stands behind a file; and the help of help.
+#[test]
+fn a_wrong_word_is_named() {
+    for (arguments, words) in [
+        (
+            &["judge", "--every", "core", "round"][..],
+            "judge: there is no option --every\n",
+        ),
+        (
+            &["judge", "--rounds", "x", "a", "b"],
+            "judge: behind --rounds stands `x`, which is no decimal below 2^64\n",
+        ),
+        (
+            &["judge", "--most", "3", "a", "b"],
+            "judge: --most is taken with --all alone\n",
+        ),
+        (
+            &["judge", "--all", "--most", "0", "a", "b"],
+            "judge: behind --most stands 0, and 1 is the least\n",
+        ),
+        (
+            &["judge", "a", "b", "--rounds", "12"],
+            "judge: --rounds stands behind a file, and options stand before the files\n",
+        ),
+        (
+            &["write", "--shipped", "a", "b", "c"],
+            "write: --shipped is taken with --all alone\n",
+        ),
+        (
+            &["charge", "--register", "1", "a", "b"],
+            "charge: --register and --ledgers are taken together\n",
+        ),
+        (&["look", "--again", "a", "b"], "look: there is no option --again\n"),
+        (&["tally", "--floor"], "tally: behind --floor a number is missing\n"),
+        (&["month", "--svg"], "month: behind --svg a file is missing\n"),
+        (
+            &["write", "--floor", "8", "--floor", "8", "a", "b", "c"],
+            "write: --floor stands twice\n",
+        ),
+        (
+            &["message", "page", "0x8", "0", "ops"],
+            "message: ADDRESS is `0x8`, which is no decimal below 2^64\n",
+        ),
+    ] {
+        let (status, output, errors) = ran(run, arguments, &[]);
+        assert_eq!((status, output.as_str()), (2, ""), "{arguments:?}");
+        assert!(errors.starts_with(words), "{arguments:?}: {errors}");
+    }
+    let help = ran(run, &["help"], &[]);
+    assert_eq!(ran(run, &["help", "--help"], &[]), help);
+    assert_eq!(ran(run, &["help", "help"], &[]), help);
+}
+
+/// A refused operation file is named, and the record: its mark, how much of it is there, or its address.
+#[test]
+fn a_refused_record_is_named() {
+    let folder = Folder::new("named");
+    let file = records(&operations(3));
+    let words = |bytes: &[u8]| {
+        let path = folder.put("ops", bytes);
+        let (status, _, errors) = ran(run, &["tally", &path], &[]);
+        assert_eq!(status, 1);
+        errors.strip_prefix(&path).unwrap().to_string()
+    };
+    assert_eq!(
+        words(&file[..500]),
+        ", record 1, from byte 418, is cut: 82 of its 418 bytes are there\n"
+    );
+    assert_eq!(
+        words(&file[..419]),
+        ", record 1, from byte 418, is cut: 1 of its 418 or 422 bytes are there\n"
+    );
+    let mut wrong = file.clone();
+    wrong[837] = 0x4E;
+    let mark = "has a wrong mark: it begins with 4B 4E, and not with 4B 4F or 4B 50\n";
+    assert_eq!(words(&wrong), format!(", record 2, from byte 836, {mark}"));
+    let mut marked = operations(3);
+    marked[SEGMENT_WORD] = 9;
+    let marked = records(&marked);
+    assert_eq!(
+        words(&marked[..421]),
+        ", record 0, from byte 0, is cut: 421 of its 422 bytes are there\n"
+    );
+    let mut high = marked.clone();
+    high[422 + 418 + 10..][..8].copy_from_slice(&u64::MAX.to_le_bytes());
+    assert!(
+        words(&high)
+            .starts_with(", record 2, from byte 840: the last of the 25 lanes from address 18446744073709551615 ")
+    );
+    let (_, _, errors) = ran(run, &["tally"], &file[..5]);
+    assert!(
+        errors.starts_with("standard input, record 0, from byte 0, is cut: 5 of"),
+        "{errors}"
+    );
+}
+
+/// The lines of `job` and `same`, every refusal, and a tuple that is fine.
+#[test]
+fn other_lines_are_explained() {
+    let text = |line: &str| ran(run, &["explain", line], &[]);
+    for (line, begins) in [
+        (
+            "segment 3: core row 0 value 51",
+            "Segment 3 of the job, rows counted from its first. core row 0: a constraint",
+        ),
+        (
+            "job: holds 3",
+            "The whole job, rows counted over all its segments. Both tables hold.",
+        ),
+        ("same", "The active rows of CORE are the records of OPS"),
+        ("record 7", "Record 7 of OPS, from 0, has no row"),
+        ("row 7", "Row 7 of CORE, from 0, is active"),
+        (
+            "refused 6 418",
+            "Refused by 6: the record of the operation file that starts at byte 418",
+        ),
+        ("refused 2 1", "Refused by 2: the round table"),
+    ] {
+        let (status, output, _) = text(line);
+        assert!(status == 0 && output.starts_with(begins), "{line}: {output}");
+        let parts = [&["explain"], &line.split(' ').collect::<Vec<_>>()[..]].concat();
+        assert_eq!(ran(run, &parts, &[]).1, output);
+    }
+    for number in 1..=14 {
+        assert_eq!(text(&format!("refused {number} 0")).0, 0, "{number}");
+    }
+    for wrong in [
+        "refused 15 0",
+        "refused 2 3",
+        "refused 1",
+        "segment 3 holds 1",
+        "job: holds",
+        "record x",
+    ] {
+        assert_eq!(text(wrong).0, 2, "{wrong}");
+    }
+    let fine = text("round row 7 lookup 654 ByteAlu 0 132 69 4").1;
+    let begins = "round row 7: the table that is looked up has this tuple, so no verdict names it.\n";
+    assert!(fine.starts_with(begins) && !fine.contains("and not"), "{fine}");
 }

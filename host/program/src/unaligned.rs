@@ -3,8 +3,9 @@
 use std::fs::File;
 use std::path::Path;
 
+use super::Failure;
 use super::list::{PIECE_RECORDS, Pieces, changed};
-use super::{Failure, Outcome, Streams, refused};
+use super::records::Places;
 use keccak_tables::operation_file::Sums;
 use keccak_tables::{Refusal, keccak};
 
@@ -13,20 +14,23 @@ pub const fn records(sums: &Sums) -> u64 {
     sums.ops + sums.unaligned
 }
 
-/// Refuses such a file, whose sums are these, by the first such address.
-pub fn refuse(mut ops: File, path: &Path, sums: &Sums, streams: &mut Streams) -> Result<Outcome, Failure> {
-    let first = first_refusal(&mut ops, path)?;
-    refused(first, &said(first, sums), streams)
+/// The refusal of such a file by the first such address.
+pub fn refusal(mut ops: File, path: &Path, sums: &Sums, places: &Places) -> Failure {
+    match first_refusal(&mut ops, path) {
+        Ok(first) => Failure::Told(first, words(first, sums, places, path)),
+        Err(failure) => failure,
+    }
 }
 
 /// What the refusal of a file's operations says: of such an address also how many records have one.
-pub fn said(refusal: Refusal, sums: &Sums) -> String {
+pub fn words(refusal: Refusal, sums: &Sums, places: &Places, path: &Path) -> String {
+    let words = places.words(refusal, &path.display().to_string());
     let (unaligned, records) = (sums.unaligned, records(sums));
     match refusal {
         Refusal::Unaligned { .. } => {
-            format!("{refusal}; {unaligned} of the {records} records are at such addresses, which `tally` leaves out")
+            format!("{words}; {unaligned} of the {records} records are at such addresses, which `tally` leaves out")
         }
-        other => other.to_string(),
+        _ => words,
     }
 }
 

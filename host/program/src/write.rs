@@ -3,20 +3,21 @@
 //!
 //! The file is read twice: once to its end, for its sums and faults, then in pieces of a few records. The rows of an
 //! operation don't depend on the others, so each piece's rows are made on their own, a part of them on each core, and put behind
-//! those that are already there; what is held in memory does not grow with the file. Both tables are written beside their names and
-//! take them when both are whole, so that a run that is cut short leaves what was there before.
+//! those that are already there; what is held in memory does not grow with the file. What is no file can be read but once, and is held in
+//! memory. Both tables are written beside their names and take them together, when both are whole and the lines are printed.
 
 use std::ffi::OsString;
 use std::fs::File;
 use std::path::Path;
 use std::thread::{self, Builder};
 
-use super::files::{NewFolder, Target, WordFile};
-use super::list::{PIECE_RECORDS, Pieces, changed};
+use super::commit::{NewFolder, WordFile, commit};
+use super::files::{Target, zeros};
+use super::list::{self, PIECE_RECORDS, Pieces, changed};
 use super::options::Options;
 use super::progress::Progress;
 use super::write_all::write_all;
-use super::{Failure, Outcome, Streams, file_refused, help, tally, unaligned};
+use super::{Failure, Outcome, Streams, help, tally, unaligned};
 use keccak_tables::operation_file::Sums;
 use keccak_tables::{OP_WORDS, Parameters, Refusal, keccak, keccak_rnd};
 
@@ -24,16 +25,16 @@ use keccak_tables::{OP_WORDS, Parameters, Refusal, keccak, keccak_rnd};
 const PIECE_WORDS: usize = PIECE_RECORDS * OP_WORDS;
 
 pub fn write(arguments: &[OsString], streams: &mut Streams) -> Result<Outcome, Failure> {
-    let wrong = || help::wrong("write");
     let takes = ["--all", "--rounds", "--floor", "--shipped"];
-    let (options, files) = Options::read(&takes, arguments).ok_or_else(wrong)?;
+    let (options, files) = Options::read("write", &takes, arguments)?;
     match (options.has("--all"), options.has("--shipped"), files) {
         (true, _, [folder, ops]) => write_all(options.parameters()?, [folder, ops].map(Path::new), streams),
         (false, false, [_, core, round]) if Path::new(core) == Path::new(round) => Err(not_three_files()),
         (false, false, [ops, core, round]) => {
             write_two(options.parameters()?, [ops, core, round].map(Path::new), streams)
         }
-        _ => Err(wrong()),
+        (false, true, _) => Err(Failure::Usage("write: --shipped is taken with --all alone".into())),
+        _ => Err(help::wrong("write", files)),
     }
 }
 
@@ -42,17 +43,44 @@ fn write_two(
     [path, core, round]: [&Path; 3],
     streams: &mut Streams,
 ) -> Result<Outcome, Failure> {
-    let mut ops = File::open(path).map_err(Failure::file(path))?;
-    match tally::sums_of_file(&mut ops, parameters).map_err(Failure::file(path))? {
-        Ok(sums) if sums.unaligned > 0 => unaligned::refuse(ops, path, &sums, streams),
-        Ok(sums) => {
-            let heights = Heights::of(parameters, &sums)?;
-            let tables = Tables::new(parameters, path, opened(&ops, core, round)?, heights);
-            tables.write_file(&mut ops)?;
-            tally::print(&heights.lines(), streams)
-        }
-        Err(refusal) => file_refused(refusal, streams),
+    let mut ops = tally::open(path, streams)?;
+    if !ops.metadata().map_err(Failure::file(path))?.is_file() {
+        return write_list(parameters, [path, core, round], &mut ops, streams);
     }
+    let (sums, places) = tally::sums_of_file(&mut ops, path, parameters)?;
+    if sums.unaligned > 0 {
+        return Err(unaligned::refusal(ops, path, &sums, &places));
+    }
+    let heights = Heights::of(parameters, &sums)?;
+    let tables = Tables::new(parameters, path, opened(&ops, core, round)?, heights)?;
+    let files = tables.write_file(&mut ops)?;
+    tally::print(&heights.lines(), streams)?;
+    commit(files, streams)
+}
+
+/// The same of what can be read but once, whose operations are held in memory.
+fn write_list(
+    parameters: Parameters,
+    [path, core, round]: [&Path; 3],
+    ops: &mut File,
+    streams: &mut Streams,
+) -> Result<Outcome, Failure> {
+    let operations = list::read(ops, path, parameters)?;
+    if let Err(refusal) = refused_in(&operations.list) {
+        return Err(Failure::Told(refusal, operations.words(refusal, path)));
+    }
+    let heights = Heights::of(parameters, &operations.sums)?;
+    let tables = Tables::new(parameters, path, opened(ops, core, round)?, heights)?;
+    let files = tables.write_list(&operations.list)?;
+    tally::print(&heights.lines(), streams)?;
+    commit(files, streams)
+}
+
+/// The refusal of the first piece of a list that is refused.
+fn refused_in(list: &[u64]) -> Result<(), Refusal> {
+    let mut keys = [0; PIECE_RECORDS * keccak::KEY_WORDS];
+    list.chunks(PIECE_WORDS)
+        .try_for_each(|piece| keccak::is_wh_keys(piece, &mut keys))
 }
 
 fn not_three_files() -> Failure {
@@ -119,16 +147,21 @@ pub struct Tables<'a> {
 }
 
 impl<'a> Tables<'a> {
-    fn new(parameters: Parameters, path: &'a Path, [core, round]: [WordFile; 2], heights: Heights) -> Self {
-        Self {
+    fn new(
+        parameters: Parameters,
+        path: &'a Path,
+        [core, round]: [WordFile; 2],
+        heights: Heights,
+    ) -> Result<Self, Failure> {
+        Ok(Self {
             path,
             core,
             round,
             heights,
-            rows: Rows::new(parameters),
+            rows: Rows::new(parameters)?,
             written: 0,
             progress: Progress::new("rows", heights.core + heights.round),
-        }
+        })
     }
 
     /// The two as files of a folder.
@@ -139,11 +172,11 @@ impl<'a> Tables<'a> {
         heights: Heights,
     ) -> Result<Self, Failure> {
         let files = [folder.file("core")?, folder.file("round")?];
-        Ok(Self::new(parameters, path, files, heights))
+        Self::new(parameters, path, files, heights)
     }
 
     /// Puts the rows of the whole file.
-    fn write_file(mut self, ops: &mut File) -> Result<(), Failure> {
+    fn write_file(mut self, ops: &mut File) -> Result<Vec<WordFile>, Failure> {
         let mut pieces = Pieces::of(ops, self.path)?;
         while let Some(piece) = pieces.next()? {
             self.put(piece)?;
@@ -152,7 +185,7 @@ impl<'a> Tables<'a> {
     }
 
     /// Puts the rows of a list, which is the file's.
-    pub fn write_list(mut self, ops: &[u64]) -> Result<(), Failure> {
+    pub fn write_list(mut self, ops: &[u64]) -> Result<Vec<WordFile>, Failure> {
         ops.chunks(PIECE_WORDS).try_for_each(|piece| self.put(piece))?;
         self.close()
     }
@@ -168,8 +201,8 @@ impl<'a> Tables<'a> {
         Ok(())
     }
 
-    /// Puts the padding, each row as in the table of no operations, and gives both files their names.
-    fn close(mut self) -> Result<(), Failure> {
+    /// Puts the padding, each row as in the table of no operations, and both files on the disk.
+    fn close(mut self) -> Result<Vec<WordFile>, Failure> {
         let core = keccak::keccak_table(&[]).map_err(|_| changed(self.path))?;
         let round = keccak_rnd::keccak_rnd_table(&[]).map_err(|_| changed(self.path))?;
         if self.written != self.heights.ops {
@@ -181,13 +214,12 @@ impl<'a> Tables<'a> {
                 table.put(row)?;
                 self.progress.add(1);
             }
-            table.flush()
+            table.sync()
         };
         let (core_row, round_row) = (&core[..keccak::NUM_COLUMNS], &round[..keccak_rnd::NUM_COLUMNS]);
         pad(&mut self.core, core_row, self.heights.core - self.written)?;
         pad(&mut self.round, round_row, self.heights.round - rounds)?;
-        self.core.finish()?;
-        self.round.finish()
+        Ok(vec![self.core, self.round])
     }
 }
 
@@ -200,15 +232,15 @@ struct Rows {
 }
 
 impl Rows {
-    fn new(parameters: Parameters) -> Self {
+    fn new(parameters: Parameters) -> Result<Self, Failure> {
         let mut rows = Self {
             parameters,
-            core: vec![0; PIECE_RECORDS * keccak::NUM_COLUMNS],
+            core: zeros(PIECE_RECORDS * keccak::NUM_COLUMNS)?,
             round: Vec::new(),
             cores: thread::available_parallelism().map_or(1, usize::from),
         };
-        rows.round = vec![0; PIECE_RECORDS * rows.round_words()];
-        rows
+        rows.round = zeros(PIECE_RECORDS * rows.round_words())?;
+        Ok(rows)
     }
 
     /// The words of an operation's round rows.

@@ -1,6 +1,7 @@
 //! The program as a process: what its standard streams are, and what it leaves where it is cut short.
 
 use std::fs::{self, File};
+use std::io::Read;
 use std::path::PathBuf;
 use std::process::{Command, Output, Stdio};
 
@@ -112,7 +113,7 @@ fn a_run_that_is_cut_short_leaves_what_was_there() {
             .unwrap()
             .success()
     );
-    let held = File::options()
+    let mut held = File::options()
         .read(true)
         .write(true)
         .open(folder.0.join("round"))
@@ -122,17 +123,25 @@ fn a_run_that_is_cut_short_leaves_what_was_there() {
         .stdout(Stdio::null())
         .spawn()
         .unwrap();
-    let part = format!("core.{}.part", run.id());
-    while !fs::metadata(folder.0.join(&part)).is_ok_and(|about| about.len() > 0) {
-        assert_eq!(run.try_wait().unwrap(), None);
-        std::thread::sleep(std::time::Duration::from_millis(1));
-    }
+    // Some of the table was written where something of it stands in the pipe, after the core rows of the same operations.
+    let mut piece = [0; 1480 * 8];
+    held.read_exact(&mut piece).unwrap();
+    assert_eq!(run.try_wait().unwrap(), None);
     run.kill().unwrap();
     run.wait().unwrap();
     drop(held);
     assert_eq!(fs::read(folder.0.join("core")).unwrap(), b"before");
-    // Nothing bears a table's name but what is one; what was begun says so by its name.
-    assert_eq!(folder.names(), ["core", part.as_str(), "ops", "round"]);
+    // What has no name is gone with its run; where there is no such thing, the next run removes it.
+    fs::remove_file(folder.0.join("round")).unwrap();
+    assert!(
+        folder
+            .program(&["write", "ops", "core", "round"])
+            .output()
+            .unwrap()
+            .status
+            .success()
+    );
+    assert_eq!(folder.names(), ["core", "ops", "round"]);
 }
 
 #[test]
@@ -241,11 +250,11 @@ fn charges_at_once_are_all_made() {
     let folder = Folder::new("at-once", 1);
     let mut after = put_counters(&folder, 0);
     let mut runs = [(); 3].map(|()| {
-        let mut run = folder.program(&["charge", "ops", "counters"]);
+        let mut run = folder.program(&["charge", "--again", "ops", "counters"]);
         run.stdout(Stdio::null()).spawn().unwrap()
     });
     assert!(runs.iter_mut().all(|run| run.wait().unwrap().success()));
-    assert_eq!(folder.names(), ["counters", "ops"]);
+    assert_eq!(folder.names(), ["counters", "counters.charged", "ops"]);
     let found = fs::read(folder.0.join("counters")).unwrap();
     // IsHalfword of a pointer whose low half is 4096 + 8 i is made once an operation.
     for i in 0..25 {
@@ -328,11 +337,7 @@ fn a_long_judgement_says_what_it_is_about() {
     let [core, rows] = ["core", "round"].map(|name| fs::read(folder.0.join(name)).unwrap().repeat(2));
     fs::write(folder.0.join("cores"), core).unwrap();
     fs::write(folder.0.join("rounds"), rows).unwrap();
-    let counts: Vec<u8> = [32, 513, 32, 511u64]
-        .iter()
-        .flat_map(|rows| rows.to_le_bytes())
-        .collect();
-    fs::write(folder.0.join("counts"), counts).unwrap();
+    fs::write(folder.0.join("counts"), "32 513\n32 511\n").unwrap();
     let output = folder
         .terminal("job cores rounds counts")
         .expect("there was one before");
@@ -342,4 +347,216 @@ fn a_long_judgement_says_what_it_is_about() {
         said.contains("judging 1088 rows in 2 segments, and then as one job"),
         "{said}"
     );
+}
+
+/// A charge that is interrupted was made where its status is 0, and nowhere else; and it can be asked for again until it is.
+#[test]
+fn an_interrupted_charge_is_made_exactly_once() {
+    let folder = Folder::new("interrupted", 1);
+    put_counters(&folder, 1);
+    let mut digests = std::collections::BTreeSet::new();
+    for trial in 0..24 {
+        let mut records = fs::read(folder.0.join("ops")).unwrap();
+        records[2..10].copy_from_slice(&u64::to_le_bytes(trial));
+        fs::write(folder.0.join("ops"), records).unwrap();
+        let before = fs::metadata(folder.0.join("counters")).unwrap();
+        let mut run = folder.program(&["charge", "ops", "counters"]);
+        let mut run = run.stdout(Stdio::null()).stderr(Stdio::null()).spawn().unwrap();
+        std::thread::sleep(std::time::Duration::from_millis(15 * trial));
+        let signal = ["-INT", "-TERM", "-KILL"][trial as usize % 3];
+        let _ = Command::new("kill")
+            .args([signal, &run.id().to_string()])
+            .stderr(Stdio::null())
+            .status();
+        let status = run.wait().unwrap().code();
+        if signal != "-KILL" {
+            use std::os::unix::fs::MetadataExt;
+            let after = fs::metadata(folder.0.join("counters")).unwrap();
+            assert_eq!(
+                before.ino() != after.ino(),
+                status == Some(0),
+                "trial {trial}, {status:?}"
+            );
+        }
+        // Asked for again it is made, or was made before.
+        let again = folder.program(&["charge", "ops", "counters"]).output().unwrap();
+        let line = text(&again.stdout).lines().last().unwrap().to_string();
+        let (word, digest) = line.split_once(' ').unwrap();
+        assert_eq!(again.status.code(), Some(i32::from(word == "charged")), "{line}");
+        assert!(digests.insert(digest.to_string()));
+        let record = fs::read_to_string(folder.0.join("counters.charged")).unwrap();
+        assert_eq!(record.lines().count(), digests.len(), "trial {trial}");
+    }
+    assert_eq!(folder.names(), ["counters", "counters.charged", "ops"]);
+}
+
+#[test]
+fn what_was_charged_is_not_charged_again_unasked() {
+    let folder = Folder::new("again", 1);
+    put_counters(&folder, 1);
+    let charge = |options: &[&str]| {
+        let arguments = [&["charge"], options, &["ops", "counters"]].concat();
+        let output = folder.program(&arguments).output().unwrap();
+        let last = text(&output.stdout).lines().last().unwrap_or_default().to_string();
+        (output.status.code().unwrap(), last, text(&output.stderr).to_string())
+    };
+    let (status, line, _) = charge(&[]);
+    let digest = line.strip_prefix("digest ").unwrap().to_string();
+    assert_eq!(status, 0);
+    let counters = fs::read(folder.0.join("counters")).unwrap();
+    let (status, line, words) = charge(&[]);
+    assert_eq!((status, line), (1, format!("charged {digest}")));
+    assert!(words.contains("line 1 says") && words.lines().count() == 1, "{words}");
+    assert!(fs::read(folder.0.join("counters")).unwrap() == counters);
+    // Another number of rounds, floor or mode is another charge; and the same is charged once more where that is asked for.
+    for options in [
+        &["--rounds", "12"][..],
+        &["--floor", "64"],
+        &["--shipped"],
+        &["--again"],
+    ] {
+        assert_eq!(charge(options).0, 0, "{options:?}");
+    }
+    assert_eq!(charge(&["--rounds", "12"]).0, 1);
+    let record = fs::read_to_string(folder.0.join("counters.charged")).unwrap();
+    assert_eq!(record.lines().filter(|line| line.starts_with(&digest)).count(), 2);
+    // Counters that are all 0 are new ones.
+    put_counters(&folder, 0);
+    assert_eq!(charge(&[]).0, 0);
+    fs::write(folder.0.join("counters.charged"), "something else\n").unwrap();
+    let (status, _, words) = charge(&["--again"]);
+    assert!(
+        status == 2 && words.contains("line 1: it does not begin with the digest of a charge"),
+        "{words}"
+    );
+}
+
+/// Where memory is short every command says so in a line, with status 2, and leaves nothing.
+#[test]
+fn a_want_of_memory_is_told() {
+    let folder = Folder::new("memory", 200);
+    put_counters(&folder, 1);
+    fs::write(folder.0.join("none"), b"").unwrap();
+    fs::write(folder.0.join("counts"), "1\n".repeat(4096)).unwrap();
+    fs::write(folder.0.join("page"), [7; 65536]).unwrap();
+    assert!(
+        folder
+            .program(&["write", "ops", "core", "round"])
+            .output()
+            .unwrap()
+            .status
+            .success()
+    );
+    let names = folder.names();
+    let commands: [&[&str]; 10] = [
+        &["look", "ops", "counters"],
+        &["charge", "ops", "counters"],
+        &["write", "--all", "all", "ops"],
+        &["write", "ops", "a", "b"],
+        &["judge", "core", "round"],
+        &["judge", "--all", "core", "round"],
+        &["same", "core", "ops"],
+        &["job", "core", "round", "counts"],
+        &["message", "page", "8", "0", "hashed"],
+        &["month", "--svg", "svg", "counts"],
+    ];
+    let mut short = 0;
+    for arguments in commands {
+        for pages in [4, 8, 16, 32, 64, 100, 150, 200, 300].map(|megabytes| megabytes * 1024) {
+            let limited = format!("ulimit -v {pages}; exec \"$@\"");
+            let Output { status, stderr, .. } = folder.shell(&limited, arguments);
+            // The least that a process needs is not the program's to tell.
+            let said = text(&stderr).to_string();
+            if status.code() == Some(127) || said.contains("error while loading") {
+                continue;
+            }
+            assert!(
+                status.code().is_some_and(|status| status <= 2),
+                "{arguments:?}, {pages} KiB: {status:?} {said}"
+            );
+            if said.contains("memory") {
+                short += 1;
+                assert_eq!(
+                    (status.code(), said.lines().count()),
+                    (Some(2), 1),
+                    "{arguments:?}: {said}"
+                );
+                assert_eq!(folder.names(), names, "{arguments:?}, {pages} KiB");
+            }
+            for name in ["all", "a", "b", "hashed", "svg", "counters.charged"] {
+                let _ = fs::remove_file(folder.0.join(name)).or_else(|_| fs::remove_dir_all(folder.0.join(name)));
+            }
+        }
+    }
+    assert!(short > 20, "{short} were short of memory");
+}
+
+/// What has no end is read up to a bound, or to the first fault.
+#[test]
+fn what_has_no_end_is_not_read_for_ever() {
+    let folder = Folder::new("endless", 1);
+    let limited = "ulimit -v 6000000; exec \"$@\"";
+    for (arguments, words) in [
+        (
+            &["judge", "/dev/zero", "ops"][..],
+            "/dev/zero: it goes on after 4294967296 bytes",
+        ),
+        (&["month", "/dev/zero"], "/dev/zero: it goes on after 16777216 bytes"),
+        (
+            &["tally", "/dev/zero"],
+            "/dev/zero, record 0, from byte 0, has a wrong mark: it begins with 00",
+        ),
+    ] {
+        let Output { status, stderr, .. } = folder.shell(limited, arguments);
+        assert!(matches!(status.code(), Some(1 | 2)), "{arguments:?}");
+        assert!(text(&stderr).starts_with(words), "{}", text(&stderr));
+    }
+}
+
+/// What is written to a pipe or a device is not synced; a report that can't be printed leaves no files.
+#[test]
+fn pipes_and_reports() {
+    let folder = Folder::new("pipes", 1);
+    fs::write(folder.0.join("page"), b"abc").unwrap();
+    let piped = folder.shell(
+        "mkfifo pipe; cat pipe >got & \"$@\"; s=$?; wait; exit $s",
+        &["message", "page", "8", "0", "pipe"],
+    );
+    assert_eq!((piped.status.code(), text(&piped.stderr)), (Some(0), ""));
+    assert_eq!(fs::metadata(folder.0.join("got")).unwrap().len(), 418);
+    for name in ["pipe", "got"] {
+        fs::remove_file(folder.0.join(name)).unwrap();
+    }
+    for arguments in [
+        &["write", "ops", "core", "round"][..],
+        &["write", "--all", "all", "ops"],
+        &["message", "page", "8", "0", "hashed"],
+    ] {
+        let output = folder.shell("exec \"$@\" >/dev/full", arguments);
+        assert_eq!(output.status.code(), Some(2), "{arguments:?}");
+        assert_eq!(folder.names(), ["ops", "page"], "{arguments:?}");
+    }
+}
+
+/// What a run that was killed left under a name of old is no hindrance, whatever the number of the process.
+#[test]
+fn names_of_parts_do_not_come_again() {
+    let folder = Folder::new("parts", 1);
+    let left = [
+        "core.0123456789abcdef.part",
+        "core.0123456789abcdef.old",
+        "round.fedcba9876543210.part",
+    ];
+    for name in left {
+        fs::write(folder.0.join(name), b"left").unwrap();
+    }
+    fs::create_dir(folder.0.join("all.0123456789abcdef.part")).unwrap();
+    fs::write(folder.0.join("core.mine.part"), b"mine").unwrap();
+    for arguments in [
+        &["write", "ops", "core", "round"][..],
+        &["write", "--all", "all", "ops"],
+    ] {
+        assert!(folder.program(arguments).output().unwrap().status.success());
+    }
+    assert_eq!(folder.names(), ["all", "core", "core.mine.part", "ops", "round"]);
 }

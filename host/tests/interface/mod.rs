@@ -33,7 +33,7 @@ pub type Functions = BTreeMap<String, Signature>;
 pub type Structs = BTreeMap<String, Vec<(String, Passed)>>;
 
 /// The names of the structs in the header and in the archive's source.
-const STRUCTS: [(&str, &str); 9] = [
+const STRUCTS: [(&str, &str); 10] = [
     ("keccak_tables_answer", "FlatAnswer"),
     ("keccak_tables_number", "FlatNumber"),
     ("keccak_tables_tuple", "FlatTuple"),
@@ -41,6 +41,7 @@ const STRUCTS: [(&str, &str); 9] = [
     ("keccak_tables_lookup", "FlatLookup"),
     ("keccak_tables_judgement", "FlatVerdict"),
     ("keccak_tables_agreement", "FlatAgreement"),
+    ("keccak_tables_reply", "FlatReply"),
     ("keccak_tables_cursor", "FlatCursor"),
     ("keccak_tables_sums", "FlatTally"),
 ];
@@ -225,43 +226,15 @@ fn of_c_type(name: &str) -> String {
         .to_string()
 }
 
-/// Fields of the header that have names of their own, and those of the archive's source: there, `number` is a refusal's, and a word
-/// of a verdict that means one thing or another has one name.
-const FIELDS: [(&str, &str); 4] = [
-    ("refusal", "number"),
-    ("active_or_table_or_refusal", "first"),
-    ("row_or_detail", "second"),
-    ("index", "third"),
-];
-
-/// The header's declarations, with one field `a_or_b` in the place of a union of a and b.
-fn without_unions() -> String {
-    let mut text = declarations();
-    while let Some(start) = text.find("union {") {
-        let length = text[start..].find('}').expect("a union ends") + 1;
-        let fields = text[start + 7..start + length - 1].split(';').map(str::trim);
-        let fields: Vec<(String, Passed)> = fields.filter(|field| !field.is_empty()).map(c_declaration).collect();
-        assert!(fields.iter().all(|(_, passed)| *passed == Passed::Word));
-        let names: Vec<String> = fields.into_iter().map(|(name, _)| name).collect();
-        text.replace_range(start..start + length, &format!("uint64_t {}", names.join("_or_")));
-    }
-    text
-}
-
 /// The header's structs, by the archive's names.
 pub fn header_structs() -> Structs {
-    let header = without_unions();
-    let field = |declaration| {
-        let (name, passed) = c_declaration(declaration);
-        let ours = FIELDS.iter().find(|(theirs, _)| *theirs == name);
-        (ours.map_or(name, |(_, name)| name.to_string()), passed)
-    };
+    let header = declarations();
     let structs = header.split("typedef struct ").skip(1).map(|text| {
         let (name, rest) = text.split_once('{').expect("a struct has fields");
         let (fields, rest) = rest.split_once('}').expect("a struct ends");
         assert_eq!(name.trim(), word(rest), "a struct and its type have one name");
         let fields = fields.split(';').map(str::trim).filter(|field| !field.is_empty());
-        (of_c_type(name.trim()), fields.map(field).collect())
+        (of_c_type(name.trim()), fields.map(c_declaration).collect())
     });
     structs.collect()
 }

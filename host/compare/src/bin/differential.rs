@@ -6,15 +6,15 @@ use std::process::ExitCode;
 
 use compare::comparison::Comparison;
 use compare::{
-    charge, floors, jobs, limit, lines, looked_up, message, month, refusals, registers, rounds, rows, same, say, tally,
-    tuples, values, verdicts,
+    charge, floors, jobs, limit, lines, looked_up, message, month, permutation, refusals, registers, rounds, rows,
+    same, say, tally, tuples, values, verdicts,
 };
 
 /// An area: it compares with a seed and a number of drawn inputs.
 type Area = fn(&mut Comparison, u64, usize);
 
 /// The areas, in the order in which `all` runs them.
-const AREAS: [(&str, Area); 17] = [
+const AREAS: [(&str, Area); 18] = [
     ("rows", rows::compare),
     ("looked_up", looked_up::compare),
     ("charge", charge::compare),
@@ -28,6 +28,7 @@ const AREAS: [(&str, Area); 17] = [
     ("rounds", rounds::compare),
     ("floors", floors::compare),
     ("month", month::compare),
+    ("permutation", permutation::compare),
     ("message", message::compare),
     ("same", same::compare),
     ("refusals", refusals::compare),
@@ -48,6 +49,7 @@ usage: differential all [SEED [N]]       (each of these in turn)
        differential rounds [SEED [N]]    (every number of rounds; N changes of words, N of rows, N / 20 pairs of tables of many calls)
        differential floors [SEED [N]]    (every floor; 4 N runs of the kit's program tally with drawn arguments)
        differential month [SEED [N]]     (every number of rounds and floor; N drawn months)
+       differential permutation [SEED [N]] (N drawn states of each number of rounds)
        differential message [SEED [N]]   (every length to 420; N / 20 long messages, N / 10 lists of eight lengths)
        differential same [SEED [N]]      (written and named tables and files; 8 N drawn ones, N / 10 long ones)
        differential tally [SEED [N]]     (N drawn files)

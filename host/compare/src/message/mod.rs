@@ -132,7 +132,7 @@ fn judged(comparison: &mut Comparison, words: &mut Words, length: usize) {
         _ => 1 << words.below(64),
     };
     let is_the_only_address = place == 1 && operations == 1;
-    let late = u128::from(changed[0]) + operations as u128 - 1 >= 1 << 64;
+    let late = u128::from(changed[0]) + operations as u128 > 1 << 64;
     let is_the_only_timestamp = place == 0 && operations == 1 && !late;
     let yes = is_the_only_address || is_the_only_timestamp;
     verdict(comparison, &message, &changed, yes, || {

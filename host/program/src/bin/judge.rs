@@ -2,6 +2,9 @@
 
 use std::process::ExitCode;
 
+#[global_allocator]
+static MEMORY: program::Memory = program::Memory;
+
 fn main() -> ExitCode {
     program::main(program::run_judge)
 }

@@ -4,7 +4,7 @@ use keccak_tables::layout;
 use keccak_tables::verdict::Table;
 
 use super::{table_named, tuple, value};
-use crate::options;
+use crate::{failures, options};
 
 /// What a line says, given by its words; a lookup or a balance may stand without its tuple.
 pub fn text(line: &[&str]) -> Result<String, String> {
@@ -45,7 +45,9 @@ fn failure(table: Table, row: u64, rule: &str, index: usize, shown: &[&str]) -> 
         )),
         "lookup" | "balance" => {
             let found = found(table, index, shown)?;
-            let why = if rule == "lookup" {
+            let why = if rule == "lookup" && is_fine(table, index, &found) {
+                "the table that is looked up has this tuple, so no verdict names it.\n".into()
+            } else if rule == "lookup" {
                 format!(
                     "a lookup fails, the table that is looked up has no such tuple.\n{}",
                     asked(table, index, &found)
@@ -75,6 +77,12 @@ fn found(table: Table, index: usize, shown: &[&str]) -> Result<Vec<u64>, String>
         ));
     }
     values.iter().map(|value| number(value)).collect()
+}
+
+/// Whether the values that a line shows are those of a tuple that is found.
+fn is_fine(table: Table, index: usize, found: &[u64]) -> bool {
+    let bus = layout::tuple(table, index).map(|(_, tuple)| tuple.bus);
+    !found.is_empty() && bus.is_some_and(|bus| failures::is_found_on(bus, found))
 }
 
 /// What is asked of a tuple that is looked up, and where its values are known what is wrong with them.

@@ -1,4 +1,4 @@
--- `cursor_of` meets its contract: number 0, or a refusal.
+-- `cursor_of` meets its contract: a reader without a fault, or a refusal.
 use mathlib.Core.Path.{ap, _∙_}
 use borrow.Author.Tests.{eq-eqb, ne-eqb}
 use Rattle.op_file.specs.declared.Cursor.the-variants.{Refused}

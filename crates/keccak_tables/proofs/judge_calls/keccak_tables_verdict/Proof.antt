@@ -1,7 +1,7 @@
--- `keccak_tables_verdict` meets its contract: the words of the verdict, flat.
+-- `keccak_tables_verdict` meets its contract: the verdict of the call that it wraps, flat.
 use mathlib.Core.Path.{ap, _∙_}
 use borrow.Author.Needs.{needs}
-use Rattle.verdict.specs.Verdict.{verdictWords}
+use Rattle.flat.specs.FlatJudged.{flatVerdict}
 use Rattle.keccak_tables.proofs.judge_calls.keccak_tables_verdict.Statement.{statement}
 use Rattle.keccak_tables.proofs.judge_calls.keccak_tables_verdict.Tie as tie
 
@@ -12,7 +12,7 @@ flat-verdict-requires : tie.Need-flat-verdict-requires
 flat-verdict-requires c κs = search needs
 
 returns : tie.Need-returns
-returns c = c .flat-verdict .ensures ∙ ap verdictWords (c .before .verdict .ensures)
+returns c = c .flat-verdict .ensures ∙ ap flatVerdict (c .before .verdict .ensures)
 
 pub keccak-tables-verdict-spec : {M : Type 1} → statement M
 keccak-tables-verdict-spec = tie.close (tie.spec verdict-requires flat-verdict-requires returns)

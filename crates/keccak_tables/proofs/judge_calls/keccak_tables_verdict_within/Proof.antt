@@ -1,7 +1,7 @@
--- `keccak_tables_verdict_within` meets its contract: the words of the verdict, flat.
+-- `keccak_tables_verdict_within` meets its contract: the verdict of the call that it wraps, flat.
 use mathlib.Core.Path.{ap, _∙_}
 use borrow.Author.Needs.{needs}
-use Rattle.verdict.specs.Verdict.{verdictWords}
+use Rattle.flat.specs.FlatJudged.{flatVerdict}
 use Rattle.keccak_tables.proofs.judge_calls.keccak_tables_verdict_within.Statement.{statement}
 use Rattle.keccak_tables.proofs.judge_calls.keccak_tables_verdict_within.Tie as tie
 
@@ -20,7 +20,7 @@ same-length-2 c = search needs
 returns : tie.Need-returns
 returns c =
     let inner = c .before .before .before .before .before .verdict-within .ensures in
-    (c .flat-verdict .ensures ∙ ap verdictWords (inner .0), inner .1)
+    (c .flat-verdict .ensures ∙ ap flatVerdict (inner .0), inner .1)
 
 pub keccak-tables-verdict-within-spec : {M : Type 1} → statement M
 keccak-tables-verdict-within-spec =

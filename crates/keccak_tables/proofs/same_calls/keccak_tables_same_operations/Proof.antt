@@ -1,7 +1,7 @@
 -- `keccak_tables_same_operations` meets its contract: the answer of the call that it wraps, flat.
 use mathlib.Core.Path.{ap, _∙_}
 use borrow.Author.Needs.{needs}
-use Rattle.flat.specs.Flat.{flatAgreement}
+use Rattle.flat.specs.FlatJudged.{flatAgreement}
 use Rattle.keccak_tables.proofs.same_calls.keccak_tables_same_operations.Statement.{statement}
 use Rattle.keccak_tables.proofs.same_calls.keccak_tables_same_operations.Tie as tie
 

@@ -34,8 +34,11 @@ const RUNS: usize = 5;
 /// The program, where it was built.
 const PROGRAM: &str = concat!(env!("CARGO_MANIFEST_DIR"), "/../../target/bin/tally");
 
-/// The files, by the name of their lines: which of their operations are of segment 0.
-const FILES: [(&str, fn(&mut Words) -> bool); 3] = [
+/// Whether the next of a file's operations is of segment 0.
+type IsPlain = fn(&mut Words) -> bool;
+
+/// The files, by the name of their lines.
+const FILES: [(&str, IsPlain); 3] = [
     ("tally", |_| true),
     ("tally-numbered", |_| false),
     ("tally-mixed", |words| words.below(2) == 0),

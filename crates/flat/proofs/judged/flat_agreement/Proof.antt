@@ -1,8 +1,8 @@
 -- `flat_agreement` meets its contract: one case after the other.
 use borrow.Author.Needs.{needs}
-use Rattle.flat.specs.Flat.{flatAgreement}
-use Rattle.flat.proofs.flat_agreement.Statement.{statement}
-use Rattle.flat.proofs.flat_agreement.Tie as tie
+use Rattle.flat.specs.FlatJudged.{flatAgreement}
+use Rattle.flat.proofs.judged.flat_agreement.Statement.{statement}
+use Rattle.flat.proofs.judged.flat_agreement.Tie as tie
 
 enum-told : tie.Need-enum-told
 enum-told c = search needs
