@@ -25,9 +25,8 @@ use Rattle.fips202.proofs.Steps.{lane-of, lane-grid, grid-lanes, lane-lt, chi-l
 use Rattle.fips202.proofs.Rounds.{rnd-lanes, rnd-agree}
 use Rattle.fips202.specs.Tables.{roundConstant}
 use Rattle.tuple.specs.declared.Bus.the-variants.{ByteAlu}
-use Rattle.bitwise.specs.Found.{aluOp}
 use Rattle.matching.specs.Matching.{FoundOn, Found}
-use Rattle.matching.proofs.Matching.{of-alu, of-bytes, of-rc, of-keccak}
+use Rattle.matching.proofs.Matching.{of-bytes, of-rc, of-keccak}
 use Rattle.keccak.specs.Columns.{laneColumn}
 use Rattle.keccak.specs.Row.{stateLanes}
 use Rattle.keccak.proofs.Cells.{byte-word}
@@ -37,6 +36,7 @@ use Rattle.keccak_rnd.specs.Row.{rnc, andLanes}
 use Rattle.keccak_rnd.specs.Values.{halfwordAt, identity, thetaValue, rhoValue, roundValue}
 use Rattle.keccak_rnd.specs.Tuples.{rotatedCAt, piAt, notPiAt, constantTuple, dxzTuple, rotTuple, chiAndsTuple, chiTuple, iotaTuple, roundTuple, out, outLanes}
 use Rattle.keccak_rnd.proofs.Lanes.{and-lane, chi-and}
+use Rattle.keccak_rnd.proofs.Completeness.{xor-found, and-found, small}
 use Rattle.keccak_rnd_lean.specs.Lean.{kept}
 use Rattle.keccak_rnd_needed.specs.Needed.{needed, Wrong}
 use Rattle.keccak_rnd_needed.proofs.Marks.{xor-cancel, eqb-on, eqb-off}
@@ -121,17 +121,6 @@ from-zero c hc = omega arith
 
 not-of : (l r m : ℕ) → l < p → r < p → fadd l r ≡ m → m < 256 → fsub (fsub 255 l) r ≡ 255 - m
 not-of l r m hl hr e h = omega arith
-
-xor-found : (a b c : ℕ) → a < 256 → b < 256 → c ≡ bitXor a b → FoundOn ByteAlu (2 ∷ a ∷ b ∷ c ∷ [])
-unfolding aluOp
-xor-found a b c ha hb e = of-alu 2 a b c (omega arith) ha hb e
-
-and-found : (a b c : ℕ) → a < 256 → b < 256 → c ≡ bitAnd a b → FoundOn ByteAlu (0 ∷ a ∷ b ∷ c ∷ [])
-unfolding aluOp
-and-found a b c ha hb e = of-alu 0 a b c (omega arith) ha hb e
-
-small : {m : ℕ} (n b : ℕ) → m ≡ byteAt n b → m < 256
-small n b e = subst (λ (k : ℕ). k < 256) (sym e) (byte-lt n b)
 
 -- round 0 of the zero state
 abbrev zeros : List ℕ

@@ -1,6 +1,6 @@
 -- The 911 kept tuples are enough: an active row of words below p whose values are 0 and whose kept lookups are matched passes all 1,031.
 use mathlib.Core.Path.{_≡_, refl, sym, ap, ap₂, _∙_, subst}
-use mathlib.Core.Bool.{Bool, true, false}
+use mathlib.Core.Bool.{true}
 use mathlib.Core.List.{List}
 use Prim.Native.Nat.{ℕ, _+_, _-_, _*_, _/_, _%_, _^_, _≤_, _<_}
 use native.Mathlib.Nat.{div-add-mod'}
@@ -20,15 +20,15 @@ use Rattle.bitwise.specs.Found.{aluOp}
 use Rattle.matching.specs.Matching.{Found, Matched}
 use Rattle.matching.proofs.Matching.{alu-of, bytes-of, of-bytes}
 use Rattle.keccak.specs.Row.{stateLanes}
-use Rattle.keccak_rnd.specs.Columns.{ROUND, START, CXZ, CXZ-LEFT, THETA, ROT-LEFT, ROT-RIGHT, MU, cxz, cxz-left, cxz-right-bit, dxz, theta, rot-left, rot-right}
+use Rattle.keccak_rnd.specs.Columns.{ROUND, START, CXZ, CXZ-LEFT, THETA, ROT-LEFT, ROT-RIGHT, MU, cxz, cxz-left, cxz-right-bit, theta, rot-left, rot-right}
 use Rattle.keccak_rnd.specs.Row.{roundRow, rnc}
 use Rattle.keccak_rnd.specs.Values.{halfwordAt, identity, carryValue, thetaValue, rhoValue, roundValue}
-use Rattle.keccak_rnd.specs.Tuples.{piAt, rotatedCAt, cxzLeftTuple, dxzTuple, thetaTuple, rotTuple, chiTuple, roundTuple}
+use Rattle.keccak_rnd.specs.Tuples.{rotatedCAt, cxzLeftTuple, dxzTuple, thetaTuple, rotTuple, chiTuple, roundTuple}
 use Rattle.keccak_rnd.specs.Passes.{RoundPasses}
 use Rattle.keccak_rnd.proofs.Places.{tuple-at}
 use Rattle.keccak_rnd.proofs.Active.{of-20, of-40, of-200}
 use Rattle.keccak_rnd.proofs.Soundness.{half-at, RoundSound, round-sound, round-unique}
-use Rattle.keccak_rnd_lean.specs.Lean.{keptByte, kept, NUM-KEPT, LeanPasses}
+use Rattle.keccak_rnd_lean.specs.Lean.{kept, NUM-KEPT, LeanPasses}
 use Rattle.keccak_rnd_lean.proofs.Halves.{even-byte, lane-bytes}
 
 -- ---- which are kept

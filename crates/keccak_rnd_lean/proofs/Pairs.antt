@@ -1,10 +1,9 @@
 -- A shift identity of which only sums are known to be bytes: each of its four words with a byte beside it. The identity then holds of whole numbers, and
 -- the four words are the bytes of the product. p being prime is not used.
 use mathlib.Core.Path.{_≡_, sym, ap, ap₂, _∙_}
-use Prim.Native.Nat.{ℕ, _+_, _-_, _*_, _/_, _%_, _≤_, _<_}
+use Prim.Native.Nat.{ℕ, _+_, _-_, _*_, _/_, _%_, _<_}
 use native.Mathlib.Nat.{mod-eq-of-lt, div-add-mod', mod-add-mod, mod-mod, one-mul, add-mul-mod-self-right, zero-add, add-comm}
 use native.Mathlib.Omega.{arith}
-use Rattle.lists.proofs.Then.{by-le}
 use Rattle.field.specs.Field.{p, fadd, fmul}
 use Rattle.field.proofs.Field.{add-c, mod-p}
 use Rattle.keccak_rnd.specs.Values.{identity}

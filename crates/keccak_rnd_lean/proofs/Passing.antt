@@ -2,11 +2,11 @@
 -- `LeanIdle`; no other. And which tuples are not kept.
 use mathlib.Core.Path.{_≡_, refl, sym, ap, subst, _∙_}
 use mathlib.Core.Logic.{_⊎_, inl, inr, _↔_}
-use mathlib.Core.Bool.{Bool, true, false}
+use mathlib.Core.Bool.{true, false}
 use mathlib.Core.List.{List}
 use Prim.Native.Nat.{ℕ, _+_, _-_, _*_, _/_, _%_, _≤_, _<_}
 use native.Mathlib.Omega.{arith}
-use borrow.Author.Tests.{leb-true, leb-false}
+use borrow.Author.Tests.{leb-true}
 use lib.Dec.{leb}
 use lib.ListN.{length}
 use Rattle.lists.specs.Tab.{word}
@@ -23,7 +23,7 @@ use Rattle.keccak.specs.Columns.{laneColumn}
 use Rattle.keccak_rnd.specs.Columns.{MU, cxz-right-bit, rot-left, rot-right}
 use Rattle.keccak_rnd.specs.Values.{roundValue}
 use Rattle.keccak_rnd.specs.Tuples.{roundTuple}
-use Rattle.keccak_rnd.specs.Passes.{RoundPasses, Worked}
+use Rattle.keccak_rnd.specs.Passes.{Worked}
 use Rattle.keccak_rnd.proofs.Active.{lane-column, carry-column}
 use Rattle.keccak_rnd.proofs.Passing.{round-bit, passes-worked, worked-passes}
 use Rattle.keccak_rnd_lean.specs.Lean.{kept, LeanPasses, LeanIdle}

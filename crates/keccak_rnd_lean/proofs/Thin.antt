@@ -2,13 +2,13 @@
 -- right: `pi-right`. Words of ROT_LEFT and ROT_RIGHT are then not all forced (a halfword that no tuple bounds may be split into its two words in many ways), only their
 -- sums. (By search, not proved here: no three words of a lane do; and of the tuples that are there, four to a lane are needed for either.)
 use mathlib.Core.Path.{_≡_, sym, ap, ap₂, _∙_}
-use Prim.Native.Nat.{ℕ, _+_, _-_, _*_, _/_, _%_, _^_, _≤_, _<_}
-use native.Mathlib.Nat.{mod-eq-of-lt, div-add-mod', add-mul-mod-self-right, mul-comm}
+use Prim.Native.Nat.{ℕ, _+_, _-_, _*_, _/_, _%_, _^_, _<_}
+use native.Mathlib.Nat.{mod-eq-of-lt, div-add-mod', add-mul-mod-self-right}
 use native.Mathlib.Omega.{arith}
 use Rattle.field.specs.Field.{p, fadd, fmul}
 use Rattle.field.proofs.Field.{add-c, mul-c}
 use Rattle.bits.specs.Bits.{Bytes, halfword, leftByte, rightByte}
-use Rattle.bits.proofs.Rotate.{turned-lt, left-half, right-half, left-bytes, right-bytes}
+use Rattle.bits.proofs.Rotate.{left-bytes, right-bytes}
 use Rattle.keccak_rnd.specs.Values.{identity}
 use Rattle.keccak_rnd_lean.proofs.Pairs.{digits, identity-mod}
 use Rattle.keccak_rnd_lean.proofs.Halves.{product, apart, eight}

@@ -1,8 +1,7 @@
 -- A bent row passes every rule but the one at which it is bent.
 use mathlib.Core.Path.{_≡_, refl, sym, ap, ap₂, _∙_, subst}
-use mathlib.Core.List.{List, [], _∷_}
-use Prim.Native.Nat.{ℕ, suc, _+_, _-_, _*_, _/_, _%_, _^_, _≤_, _<_}
-use native.Mathlib.Nat.{mod-eq-of-lt}
+use mathlib.Core.List.{List}
+use Prim.Native.Nat.{ℕ, suc, _+_, _-_, _*_, _/_, _%_, _^_, _<_}
 use native.Mathlib.Numerals.{add-one}
 use native.Mathlib.Omega.{arith}
 use lib.Bits.{bitXor, bitAnd, xor-zero-r}
@@ -10,63 +9,28 @@ use lib.Pow.{pow-mono}
 use Rattle.lists.specs.Tab.{word}
 use Rattle.lists.proofs.Laws.{getD-tab, length-tab}
 use Rattle.lists.proofs.Then.{then-all}
-use Rattle.field.specs.Field.{p, fmul}
+use Rattle.field.specs.Field.{p}
 use Rattle.templates.specs.Templates.{isBit}
-use Rattle.bits.specs.Bits.{byteAt, Bytes, halfword, leftByte, rightByte, leftFrom, rightFrom}
+use Rattle.bits.specs.Bits.{byteAt, Bytes, halfword, leftByte, rightByte}
 use Rattle.bits.proofs.BitLaws.{by-bit}
-use Rattle.bits.proofs.Bytes.{byte-lt, byte-xor, byte-and, byte-not}
+use Rattle.bits.proofs.Bytes.{byte-lt, byte-xor, byte-and}
 use Rattle.bits.proofs.Rotate.{half-lt, half-same, left-half, right-half, left-bytes, right-bytes}
-use Rattle.fips202.specs.Fips.{RHO}
-use Rattle.fips202.specs.Lanes.{lane, Lanes, rhoPiL}
+use Rattle.fips202.specs.Lanes.{lane, Lanes}
 use Rattle.fips202.specs.Tables.{roundConstant}
-use Rattle.fips202.proofs.Steps.{lane-lt, rhoPi-lanes}
-use Rattle.tuple.specs.declared.Bus.the-variants.{ByteAlu}
-use Rattle.bitwise.specs.Found.{aluOp}
-use Rattle.matching.specs.Matching.{FoundOn, Found}
-use Rattle.matching.proofs.Matching.{of-alu, of-bytes, of-rc, of-keccak}
-use Rattle.keccak_rnd.specs.Columns.{CXZ, CXZ-LEFT, THETA, ROT-LEFT, ROT-RIGHT, start, cxz, cxz-left, cxz-right-bit, theta, rot-left, rot-right, rc, pi-left, pi-right}
+use Rattle.matching.specs.Matching.{Found}
+use Rattle.matching.proofs.Matching.{of-bytes, of-rc, of-keccak}
+use Rattle.keccak_rnd.specs.Columns.{CXZ, CXZ-LEFT, THETA, ROT-LEFT, ROT-RIGHT, start, cxz, cxz-left, cxz-right-bit, theta, rot-left, rot-right, rc}
 use Rattle.keccak_rnd.specs.Row.{cxzByte, cByte, cxzRightBit, rotatedC, rnc, rotLeftByte, rotRightByte}
-use Rattle.keccak_rnd.specs.Values.{halfwordAt, identity, carryValue, thetaValue, rhoValue, roundValue}
+use Rattle.keccak_rnd.specs.Values.{halfwordAt, carryValue, thetaValue, rhoValue, roundValue}
 use Rattle.keccak_rnd.specs.Tuples.{rotatedCAt, piAt, notPiAt, constantTuple, cxzTuple0, cxzTuple, cxzLeftTuple, dxzTuple, thetaTuple, rotTuple, chiAndsTuple, chiTuple, iotaTuple, roundTuple}
-use Rattle.keccak_rnd.proofs.Shift.{shift-back}
-use Rattle.keccak_rnd.proofs.Lanes.{cxz-lt, carry-lt, rotated-lt, pi-byte}
-use Rattle.keccak_rnd.proofs.Soundness.{half-at, not-value, rotated-is}
+use Rattle.keccak_rnd.proofs.Lanes.{cxz-lt, carry-lt, rotated-lt}
+use Rattle.keccak_rnd.proofs.Soundness.{half-at, rotated-is, pi-of, not-pi-of}
+use Rattle.keccak_rnd.proofs.Completeness.{xor-found, and-found, small, value-zero}
 use Rattle.keccak_rnd_needed.specs.Needed.{PassesBut}
 use Rattle.keccak_rnd_needed.specs.Bent.{sumLanes, shiftLanes, dLane, thetaBent, rhoBent, piBent, andsBent, chiBent, rcBent, iotaBent, bentRow}
 use Rattle.keccak_rnd_needed.proofs.Marks.{pick-off, marked-byte}
 use Rattle.keccak_rnd_needed.proofs.Cells.{length-bent, read-round, read-start, read-cxz, read-left, read-right, read-d, read-theta, read-rot-left, read-rot-right, read-ands, read-chi, read-rc, read-iota, read-mu, bent-words}
 use Rattle.keccak_rnd_needed.proofs.Steps.{shift-lanes, rho-bent-lt, sum-byte-0, sum-byte-1, sum-byte, shift-byte, d-bent-byte, theta-bent-byte, rho-bent-byte, ands-bent-byte, chi-bent-byte}
-
-xor-found : (a b c : ℕ) → a < 256 → b < 256 → c ≡ bitXor a b → FoundOn ByteAlu (2 ∷ a ∷ b ∷ c ∷ [])
-unfolding aluOp
-xor-found a b c ha hb e = of-alu 2 a b c (omega arith) ha hb e
-
-and-found : (a b c : ℕ) → a < 256 → b < 256 → c ≡ bitAnd a b → FoundOn ByteAlu (0 ∷ a ∷ b ∷ c ∷ [])
-unfolding aluOp
-and-found a b c ha hb e = of-alu 0 a b c (omega arith) ha hb e
-
-small : {m : ℕ} (n b : ℕ) → m ≡ byteAt n b → m < 256
-small n b e = subst (λ (k : ℕ). k < 256) (sym e) (byte-lt n b)
-
-value-zero : (inp pow i l r m : ℕ) → inp < 65536 → pow ≤ 32768 → m ≡ 1 → i ≡ inp → l ≡ inp * pow % 65536 → r ≡ inp * pow / 65536 → fmul m (identity i pow l r) ≡ 0
-value-zero inp pow i l r m hi hp em ei el er =
-    ap₂ fmul em (ap₂ (λ (x y : ℕ). identity x pow y r) ei el ∙ ap (identity inp pow (inp * pow % 65536)) er ∙ shift-back inp pow hi hp)
-
--- π, of any lanes whose shifted halfwords the row has
-module _ (row t : List ℕ) (ht : Lanes t) (rl : (x y b : ℕ) → x < 5 → y < 5 → b < 8 → word row (rot-left x y b) ≡ rotLeftByte t x y b)
-    (rr : (x y b : ℕ) → x < 5 → y < 5 → b < 8 → word row (rot-right x y b) ≡ rotRightByte t x y b) where
-  pi-plain : (x y b : ℕ) → x < 5 → y < 5 → b < 8 → word row (pi-left x y b) + word row (pi-right x y b) ≡ byteAt (lane (rhoPiL t) x y) b
-  pi-plain x y b hx hy hb =
-      ap₂ _+_ (rl ((x + 3 * y) % 5) x (leftFrom (RHO ((x + 3 * y) % 5) x / 16) b) (omega arith) hx (omega arith)) (rr ((x + 3 * y) % 5) x (rightFrom (RHO ((x + 3 * y) % 5) x / 16) b) (omega arith) hx (omega arith))
-      ∙ pi-byte t ht x y b hx hy hb
-
-  pi-of : (x y b : ℕ) → x < 5 → y < 5 → b < 8 → piAt row x y b ≡ byteAt (lane (rhoPiL t) x y) b
-  pi-of x y b hx hy hb = mod-eq-of-lt (omega (arith, pi-plain x y b hx hy hb, byte-lt (lane (rhoPiL t) x y) b)) ∙ pi-plain x y b hx hy hb
-
-  not-pi-of : (x y b : ℕ) → x < 5 → y < 5 → b < 8 → notPiAt row x y b ≡ byteAt (2 ^ 64 - 1 - lane (rhoPiL t) x y) b
-  not-pi-of x y b hx hy hb =
-      not-value (word row (pi-left x y b)) (word row (pi-right x y b)) (omega (arith, pi-plain x y b hx hy hb, byte-lt (lane (rhoPiL t) x y) b))
-      ∙ ap (λ (n : ℕ). 255 - n) (pi-plain x y b hx hy hb) ∙ byte-not (lane (rhoPiL t) x y) b (lane-lt (rhoPiL t) (rhoPi-lanes t ht) x y hx hy) hb
 
 module _ (j : ℕ) (stamp : ℕ → ℕ) (r : ℕ) (s : List ℕ) (hs : Lanes s) (hr : r < 32) where
   abbrev row : List ℕ

@@ -9,16 +9,15 @@ use mathlib.Core.Bool.{Bool, true, false}
 use mathlib.Core.List.{List}
 use Prim.Native.Nat.{ℕ, _≤_, _<_}
 use native.Mathlib.Omega.{arith}
-use lib.ListN.{length, List·getD-eq-default}
+use lib.ListN.{List·getD-eq-default}
 use Rattle.lists.specs.Tab.{pick, word}
 use Rattle.lists.proofs.Laws.{length-rowAt}
 use Rattle.lists.proofs.Then.{by-le}
 use Rattle.field.specs.Field.{p}
 use Rattle.keccak_rnd.specs.Row.{roundPad}
 use Rattle.keccak_rnd.proofs.Completeness.{pad-word, pad-idle, round-pad}
-use Rattle.keccak_rnd_lean.specs.Lean.{LeanPasses}
 use Rattle.keccak_rnd_lean.proofs.Enough.{lean-enough, lean-less}
-use Rattle.verdict.specs.Kind.{rows, row, active, Active, Passes}
+use Rattle.verdict.specs.Kind.{rows, row, active, Passes}
 use Rattle.verdict.specs.CoreAndRound.{roundLayout, roundKind}
 use Rattle.verdict.specs.Claims.{EachActive, Computed, ourRounds, SupposedAt, Answers}
 use Rattle.verdict.specs.Unique.{EquallyOften, Refilled, repadded}
@@ -26,7 +25,7 @@ use Rattle.verdict.proofs.Tables.{RowPasses, row-below, row-passes, passes-row}
 use Rattle.verdict.proofs.Judge.{active-is}
 use Rattle.verdict.proofs.Rounds.{pad-size}
 use Rattle.verdict.proofs.Demand3.{demand3-at}
-use Rattle.verdict.proofs.Unique.{some-order, balanced-same, repadded-rows, repadded-row, new-row, repadded-refilled}
+use Rattle.verdict.proofs.Unique.{some-order, balanced-same, repadded-rows, repadded-row, repadded-refilled}
 use Rattle.lean_verdict.specs.LeanTables.{LeanTable, LeanAnswers}
 
 pad-small : (k : ℕ) → word roundPad k < p
