@@ -43,7 +43,7 @@ pub kept-is : (x : List ℕ) (i : ℕ) → kept i ≡ true → keptTuple x i ≡
 unfolding keptTuple
 kept-is x i e = ap (λ (b : Bool). pick b (roundTuple x i) (unsent (roundTuple x i))) e
 
-dropped-is : (x : List ℕ) (i : ℕ) → kept i ≡ false → keptTuple x i ≡ unsent (roundTuple x i)
+pub dropped-is : (x : List ℕ) (i : ℕ) → kept i ≡ false → keptTuple x i ≡ unsent (roundTuple x i)
 unfolding keptTuple
 dropped-is x i e = ap (λ (b : Bool). pick b (roundTuple x i) (unsent (roundTuple x i))) e
 

@@ -1,1 +1,2 @@
 pub mod LeanSums
+pub mod LeanComplete
