@@ -2,6 +2,9 @@
 --     kept            911 of the 1,031 tuples of a round row: all but 120 AreBytes tuples (keccak_rnd_lean/specs/Lean.antt)
 --     LeanPasses      all 141 values of a row are 0, and its kept lookups are matched
 --     LeanAnswers     a round table whose rows pass these, active or not, and which balances the Keccak bus with a core table
+--     LeanSumsHold    what a prover checks of both tables, as `SumsHold` (bus_sums/specs/Sums.antt), where the rows of the round table send the kept
+--                     tuples alone, 100 AreBytes tuples instead of 220 (lean_sums/specs/LeanSums.antt)
+--     LeanFilled      there are words to write into the looked-up tables for which it holds
 --     rule j          tuple j of a round row, or value j - 1,031: 1,172 in all (keccak_rnd_needed/specs/Needed.antt)
 --     needed          929 of them: KeccakRc, the 808 ByteAlu tuples and the 120 shift identities
 --     PassesBut j     an active row of words below p, all whose rules hold but rule j, of which nothing is said
@@ -16,6 +19,8 @@ use lib.ListN.{length}
 use Rattle.lists.specs.Tab.{word}
 use Rattle.lists.specs.First.{countBelow}
 use Rattle.field.specs.Field.{p}
+use Rattle.answer.specs.Limits.{MAX-OPS}
+use Rattle.tuple.specs.declared.Bus.{Bus}
 use Rattle.fips202.specs.Lanes.{rndL}
 use Rattle.keccak.specs.Row.{stateLanes}
 use Rattle.keccak_rnd.specs.Columns.{ROUND, START, MU}
@@ -33,9 +38,14 @@ use Rattle.keccak_rnd_exactly.specs.Exactly.{Needed}
 use Rattle.keccak_rnd_exactly.specs.Minimal.{LeanBut}
 use Rattle.keccak_rnd_exactly.proofs.Exactly as exactly
 use Rattle.keccak_rnd_exactly.proofs.Minimal as minimal
-use Rattle.verdict.specs.CoreAndRound.{roundLayout}
-use Rattle.verdict.specs.Claims.{EachActive, Computed, SupposedAt, Answers, ourRounds}
+use Rattle.verdict.specs.Kind.{rows, actives, Passes, DistinctTimestamps}
+use Rattle.verdict.specs.CoreAndRound.{coreLayout, roundLayout, coreKind}
+use Rattle.verdict.specs.Claims.{EachActive, ShortTimestamp, Addressed, Computed, SupposedAt, Answers, ourRounds}
 use Rattle.verdict.specs.Unique.{EquallyOften}
+use Rattle.bus_sums.specs.Sums.{Fillings, MAX-ROWS}
+use Rattle.lean_sums.specs.LeanSums.{LeanSumsHold, LeanFilled}
+use Rattle.lean_sums.proofs.LeanSums as sums
+use Rattle.lean_sums.proofs.LeanComplete as complete
 use Rattle.lean_verdict.specs.LeanTables.{LeanAnswers}
 use Rattle.lean_verdict.proofs.LeanTables as lean
 use Rattle.needed_verdict.specs.NeededTables.{Deceives}
@@ -77,6 +87,27 @@ module _ (nr : ℕ) (some : 1 ≤ nr) (most : nr ≤ 24) (core : List ℕ) (supp
 
   pub lean-one-way : (floor : ℕ) (round : List ℕ) → LeanAnswers nr core round → EquallyOften roundLayout round (ourRounds nr floor core)
   lean-one-way = lean.lean-one-way nr some most core supposed
+
+-- ---- what a prover checks, with the kept tuples alone sent: a prover could drop the others. Nothing is supposed of any lookup; the looked-up tables hold
+-- whatever was written there, and other tables may send too (`others`), but on the Keccak bus
+module _ (nr : ℕ) (core round : List ℕ) (w : Fillings) (others : Bus → List ℕ → ℕ) (h : LeanSumsHold nr core round w others) where
+  -- both tables pass, of the round table the kept lookups, and the Keccak bus balances
+  pub lean-sums-pass : Passes (coreKind nr) core × LeanAnswers nr core round
+  lean-sums-pass = (sums.lean-sums-core nr core round w others h, sums.lean-sums-answer nr core round w others h)
+
+  module _ (some : 1 ≤ nr) (most : nr ≤ 24) (apart : DistinctTimestamps coreLayout core) where
+    -- so in each active core row OUTPUT is Keccak-p[1600, nr] of INPUT, and its lanes sit where they should ..
+    pub lean-sums-computed : EachActive (λ x. Computed nr x × Addressed x) core
+    lean-sums-computed = sums.lean-sums-computed nr core round w others h apart some most
+
+    -- .. and the active round rows are the ones that we write, in some order
+    pub lean-sums-one-way : actives coreLayout core ≤ MAX-OPS → EachActive ShortTimestamp core → (floor : ℕ) → EquallyOften roundLayout round (ourRounds nr floor core)
+    lean-sums-one-way = sums.lean-sums-one-way nr core round w others h apart some most
+
+-- the other way: where both tables pass there are words to write, so it is exactly there
+pub lean-sums-exactly : (nr : ℕ) (core round : List ℕ) → rows coreLayout core ≤ MAX-ROWS → rows roundLayout round ≤ MAX-ROWS
+    → LeanFilled nr core round ↔ (Passes (coreKind nr) core × LeanAnswers nr core round)
+lean-sums-exactly = complete.lean-sums-exactly
 
 -- ---- not fewer: 929 of the 1,172 rules are needed, each by itself, and no other is
 pub needed-count : countBelow needed 1172 ≡ 929
