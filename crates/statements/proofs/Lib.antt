@@ -7,3 +7,4 @@ pub mod Segments
 pub mod Calls
 pub mod Exports
 pub mod Answers
+pub mod Lookups
