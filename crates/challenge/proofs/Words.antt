@@ -19,10 +19,10 @@ Word = (n : ℕ) × (n < p)
 abbrev pub reduce : ℕ → Word
 reduce n = (n % p, mod-p n)
 
-alike : (a b : Word) → a .0 ≡ b .0 → a ≡ b
+pub alike : (a b : Word) → a .0 ≡ b .0 → a ≡ b
 alike a b e = Σ-prop-path (λ (n : ℕ). le-prop {n = suc n} {m = p}) {u = a} {v = b} e
 
-decide : (a b : Word) → Dec (a ≡ b)
+pub decide : (a b : Word) → Dec (a ≡ b)
 decide a b = go (ℕ-discrete (a .0) (b .0))
   where
     go : Dec (a .0 ≡ b .0) → Dec (a ≡ b)
@@ -33,32 +33,32 @@ decide a b = go (ℕ-discrete (a .0) (b .0))
 modulo : {m n : ℕ} → m ≡ n → m % p ≡ n % p
 modulo e = ap (λ (n : ℕ). n % p) e
 
-sums : (m n : ℕ) → (m % p + n % p) % p ≡ (m + n) % p
+pub sums : (m n : ℕ) → (m % p + n % p) % p ≡ (m + n) % p
 sums m n = mod-add-mod m p (n % p) ∙ add-mod-mod m n p
 
 right : (m n : ℕ) → m * (n % p) % p ≡ m * n % p
 right m n = modulo (mul-comm m (n % p)) ∙ fmul-mod n m ∙ modulo (mul-comm n m)
 
-undone : (n : ℕ) → n < p → (n + (p - n) % p) % p ≡ 0
+pub undone : (n : ℕ) → n < p → (n + (p - n) % p) % p ≡ 0
 undone n l = let e : n + (p - n) ≡ p = omega arith in add-mod-mod n (p - n) p ∙ modulo e
 
-assoc : (a b c : ℕ) → a * b % p * c % p ≡ a * (b * c % p) % p
+pub assoc : (a b c : ℕ) → a * b % p * c % p ≡ a * (b * c % p) % p
 assoc a b c = fmul-mod (a * b) c ∙ modulo (mul-assoc a b c) ∙ sym (right a (b * c))
 
-distributes : (a b c : ℕ) → a * ((b + c) % p) % p ≡ (a * b % p + a * c % p) % p
+pub distributes : (a b c : ℕ) → a * ((b + c) % p) % p ≡ (a * b % p + a * c % p) % p
 distributes a b c = right a (b + c) ∙ modulo (mul-add a b c) ∙ sym (sums (a * b) (a * c))
 
-divisors : (a b : Word) → reduce (a .0 * b .0) ≡ reduce 0 → (a ≡ reduce 0) ⊎ (b ≡ reduce 0)
+pub divisors : (a b : Word) → reduce (a .0 * b .0) ≡ reduce 0 → (a ≡ reduce 0) ⊎ (b ≡ reduce 0)
 divisors a b e = go (no-divisors (a .0) (b .0) (a .1) (b .1) (ap (λ (w : Word). w .0) e))
   where
     go : (a .0 ≡ 0) ⊎ (b .0 ≡ 0) → (a ≡ reduce 0) ⊎ (b ≡ reduce 0)
     go (inl q) = inl (alike a (reduce 0) q)
     go (inr q) = inr (alike b (reduce 0) q)
 
-differ : reduce 1 ≡ reduce 0 → ⊥
+pub differ : reduce 1 ≡ reduce 0 → ⊥
 differ e = let q : _≡_ {A = ℕ} 1 0 = ap (λ (w : Word). w .0) e in omega arith
 
-pub words : Domain p
+unfoldable pub words : Domain p
 words = record {
   F = Word;
   same = decide;

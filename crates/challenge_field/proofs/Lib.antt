@@ -1,0 +1,3 @@
+pub mod Cubic
+pub mod Fermat
+pub mod Products
