@@ -23,48 +23,48 @@ module _ {p : ℕ} (D : Domain p) where
   Triple = TripleOf D
 
   -- ---- laws of each part of a product
-  assoc-0 : (k a b c d e f g h i : F) →
+  pub assoc-0 : (k a b c d e f g h i : F) →
       (a ⊗ d ⊕ k ⊗ (b ⊗ f ⊕ c ⊗ e)) ⊗ g ⊕ k ⊗ ((a ⊗ e ⊕ b ⊗ d ⊕ k ⊗ (c ⊗ f)) ⊗ i ⊕ (a ⊗ f ⊕ b ⊗ e ⊕ c ⊗ d) ⊗ h)
       ≡ a ⊗ (d ⊗ g ⊕ k ⊗ (e ⊗ i ⊕ f ⊗ h)) ⊕ k ⊗ (b ⊗ (d ⊗ i ⊕ e ⊗ h ⊕ f ⊗ g) ⊕ c ⊗ (d ⊗ h ⊕ e ⊗ g ⊕ k ⊗ (f ⊗ i)))
   assoc-0 k a b c d e f g h i = simp (times-plus, plus-times D, plus-assoc, plus-comm, plus-left-comm D, times-assoc, times-left-comm D)
 
-  assoc-1 : (k a b c d e f g h i : F) →
+  pub assoc-1 : (k a b c d e f g h i : F) →
       (a ⊗ d ⊕ k ⊗ (b ⊗ f ⊕ c ⊗ e)) ⊗ h ⊕ (a ⊗ e ⊕ b ⊗ d ⊕ k ⊗ (c ⊗ f)) ⊗ g ⊕ k ⊗ ((a ⊗ f ⊕ b ⊗ e ⊕ c ⊗ d) ⊗ i)
       ≡ a ⊗ (d ⊗ h ⊕ e ⊗ g ⊕ k ⊗ (f ⊗ i)) ⊕ b ⊗ (d ⊗ g ⊕ k ⊗ (e ⊗ i ⊕ f ⊗ h)) ⊕ k ⊗ (c ⊗ (d ⊗ i ⊕ e ⊗ h ⊕ f ⊗ g))
   assoc-1 k a b c d e f g h i = simp (times-plus, plus-times D, plus-assoc, plus-comm, plus-left-comm D, times-assoc, times-left-comm D)
 
-  assoc-2 : (k a b c d e f g h i : F) →
+  pub assoc-2 : (k a b c d e f g h i : F) →
       (a ⊗ d ⊕ k ⊗ (b ⊗ f ⊕ c ⊗ e)) ⊗ i ⊕ (a ⊗ e ⊕ b ⊗ d ⊕ k ⊗ (c ⊗ f)) ⊗ h ⊕ (a ⊗ f ⊕ b ⊗ e ⊕ c ⊗ d) ⊗ g
       ≡ a ⊗ (d ⊗ i ⊕ e ⊗ h ⊕ f ⊗ g) ⊕ b ⊗ (d ⊗ h ⊕ e ⊗ g ⊕ k ⊗ (f ⊗ i)) ⊕ c ⊗ (d ⊗ g ⊕ k ⊗ (e ⊗ i ⊕ f ⊗ h))
   assoc-2 k a b c d e f g h i = simp (times-plus, plus-times D, plus-assoc, plus-comm, plus-left-comm D, times-assoc, times-left-comm D)
 
-  comm-0 : (k a b c d e f : F) → a ⊗ d ⊕ k ⊗ (b ⊗ f ⊕ c ⊗ e) ≡ d ⊗ a ⊕ k ⊗ (e ⊗ c ⊕ f ⊗ b)
+  pub comm-0 : (k a b c d e f : F) → a ⊗ d ⊕ k ⊗ (b ⊗ f ⊕ c ⊗ e) ≡ d ⊗ a ⊕ k ⊗ (e ⊗ c ⊕ f ⊗ b)
   comm-0 k a b c d e f = simp (times-plus, plus-comm, times-comm)
 
-  comm-1 : (k a b c d e f : F) → a ⊗ e ⊕ b ⊗ d ⊕ k ⊗ (c ⊗ f) ≡ d ⊗ b ⊕ e ⊗ a ⊕ k ⊗ (f ⊗ c)
+  pub comm-1 : (k a b c d e f : F) → a ⊗ e ⊕ b ⊗ d ⊕ k ⊗ (c ⊗ f) ≡ d ⊗ b ⊕ e ⊗ a ⊕ k ⊗ (f ⊗ c)
   comm-1 k a b c d e f = simp (plus-assoc, plus-comm, times-comm)
 
-  comm-2 : (a b c d e f : F) → a ⊗ f ⊕ b ⊗ e ⊕ c ⊗ d ≡ d ⊗ c ⊕ e ⊗ b ⊕ f ⊗ a
+  pub comm-2 : (a b c d e f : F) → a ⊗ f ⊕ b ⊗ e ⊕ c ⊗ d ≡ d ⊗ c ⊕ e ⊗ b ⊕ f ⊗ a
   comm-2 a b c d e f = simp (plus-assoc, plus-comm, plus-left-comm D, times-comm)
 
-  unit-0 : (k a b c : F) → a ⊗ one ⊕ k ⊗ (b ⊗ none ⊕ c ⊗ none) ≡ a
+  pub unit-0 : (k a b c : F) → a ⊗ one ⊕ k ⊗ (b ⊗ none ⊕ c ⊗ none) ≡ a
   unit-0 k a b c = simp (times-one, times-none D, plus-none)
 
-  unit-1 : (k a b c : F) → a ⊗ none ⊕ b ⊗ one ⊕ k ⊗ (c ⊗ none) ≡ b
+  pub unit-1 : (k a b c : F) → a ⊗ none ⊕ b ⊗ one ⊕ k ⊗ (c ⊗ none) ≡ b
   unit-1 k a b c = simp (times-one, times-none D, plus-none, none-plus D)
 
-  unit-2 : (a b c : F) → a ⊗ none ⊕ b ⊗ none ⊕ c ⊗ one ≡ c
+  pub unit-2 : (a b c : F) → a ⊗ none ⊕ b ⊗ none ⊕ c ⊗ one ≡ c
   unit-2 a b c = simp (times-one, times-none D, plus-none, none-plus D)
 
-  plus-0 : (k a b c d e f g h i : F) →
+  pub plus-0 : (k a b c d e f g h i : F) →
       a ⊗ (d ⊕ g) ⊕ k ⊗ (b ⊗ (f ⊕ i) ⊕ c ⊗ (e ⊕ h)) ≡ a ⊗ d ⊕ k ⊗ (b ⊗ f ⊕ c ⊗ e) ⊕ (a ⊗ g ⊕ k ⊗ (b ⊗ i ⊕ c ⊗ h))
   plus-0 k a b c d e f g h i = simp (times-plus, plus-assoc, plus-left-comm D)
 
-  plus-1 : (k a b c d e f g h i : F) →
+  pub plus-1 : (k a b c d e f g h i : F) →
       a ⊗ (e ⊕ h) ⊕ b ⊗ (d ⊕ g) ⊕ k ⊗ (c ⊗ (f ⊕ i)) ≡ a ⊗ e ⊕ b ⊗ d ⊕ k ⊗ (c ⊗ f) ⊕ (a ⊗ h ⊕ b ⊗ g ⊕ k ⊗ (c ⊗ i))
   plus-1 k a b c d e f g h i = simp (times-plus, plus-assoc, plus-left-comm D)
 
-  plus-2 : (a b c d e f g h i : F) →
+  pub plus-2 : (a b c d e f g h i : F) →
       a ⊗ (f ⊕ i) ⊕ b ⊗ (e ⊕ h) ⊕ c ⊗ (d ⊕ g) ≡ a ⊗ f ⊕ b ⊗ e ⊕ c ⊗ d ⊕ (a ⊗ i ⊕ b ⊗ h ⊕ c ⊗ g)
   plus-2 a b c d e f g h i = simp (times-plus, plus-assoc, plus-left-comm D)
 
@@ -184,10 +184,10 @@ module _ {p : ℕ} (D : Domain p) where
     abbrev nothing : Triple
     nothing = constantOf D none
 
-    triple : (u v : Triple) → u .0 ≡ v .0 → u .1 ≡ v .1 → u .2 ≡ v .2 → u ≡ v
+    pub triple : (u v : Triple) → u .0 ≡ v .0 → u .1 ≡ v .1 → u .2 ≡ v .2 → u ≡ v
     triple u v x y z = λ i. (x i, y i, z i)
 
-    decide : (u v : Triple) → Dec (u ≡ v)
+    pub decide : (u v : Triple) → Dec (u ≡ v)
     decide u v = go (same (u .0) (v .0)) (same (u .1) (v .1)) (same (u .2) (v .2))
       where
         go : Dec (u .0 ≡ v .0) → Dec (u .1 ≡ v .1) → Dec (u .2 ≡ v .2) → Dec (u ≡ v)
@@ -196,7 +196,7 @@ module _ {p : ℕ} (D : Domain p) where
         go (yes x) (yes y) (no n) = no (λ q. n (ap (λ (w : Triple). w .2) q))
         go (yes x) (yes y) (yes z) = yes (triple u v x y z)
 
-    divisors : (u v : Triple) → multiplyOf D k u v ≡ nothing → (u ≡ nothing) ⊎ (v ≡ nothing)
+    pub divisors : (u v : Triple) → multiplyOf D k u v ≡ nothing → (u ≡ nothing) ⊎ (v ≡ nothing)
     divisors u v q =
         go (divisor (u .0) (u .1) (u .2) (v .0) (v .1) (v .2)
         (ap (λ (w : Triple). w .2) q)
@@ -210,7 +210,7 @@ module _ {p : ℕ} (D : Domain p) where
         go (inl h) = inl (triple u nothing (h .0) (h .1) (h .2))
         go (inr h) = inr (triple v nothing (h .0) (h .1) (h .2))
 
-    pub cubic : Domain p
+    unfoldable pub cubic : Domain p
     cubic = record {
       F = Triple;
       same = decide;

@@ -1,3 +1,5 @@
 pub mod Cubic
+pub mod Elements
 pub mod Fermat
+pub mod Field
 pub mod Products

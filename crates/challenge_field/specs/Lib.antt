@@ -1,1 +1,2 @@
 pub mod Cubic
+pub mod Elements
