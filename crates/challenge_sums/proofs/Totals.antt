@@ -24,6 +24,11 @@ use Rattle.bus_sums.specs.Sums.{Fillings, share, shares, tupleAt, tableShare, b
 use Rattle.challenge.specs.Check.{Entry, entryShare, total}
 use Rattle.challenge_sums.specs.Entries.{entry, rowEntries, entries, tableEntries, allEntries}
 
+pub total-append : (s : Side) (ws : List ℕ) (xs ys : List Entry) → total s ws (xs ++ ys) ≡ total s ws xs + total s ws ys
+unfolding total
+total-append s ws [] ys = omega arith
+total-append s ws (x ∷ xs) ys = omega (arith, total-append s ws xs ys)
+
 module _ (s : Side) (b : Bus) (v : List ℕ) where
   abbrev ws : List ℕ
   ws = busNumber b ∷ v
@@ -40,11 +45,6 @@ module _ (s : Side) (b : Bus) (v : List ℕ) where
       go false y true = refl
       go false y false = refl
 
-  pub total-append : (xs ys : List Entry) → total s ws (xs ++ ys) ≡ total s ws xs + total s ws ys
-  unfolding total
-  total-append [] ys = omega arith
-  total-append (x ∷ xs) ys = omega (arith, total-append xs ys)
-
   total-row : (m : ℕ) (t : ℕ → Tuple) → total s ws (rowEntries m t) ≡ sumBelow m (λ i. share s b v (t i))
   unfolding total rowEntries sumBelow
   total-row zero t = refl
@@ -53,18 +53,18 @@ module _ (s : Side) (b : Bus) (v : List ℕ) where
   pub total-entries : (n m : ℕ) (t : ℕ → ℕ → Tuple) → total s ws (entries n m t) ≡ shares s b v n m t
   unfolding total entries shares sumBelow
   total-entries zero m t = refl
-  total-entries (suc n) m t = omega (arith, total-append (rowEntries m (t n)) (entries n m t), total-row m (t n), total-entries n m t)
+  total-entries (suc n) m t = omega (arith, total-append s ws (rowEntries m (t n)) (entries n m t), total-row m (t n), total-entries n m t)
 
   five : (a b c d e f : List Entry) (k l m n o : ℕ) → total s ws a ≡ k → total s ws b ≡ l → total s ws c ≡ m → total s ws d ≡ n → total s ws e ≡ o →
       total s ws (a ++ (b ++ (c ++ (d ++ (e ++ f))))) ≡ k + l + m + n + o + total s ws f
   five a b c d e f k l m n o ha hb hc hd he =
       omega (
         arith,
-        total-append a (b ++ (c ++ (d ++ (e ++ f)))),
-        total-append b (c ++ (d ++ (e ++ f))),
-        total-append c (d ++ (e ++ f)),
-        total-append d (e ++ f),
-        total-append e f,
+        total-append s ws a (b ++ (c ++ (d ++ (e ++ f)))),
+        total-append s ws b (c ++ (d ++ (e ++ f))),
+        total-append s ws c (d ++ (e ++ f)),
+        total-append s ws d (e ++ f),
+        total-append s ws e f,
       )
 
   pub total-all : (nr : ℕ) (core round : List ℕ) (w : Fillings) (more : List Entry) →
