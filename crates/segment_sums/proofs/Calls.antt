@@ -38,7 +38,8 @@ use Rattle.segment_counts.proofs.Accepted.{charge-accepted}
 use Rattle.verdict.specs.Honest.{RightOperation}
 use Rattle.bus_sums.specs.Sums.{SumsHold, nobody}
 use Rattle.is_wh_sums.proofs.Written.{keysOf, rowsWritten, rows-are}
-use Rattle.segment_sums.proofs.Segment.{segment-holds}
+use Rattle.segment_sums.proofs.Segment.{segment-holds, segment-idle}
+use Rattle.segment_sums.proofs.Counters.{busAt, Unsending}
 
 module _ (nr floor : ℕ) (ops : List ℕ) (has : 1 ≤ opCount ops) (right : (i : ℕ) → i < opCount ops → RightOperation nr (opAt ops i))
     (differ : (i j : ℕ) → i < j → j < opCount ops → opAt ops i .timestamp ≡ opAt ops j .timestamp → ⊥) where
@@ -130,3 +131,9 @@ module _ (nr floor : ℕ) (ops : List ℕ) (has : 1 ≤ opCount ops) (right : (i
                 (segment-holds nr floor n (ok .0) (ok .1) (floor-most floor (ok .2)) (ok .3 .few) has (opAt ops) right differ
                 (overwrite rcTable K) constants-length late-zero shipped Z (ok .3 .long) zeros mu constant mu-is
                 (λ r _. ap (λ (l : List ℕ). word l (r * 10 + 9)) constants-are))))
+
+            pub calls-idle : (i k : ℕ) → i < 1048576 → k < 10 → Unsending (busAt k) → word (fillAfter counters B) (i * 21 + (11 + k)) ≡ 0
+            calls-idle =
+                let ok = charge-accepted nr floor ops Z .0 charged in
+                segment-idle nr floor n (ok .0) (ok .1) (floor-most floor (ok .2)) (ok .3 .few) has (opAt ops) right differ
+                (overwrite rcTable K) constants-length late-zero shipped Z (ok .3 .long) zeros (λ i k. word (fillAfter counters B) (i * 21 + (11 + k))) mu-is

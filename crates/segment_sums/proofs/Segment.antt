@@ -1,6 +1,7 @@
 -- An honest segment passes on every bus: the five tables of right operations, the bitwise counters charged with `charge` and then with
 -- `collect_bitwise_from_is_wh` from zeros and the constants updated by the number of operations, are as a prover's check wants them.
 --     segment-holds    the sums of every bus agree, with nothing left to choose
+--     segment-idle     and kinds of lookups that are not sent are counted nowhere
 use mathlib.Core.Bool.{Bool, not, _&&_}
 use mathlib.Core.List.{List, [], _∷_}
 use mathlib.Core.Option.{none}
@@ -62,7 +63,7 @@ use Rattle.bus_sums.specs.Sums.{tupleAt, tableShare, isWhLayout, isWhKind, Cons
 use Rattle.bus_sums.proofs.Buses.{no-core, no-is-wh}
 use Rattle.bus_sums.proofs.Filling.{sentOn}
 use Rattle.is_wh_sums.proofs.Sent.{keys-good, list-good, pairs-balanced, row-sound, rows-sent}
-use Rattle.segment_sums.proofs.Counters.{adds, PairsFound, total, counted-hold}
+use Rattle.segment_sums.proofs.Counters.{adds, PairsFound, total, busAt, Unsending, total-idle, counted-hold}
 use Rattle.segment_sums.proofs.Constants.{constant-used, constant-unused}
 
 -- all rows send where there is an operation
@@ -222,3 +223,10 @@ module _ (nr floor n : ℕ) (some : 1 ≤ nr) (most : nr ≤ 24) (low-floor : fl
           counted-hold nr core round is-wh (holds .0 .lookups) (holds .2 .lookups) pair-sound pairs-found mu constant
           (λ i k li lk. mu-is i k li lk ∙ counter-is (i * 10 + k) (omega arith)) (λ r l. row-is r l ∙ constant-is r l)
           core-constrained round-constrained (holds .3) few-pairs (pairs-balanced n op few fits nr floor)
+
+      -- and a kind of lookup that none of them sends is counted nowhere
+      pub segment-idle : (mu : ℕ → ℕ → ℕ) → ((i k : ℕ) → i < 1048576 → k < 10 → mu i k ≡ word counters (i * 10 + k))
+          → (i k : ℕ) → i < 1048576 → k < 10 → Unsending (busAt k) → mu i k ≡ 0
+      segment-idle mu mu-is i k li lk quiet =
+          mu-is i k li lk ∙ counter-is (i * 10 + k) (omega arith)
+          ∙ total-idle nr core round is-wh (holds .0 .lookups) (holds .2 .lookups) pair-sound pairs-found i k lk quiet
