@@ -2,6 +2,7 @@
 -- then with B = k c² - a b and C = b² - a c each of these times B³ is it times k C³, so B and C are 0; so b³ = a b c = k c³, and b and c are 0.
 --     vanishes    a, b and c are 0, from one of the others that is not
 --     cubic       the domain
+--     w-cubed, spans    w³ is k, and every element is a + b w + c w²
 use mathlib.Core.Path.{_≡_, refl, sym, ap, ap₂, _∙_}
 use mathlib.Core.Logic.{_⊎_, inl, inr}
 use Prim.Native.Nat.{ℕ, _+_, _%_}
@@ -242,3 +243,20 @@ module _ {p : ℕ} (D : Domain p) where
       number-plus = λ m n. triple _ _ (number-plus m n) (sym (plus-none none)) (sym (plus-none none));
       number-once = λ m n q. number-once m n (ap (λ (w : Triple). w .0) q);
     }
+
+    -- w³ is k, and every element is a + b w + c w²
+    abbrev pub w : Triple
+    w = (none, one, none)
+
+    pub w-cubed : multiplyOf D k (multiplyOf D k w w) w ≡ constantOf D k
+    w-cubed = triple _ _
+        (simp (times-one, times-none D, plus-none, none-plus D))
+        (simp (times-one, times-none D, plus-none, none-plus D))
+        (simp (times-one, times-none D, plus-none, none-plus D))
+
+    pub spans : (u : Triple) →
+        u ≡ addOf D (addOf D (constantOf D (u .0)) (multiplyOf D k (constantOf D (u .1)) w)) (multiplyOf D k (constantOf D (u .2)) (multiplyOf D k w w))
+    spans u = triple _ _
+        (simp (times-one, times-none D, plus-none, none-plus D))
+        (simp (times-one, times-none D, plus-none, none-plus D))
+        (simp (times-one, times-none D, plus-none, none-plus D))

@@ -18,7 +18,7 @@ use Rattle.challenge_field.proofs.Cubic.{same-factor, cube-none}
 use Rattle.challenge_field.proofs.Products.{product, product-same, product-times, product-some, rearranged, pow, pow-plus, pow-times, pow-one}
 
 infixl 70 _⊗_
-abbrev _⊗_ : words .F → words .F → words .F
+abbrev pub _⊗_ : words .F → words .F → words .F
 a ⊗ b = words .times a b
 
 -- the words 1, 2, ..

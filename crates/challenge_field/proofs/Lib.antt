@@ -3,3 +3,5 @@ pub mod Elements
 pub mod Fermat
 pub mod Field
 pub mod Products
+pub mod Quadratic
+pub mod Square
