@@ -3,9 +3,9 @@
 --     vanishes    a, b and c are 0, from one of the others that is not
 --     cubic       the domain
 --     w-cubed, spans    w³ is k, and every element is a + b w + c w²
-use mathlib.Core.Path.{_≡_, refl, sym, ap, ap₂, _∙_}
+use mathlib.Core.Path.{_≡_, sym, ap, ap₂, _∙_}
 use mathlib.Core.Logic.{_⊎_, inl, inr}
-use Prim.Native.Nat.{ℕ, _+_, _%_}
+use Prim.Native.Nat.{ℕ}
 use Rattle.challenge.specs.Domain.{Domain}
 use Rattle.challenge.specs.Check.{_⊖_ as minus}
 use Rattle.challenge.proofs.Ring.{none-plus, plus-left-comm, times-left-comm, plus-times, cancel, times-none, none-times, rejoin, no-difference, factor, minus-one}

@@ -2,18 +2,15 @@
 -- product is both the same and a to the power p - 1 times it. So 2 is no cube: its power (p - 1) / 3 would be 1, and is 2^64 = 2^32 - 1.
 --     fermat     the power is 1
 --     no-cube    x³ = 2 y³ for y = 0 alone
-use mathlib.Core.Path.{_≡_, refl, sym, ap, ap₂, _∙_}
-use mathlib.Core.Logic.{_⊎_, inl, inr}
-use Prim.Native.Nat.{ℕ, zero, suc, _+_, _-_, _*_, _%_, _≤_, _<_}
-use native.Mathlib.Nat.{mod-eq-of-lt, mod-mod}
+use mathlib.Core.Path.{_≡_, refl, sym, ap, _∙_}
+use Prim.Native.Nat.{ℕ, suc, _+_, _-_, _*_, _%_, _<_}
+use native.Mathlib.Nat.{mod-eq-of-lt}
 use native.Mathlib.Omega.{arith}
 use Rattle.field.specs.Field.{p}
 use Rattle.field.proofs.Field.{mod-p}
 use Rattle.field.proofs.Powers.{Apart}
-use Rattle.field.proofs.Prime.{no-divisors}
-use Rattle.challenge.specs.Domain.{Domain}
 use Rattle.challenge.proofs.Words.{Word, reduce, alike, words}
-use Rattle.challenge.proofs.Ring.{times-none, none-times, factor}
+use Rattle.challenge.proofs.Ring.{times-none, factor}
 use Rattle.challenge_field.proofs.Cubic.{same-factor, cube-none}
 use Rattle.challenge_field.proofs.Products.{product, product-same, product-times, product-some, rearranged, pow, pow-plus, pow-times, pow-one}
 

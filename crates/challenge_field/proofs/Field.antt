@@ -1,6 +1,6 @@
 -- The field of p^3 elements, w³ = 2, and the list of its elements; and one of p^2 elements, w² = 7.
 use mathlib.Core.Path.{_≡_, refl, sym, ap, ap₂, _∙_, subst}
-use mathlib.Core.List.{List, [], _∷_}
+use mathlib.Core.List.{List}
 use mathlib.Core.Logic.{_⊎_, inl, inr}
 use Prim.Native.Nat.{ℕ, zero, suc, _*_, _%_, _≤_, _<_}
 use native.Mathlib.Decide.{ℕ-discrete}

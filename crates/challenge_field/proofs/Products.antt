@@ -19,6 +19,9 @@ instead (no n) x y = y
 unfoldable moved : (ℕ → ℕ) → ℕ → ℕ → ℕ
 moved f m k = instead (ℕ-discrete (f k) m) (f m) (f k)
 
+less : (n m : ℕ) → ¬ (n ≡ m) → n < suc m → n < m
+less n m d l = omega arith
+
 module _ {p : ℕ} (D : Domain p) where
   infixl 70 _⊗_
   open Domain D using (F, times as _⊗_, none, one, times-assoc, times-comm, times-one, no-divisors, one-is-not)
@@ -100,14 +103,8 @@ module _ {p : ℕ} (D : Domain p) where
             below k l = at (ℕ-discrete k m)
               where
                 at : Dec (k ≡ m) → f k < m
-                at (yes e) = less (λ q. n (sym (ap f e) ∙ q)) (small k l)
-                  where
-                    less : (f k ≡ m → ⊥) → f k < suc m → f k < m
-                    less u v = omega arith
-                at (no r) = less (h .0 k (omega arith)) (small k l)
-                  where
-                    less : (f k ≡ m → ⊥) → f k < suc m → f k < m
-                    less u v = omega arith
+                at (yes e) = less (f k) m (λ q. n (sym (ap f e) ∙ q)) (small k l)
+                at (no r) = less (f k) m (h .0 k (omega arith)) (small k l)
 
     moved-small : (k : ℕ) → k < m → moved f m k < m
     unfolding moved

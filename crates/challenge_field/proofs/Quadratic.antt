@@ -1,9 +1,9 @@
 -- Pairs over a domain, w² = k, are a domain where k is no square. For let (a + b w)(d + e w) be 0; then a² d = k b² d and a² e = k b² e.
 --     quadratic    the domain
 --     w-squared, spans    w² is k, and every element is a + b w
-use mathlib.Core.Path.{_≡_, refl, sym, ap, ap₂, _∙_}
+use mathlib.Core.Path.{_≡_, sym, ap, ap₂, _∙_}
 use mathlib.Core.Logic.{_⊎_, inl, inr}
-use Prim.Native.Nat.{ℕ, _+_, _%_}
+use Prim.Native.Nat.{ℕ}
 use Rattle.challenge.specs.Domain.{Domain}
 use Rattle.challenge.proofs.Ring.{none-plus, plus-left-comm, times-left-comm, plus-times, cancel, times-none}
 use Rattle.challenge_field.specs.Quadratic.{Pair as PairOf, addPairs, oppositePair, constantPair, multiplyPairs}

@@ -1,11 +1,9 @@
 -- 7 is no square mod p: its power (p - 1) / 2 = 2^63 - 2^31 would be 1, and its powers 2^63 and 2^31 the same.
-use mathlib.Core.Path.{_≡_, refl, sym, ap, _∙_}
+use mathlib.Core.Path.{_≡_, sym, ap, _∙_}
 use mathlib.Core.Logic.{_⊎_, inl, inr}
-use Prim.Native.Nat.{ℕ, zero, suc, _+_, _*_, _^_}
-use native.Mathlib.Nat.{pow-suc, pow-zero}
+use Prim.Native.Nat.{ℕ, zero, suc, _+_, _^_}
+use native.Mathlib.Nat.{pow-suc}
 use native.Mathlib.Omega.{arith}
-use Rattle.field.specs.Field.{p}
-use Rattle.challenge.specs.Domain.{Domain}
 use Rattle.challenge.proofs.Words.{Word, words}
 use Rattle.challenge.proofs.Ring.{times-none, factor}
 use Rattle.challenge_field.proofs.Products.{product, product-times, pow, pow-plus}

@@ -1,4 +1,4 @@
--- The cubic extension from which the Rust's prover draws its challenges (prover/src/tables/types.rs: w³ = 2): triples a + b w + c w² over
+-- The cubic extension from which the Rust's prover draws its challenges (tables/types.rs: w³ = 2): triples a + b w + c w² over
 -- a domain, where w³ is k.
 use Prim.Native.Nat.{ℕ}
 use Rattle.challenge.specs.Domain.{Domain}

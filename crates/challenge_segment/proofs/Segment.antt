@@ -2,7 +2,7 @@
 -- Ecall tuples of the core rows, the check passes at all pairs but |A| n, n the number of all tuples.
 use mathlib.Core.Bool.{Bool}
 use mathlib.Core.List.{List}
-use mathlib.Core.Path.{_≡_, refl, ap, ap₂, _∙_, subst}
+use mathlib.Core.Path.{_≡_, refl}
 use Prim.Native.Nat.{ℕ, _+_, _*_, _≤_, _<_}
 use native.Mathlib.Omega.{arith}
 use lib.ListN.{length, take}
@@ -30,10 +30,10 @@ use Rattle.is_wh_sums.proofs.Written.{keysOf, rowsWritten}
 use Rattle.segment_sums.proofs.Calls.{calls-hold, calls-idle}
 use Rattle.challenge.specs.Domain.{Domain}
 use Rattle.challenge.specs.Check.{Distinct, Entry, TotalsAgree, passing}
-use Rattle.challenge_field.proofs.Field.{cubic-words, cubic-wrap, elements, elements-distinct, elements-length}
+use Rattle.challenge.proofs.Often.{most-pass}
 use Rattle.challenge_sums.specs.Entries.{allEntries}
 use Rattle.challenge_sums.specs.Outside.{Answers, Idle}
-use Rattle.challenge_sums.proofs.Honest.{all-agree, pass-mostly}
+use Rattle.challenge_sums.proofs.Honest.{all-agree}
 
 module _ (nr floor : ℕ) (ops : List ℕ) (has : 1 ≤ opCount ops) (right : (i : ℕ) → i < opCount ops → RightOperation nr (opAt ops i))
     (differ : (i j : ℕ) → i < j → j < opCount ops → opAt ops i .timestamp ≡ opAt ops j .timestamp → ⊥)
@@ -83,13 +83,4 @@ module _ (nr floor : ℕ) (ops : List ℕ) (has : 1 ≤ opCount ops) (right : (i
 
     pub segment-at-challenges : (D : Domain p) → D .number p ≡ D .none → (αs zs : List (D .F)) → Distinct zs →
         length αs * length zs ≤ passing D left αs zs + length αs * length left
-    segment-at-challenges =
-        pass-mostly nr coreLeft roundLeft fillingsLeft more answers
-        (calls-hold nr floor ops has right differ T U wrote-core wrote-round out wrote-keys C S R wrote-rows W wrote-pairs K wrote-constants set-constants shipped Z B zeros charged collected fills)
-        left-idle
-
-    -- of all pairs from the field of p^3 elements
-    pub segment-at-cubic : p * p * p * (p * p * p) ≤ passing cubic-words left elements elements + p * p * p * length left
-    segment-at-cubic =
-        subst (λ (q : ℕ). q * q ≤ passing cubic-words left elements elements + q * length left) elements-length
-        (segment-at-challenges cubic-words cubic-wrap elements elements elements-distinct)
+    segment-at-challenges D wraps = most-pass D wraps left segment-agrees

@@ -1,7 +1,7 @@
 -- A segment in the field of p^3 elements, all of them drawn from: where a tuple's sums do not agree, at most one pair in 2^157 passes; in that
 -- of p^2 elements one in 2^93.
 use mathlib.Core.List.{List, []}
-use mathlib.Core.Path.{_≡_, refl}
+use mathlib.Core.Path.{refl}
 use Prim.Native.Nat.{ℕ, _*_, _^_, _≤_}
 use native.Mathlib.Bridge.{le-by-compare, IsLe}
 use native.Mathlib.Omega.{arith}
@@ -12,7 +12,7 @@ use Rattle.verdict.specs.CoreAndRound.{coreKind, roundKind, coreLayout, roundLa
 use Rattle.bus_sums.specs.Sums.{Fillings, Constrained, Agree, Ours, nobody, isWhLayout}
 use Rattle.challenge.specs.Check.{passing, total}
 use Rattle.challenge_field.proofs.Field.{cubic-words, elements, elements-distinct, elements-length, quadratic-words, pairs, pairs-distinct, pairs-length}
-use Rattle.challenge_sums.specs.Entries.{allEntries, sentBy}
+use Rattle.challenge_sums.specs.Entries.{allEntries}
 use Rattle.challenge_sums.proofs.Receipt.{alone, seldom-of, seldom-segment}
 use Rattle.challenge_sums.proofs.Totals.{length-all}
 

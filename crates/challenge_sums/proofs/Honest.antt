@@ -1,19 +1,16 @@
 -- The other way: where SumsHold, no lookup is counted that is not sent, and other tables answer the Memw and Ecall tuples of the core rows, what
--- is sent and what is received of all words agree mod p; so the check passes at all pairs of challenges but a few.
+-- is sent and what is received of all words agree mod p; so the check passes at all pairs of challenges but a few (`most-pass`).
 --     all-agree      they agree
 --     mirror         there are such other tables
---     pass-mostly    all pairs pass but |A| n
 use mathlib.Core.Path.{_≡_, refl, sym, ap, ap₂, _∙_, subst}
 use mathlib.Core.Bool.{Bool, true, false, _&&_}
 use mathlib.Core.List.{List, [], _∷_, _++_}
 use mathlib.Core.Logic.{_⊎_, inl, inr}
-use Prim.Native.Nat.{ℕ, zero, suc, _+_, _*_, _%_, _≤_, _<_}
+use Prim.Native.Nat.{ℕ, zero, suc, _+_, _%_, _<_}
 use native.Mathlib.Decide.{ℕ-discrete}
 use native.Mathlib.Nat.{add-comm, add-zero, zero-add}
 use native.Mathlib.Omega.{arith}
 use borrow.Author.Tests.{ne-eqb}
-use lib.Dec.{eqb}
-use lib.ListN.{length}
 use Rattle.lists.specs.Tab.{pick}
 use Rattle.lists.specs.Select.{consIf, selected, wordsTest}
 use Rattle.lists.proofs.Select.{words-sound}
@@ -27,16 +24,14 @@ use Rattle.tuple.specs.declared.Bus.the-variants.{Ecall, Msb8, Msb16, Zero, IsB
 use Rattle.tuple.specs.declared.Side.{Side}
 use Rattle.tuple.specs.declared.Side.the-variants.{Sender, Receiver}
 use Rattle.verdict.specs.Kind.{rows}
-use Rattle.verdict.specs.CoreAndRound.{coreKind, roundKind, coreLayout}
+use Rattle.verdict.specs.CoreAndRound.{coreKind, coreLayout}
 use Rattle.bitwise.specs.Columns.{NUM-ROWS}
 use Rattle.bus_sums.specs.Buses.{coreLine, roundLine, isWhLine, bitwiseLine, constantLine}
 use Rattle.bus_sums.specs.Sums.{Fillings, SumsHold, nobody, Ours, busTotal, tableShare, tupleAt, bitwiseShare, bitwiseAt}
 use Rattle.bus_sums.proofs.Shares.{no-line}
 use Rattle.bus_sums.proofs.Buses.{no-core, no-round, no-is-wh, no-bitwise, no-constants, bitwise-line}
-use Rattle.challenge.specs.Domain.{Domain}
-use Rattle.challenge.specs.Check.{All, Distinct, Entry, TotalsAgree, entryShare, total, passing}
+use Rattle.challenge.specs.Check.{All, Entry, TotalsAgree, entryShare, total}
 use Rattle.challenge.proofs.Gathered.{share-off}
-use Rattle.challenge.proofs.Often.{most-pass}
 use Rattle.challenge_sums.specs.Entries.{rowEntries, entries, tableEntries, allEntries}
 use Rattle.challenge_sums.specs.Outside.{outward, outside, Answers, otherSide, mirrored, Idle}
 use Rattle.challenge_sums.proofs.Totals.{total-append, total-entries, total-all}
@@ -238,11 +233,6 @@ module _ (nr : ℕ) (core round : List ℕ) (w : Fillings) (more : List Entry) (
         go : ((b : Bus) × (busNumber b ≡ n)) ⊎ All (λ b. ¬ (n ≡ busNumber b)) buses → Even (n ∷ v)
         go (inl h) = subst (λ (k : ℕ). Even (k ∷ v)) (h .1) (on-bus (h .0) v)
         go (inr h) = strange-even (n ∷ v) (no-bus n v (each n h))
-
-    -- THE CHECK PASSES, but where z is one of at most n fingerprints
-    pub pass-mostly : (D : Domain p) → D .number p ≡ D .none → (A Z : List (D .F)) → Distinct Z →
-        length A * length Z ≤ passing D es A Z + length A * length es
-    pass-mostly D wraps A Z d = most-pass D wraps es all-agree A Z d
 
 -- ---- other tables that answer: the same tuples on the other side
 mirrored-total : (s : Side) (ws : List ℕ) (es : List Entry) → total s ws (mirrored es) ≡ total (otherSide s) ws es

@@ -128,7 +128,7 @@ module _ (D : Domain p) (nr : ℕ) (core round : List ℕ) (w : Fillings) (more 
       EachActive (λ x. Computed nr x × Addressed x) core
   challenge-computed = receipt.challenge-computed D nr core round w more width K core-constrained round-constrained few-pairs is-wh-below others
 
--- ---- fields that exist. That of the Rust's prover (prover/src/tables/types.rs): w³ = 2, every element is a + b w + c w² for a, b, c below p,
+-- ---- fields that exist. That of the Rust's prover (tables/types.rs): w³ = 2, every element is a + b w + c w² for a, b, c below p,
 -- and these are p^3
 abbrev pub cubic : Domain p
 cubic = field.cubic-words
