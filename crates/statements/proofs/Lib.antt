@@ -8,3 +8,4 @@ pub mod Calls
 pub mod Exports
 pub mod Answers
 pub mod Lookups
+pub mod Challenges
