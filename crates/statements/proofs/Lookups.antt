@@ -1,4 +1,4 @@
--- How many lookups are enough, and how few: "why the 1,031 lookups under each row are enough, which nobody left can say".
+-- Why the 1,031 lookups under each row are enough, how many of them are, and that no fewer are.
 --     kept            911 of the 1,031 tuples of a round row: all but 120 AreBytes tuples (keccak_rnd_lean/specs/Lean.antt)
 --     LeanPasses      all 141 values of a row are 0, and its kept lookups are matched
 --     LeanAnswers     a round table whose rows pass these, active or not, and which balances the Keccak bus with a core table
