@@ -214,7 +214,13 @@ fn said(
         (Refusal::TooShort { needed, .. }, _) => {
             format!("COUNTERS has {} words, and {needed} are needed", counters.len())
         }
-        (Refusal::NotElement { argument, place }, Some(ledgers)) if argument == "ledgers" => {
+        (
+            Refusal::NotElement {
+                argument: "ledgers",
+                place,
+            },
+            Some(ledgers),
+        ) => {
             let (word, place, kind) = large(place, &ledgers.words);
             let register = ledgers.register;
             format!("LEDGERS, word {place} (register {register}, {kind}): {word} is not below p")

@@ -58,7 +58,7 @@ fn said(refusal: Refusal, core: &[u64], round: &[u64], counts: &[u64]) -> String
     match refusal {
         Refusal::NotWhole { which: Lent::List, .. } => {
             let sum = |k| -> u128 { counts.iter().skip(k).step_by(COUNT_WORDS).map(|&n| u128::from(n)).sum() };
-            if counts.len() % COUNT_WORDS == 0 {
+            if counts.len().is_multiple_of(COUNT_WORDS) {
                 format!(
                     "COUNTS has {} core rows and {} round rows, and the tables have {} and {}",
                     sum(0),

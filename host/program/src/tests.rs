@@ -865,7 +865,7 @@ fn a_refused_register_leaves_both_files_alone() {
 fn a_register_whose_charge_fails_leaves_both_files_alone() {
     let folder = Folder::new("register-fails");
     let ops = folder.put("ops", &records(&operations(1)));
-    let (counters, ledgers) = (bytes(&vec![7; NUM_COUNTERS]), bytes(&vec![7; 20]));
+    let (counters, ledgers) = (bytes(&vec![7; NUM_COUNTERS]), bytes(&[7; 20]));
     let (first, second) = (folder.put("counters", &counters), folder.put("ledgers", &ledgers));
     let (odd, linked) = (folder.put("odd", &[0; 81]), folder.path("linked"));
     fs::hard_link(&second, &linked).unwrap();
@@ -1402,7 +1402,7 @@ fn segments_and_then_the_job() {
     let told = |counts: &[u64]| {
         let binary = folder.put("binary", &bytes(counts));
         let told = ran(run, &["job", "--binary", "--rounds", "12", &core, &round, &binary], &[]);
-        if counts.len() % 2 == 0 {
+        if counts.len().is_multiple_of(2) {
             let lines = counts.chunks(2).map(|pair| format!("{}  {} \n", pair[0], pair[1]));
             let text = folder.put("counts", lines.collect::<String>().as_bytes());
             assert_eq!(ran(run, &["job", "--rounds", "12", &core, &round, &text], &[]), told);
