@@ -3,6 +3,7 @@
 #![deny(unsafe_code)]
 #![warn(missing_docs)]
 
+pub mod balance;
 mod charge;
 mod charged;
 #[allow(unsafe_code)]
@@ -163,6 +164,7 @@ fn named(name: &str, rest: &[OsString], streams: &mut Streams) -> Result<Outcome
         "write" => write::write(rest, streams),
         "judge" => judge::judge(rest, streams),
         "job" => job::job(rest, streams),
+        "balance" => balance::balance(rest, streams),
         "same" => same::same(rest, streams),
         "tally" => tally::tally(rest, streams),
         "look" => charge::look(rest, streams),
