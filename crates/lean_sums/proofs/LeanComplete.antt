@@ -6,7 +6,7 @@ use mathlib.Core.List.{List, []}
 use mathlib.Core.Logic.{_⊎_, inl, inr, _↔_, ⊎-elim}
 use mathlib.Core.Path.{_≡_, refl, sym, ap, subst, _∙_}
 use Prim.Native.Nat.{ℕ, _+_, _-_, _%_, _≤_, _<_}
-use native.Mathlib.Nat.{add-zero, mod-mod}
+use native.Mathlib.Nat.{mod-mod}
 use native.Mathlib.Omega.{arith}
 use Rattle.lists.proofs.Then.{by-le}
 use Rattle.field.specs.Field.{p}
@@ -19,13 +19,12 @@ use Rattle.tuple.specs.declared.Side.the-variants.{Sender, Receiver}
 use Rattle.bitwise.specs.Charge.{Placed}
 use Rattle.bitwise.proofs.Charge.{alu-placed, bytes-placed, half-placed}
 use Rattle.matching.specs.Matching.{FoundOn, Matched}
-use Rattle.keccak_rnd.specs.Tuples.{roundTuple}
 use Rattle.keccak_rnd_lean.specs.Lean.{kept}
 use Rattle.verdict.specs.Kind.{rows, row, Passes, Balanced, activeTuples}
 use Rattle.verdict.specs.CoreAndRound.{coreLayout, roundLayout, coreKind, roundKind}
 use Rattle.lean_verdict.specs.LeanTables.{LeanAnswers}
 use Rattle.bus_sums.specs.Buses.{isWhLine}
-use Rattle.bus_sums.specs.Sums.{Fillings, tupleAt, tableShare, isWhKind, Ours, Constrained, InField, nobody, MAX-ROWS}
+use Rattle.bus_sums.specs.Sums.{Fillings, tableShare, isWhKind, Ours, Constrained, InField, nobody, MAX-ROWS}
 use Rattle.bus_sums.proofs.Shares.{not-zero}
 use Rattle.bus_sums.proofs.Buses.{no-core, no-round, no-is-wh}
 use Rattle.bus_sums.proofs.Constrained.{core-carried, round-carried}
@@ -35,7 +34,7 @@ use Rattle.bus_sums.proofs.Pairs.{pairsOf, pairs-rows, pairs-received, pairs-wh
 use Rattle.bus_sums.proofs.Filling.{table-found}
 use Rattle.bus_sums.proofs.Sound.{empty-round}
 use Rattle.bus_sums.proofs.Complete.{core-constrained, core-sent, half-at, twenty-at}
-use Rattle.lean_sums.specs.LeanSums.{keptTuple, keptKind, leanTotal, LeanSumsHold, LeanFilled}
+use Rattle.lean_sums.specs.LeanSums.{keptTuple, keptKind, leanTotal, LeanFilled}
 use Rattle.lean_sums.proofs.LeanSums.{kept-is, dropped-is, lean-share-le, lean-share-keccak, lean-sums-core, lean-sums-answer}
 
 other : {b c : Bus} → (busNumber b ≡ busNumber c → ⊥) → b ≡ c → ⊥

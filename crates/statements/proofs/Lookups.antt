@@ -9,6 +9,8 @@
 --     needed          929 of them: KeccakRc, the 808 ByteAlu tuples and the 120 shift identities
 --     PassesBut j     an active row of words below p, all whose rules hold but rule j, of which nothing is said
 --     Wrong           the state that a row sends is not FIPS 202's round of its START
+--     coreNeeded j    of a core row likewise (84 tuples, 52 values): rules 4 to 58, 84 to 132 and 134 (keccak_needed/specs/CoreNeeded.antt)
+--     CoreBut j       an active core row of words below p, all whose rules hold but rule j, of which nothing is said
 --     Deceives j      two tables that meet all but rule j, the core table as demand 3 supposes it, with an OUTPUT that is false
 use mathlib.Core.Path.{_≡_}
 use mathlib.Core.Bool.{Bool, true, false}
@@ -23,6 +25,10 @@ use Rattle.answer.specs.Limits.{MAX-OPS}
 use Rattle.tuple.specs.declared.Bus.{Bus}
 use Rattle.fips202.specs.Lanes.{rndL}
 use Rattle.keccak.specs.Row.{stateLanes}
+use Rattle.keccak.specs.Passes.{CorePasses}
+use Rattle.keccak_needed.specs.CoreNeeded.{coreNeeded, CoreBut}
+use Rattle.keccak_needed.proofs.CoreNeeded as core
+use Rattle.keccak_needed.proofs.CoreFollows as core-others
 use Rattle.keccak_rnd.specs.Columns.{ROUND, START, MU}
 use Rattle.keccak_rnd.specs.Row.{roundRow}
 use Rattle.keccak_rnd.specs.Tuples.{outLanes}
@@ -135,3 +141,16 @@ none-deceives = deceived.none-deceives
 -- of the 911 none can be dropped (tuples 0 and 1 are the bus itself)
 pub lean-minimal : (j : ℕ) → 2 ≤ j → j < 1031 → kept j ≡ true → (row : List ℕ) × LeanBut j row × Wrong row
 lean-minimal = minimal.lean-minimal
+
+-- ---- the core row: 105 of its 136 rules are needed, each by itself, and no other, for "lane i sits at address + 8i, below 2^64, the address a multiple
+-- of 8". The address is the number its 8 bytes make, so AreBytes of its high bytes, 57 and 58, are needed for that conclusion
+pub core-needed-count : countBelow coreNeeded 136 ≡ 105
+core-needed-count = core.core-needed-count
+
+pub core-needed-exactly : (j : ℕ) → j < 136 → (nr syscall : ℕ) → (coreNeeded j ≡ true) ↔ ((row : List ℕ) × CoreBut j nr syscall row × (Addressed row → ⊥))
+core-needed-exactly = core-others.core-needed-exactly
+
+-- each of the other 31 follows, in an active row, from the remaining 135: value 49 (rule 133) from value 50; that MU is a bit; and Ecall, Memw and Keccak,
+-- which are not looked up
+pub core-follows : (j : ℕ) → j < 136 → coreNeeded j ≡ false → (nr syscall : ℕ) (row : List ℕ) → CoreBut j nr syscall row → CorePasses nr syscall row
+core-follows = core-others.core-follows
