@@ -13,7 +13,7 @@ pub struct Command {
 }
 
 /// The commands, in the order in which they are told.
-pub const COMMANDS: [Command; 13] = [
+pub const COMMANDS: [Command; 14] = [
     Command {
         name: "demo",
         arguments: "",
@@ -220,6 +220,21 @@ columns' names. A column's name, as in THETA[1][2][3] (x, y, byte), may stand fo
 `same` printed, or of `refused N D`, as one argument or as many, it says what that means: which rule failed, what the columns
 are and what was found there.
 Exit status: 0; 2 there is no such index, or the line is none of these.
+",
+    },
+    Command {
+        name: "attack",
+        arguments: "core|round value|tuple INDEX DIR",
+        short: "writes two tables in which one rule alone fails and something false is claimed, or says why there are none",
+        long: "\
+Makes the folder DIR with the files core and round: the tables of a segment of one call, 24 rounds, in which the value or the
+tuple INDEX fails in one row and nothing else does, and a core row claims something false: an OUTPUT that is not Keccak-f[1600]
+of its INPUT, or a lane that sits elsewhere. Prints the rule, what was done, what is false, and the lines that `judge --all`
+prints of the tables: one, or two where a tuple of the Keccak bus is asked for, since what is sent and not received leaves
+another that is received and not sent. So it is shown what the rule is for. Where a rule follows from the others, or is asked
+by other tables alone, it says so, names the theorem and writes nothing. DIR must be new or empty; it is written beside its name,
+as DIR.N.part, and has both tables or is as it was.
+Exit status: 0 the tables are there; 1 there are none; 2 there is no such rule, or DIR can't be written.
 ",
     },
 ];

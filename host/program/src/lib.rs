@@ -3,6 +3,7 @@
 #![deny(unsafe_code)]
 #![warn(missing_docs)]
 
+mod attack;
 pub mod balance;
 mod charge;
 mod charged;
@@ -171,6 +172,7 @@ fn named(name: &str, rest: &[OsString], streams: &mut Streams) -> Result<Outcome
         "charge" => charge::charge(rest, streams),
         "month" => month::month(rest, streams),
         "message" => message::message(rest, streams),
+        "attack" => attack::attack(rest, streams),
         "is-message" => message::is_message(rest, streams),
         _ => explain::explain(rest, streams),
     }
