@@ -24,27 +24,18 @@ use Rattle.bitwise.proofs.Charge.{twenty-placed}
 use Rattle.bus_sums.proofs.Pairs.{pairsOf, pairs-rows, pairs-received, pairs-whole, pairs-below, PairSent, pairs-found}
 use Rattle.bus_sums.proofs.Filling.{filled, table-found, alu-agree, bytes-agree, constants-agree, half-agree, twenty-agree, is-wh-agree, keccak-agree, in-field}
 
-module _ (nr : ℕ) (core round : List ℕ) (pc : Passes (coreKind nr) core) (answer : Answers nr core round) (fc : rows coreLayout core ≤ MAX-ROWS) (fr : rows roundLayout round ≤ MAX-ROWS) where
-  cc : Constrained (coreKind nr) core
-  cc = record { whole = pc .whole; below = pc .below; values = pc .values; few = fc }
+-- ---- what a core table and its IS_WH table send is found
+module _ (nr : ℕ) (core : List ℕ) (pc : Passes (coreKind nr) core) (fc : rows coreLayout core ≤ MAX-ROWS) where
+  pub core-constrained : Constrained (coreKind nr) core
+  core-constrained = record { whole = pc .whole; below = pc .below; values = pc .values; few = fc }
 
-  cr : Constrained roundKind round
-  cr = let h = answer .passes in record { whole = h .whole; below = h .below; values = h .values; few = fr }
+  pub core-sent : (b : Bus) → (b ≡ IsWh → ⊥) → (v : List ℕ) → 1 ≤ tableShare Sender b v (coreKind nr) core → FoundOn b v
+  core-sent b n = table-found (coreKind nr) core b (λ r i lr li e. pc .lookups r i lr li)
 
-  abbrev pairs : List ℕ
-  pairs = pairsOf core
+  sent-pair : (b : Bus) (v : List ℕ) → 1 ≤ tableShare Sender b v isWhKind (pairsOf core) % p → PairSent core (core-mu nr core core-constrained) b v
+  sent-pair b v l = pairs-found core (core-mu nr core core-constrained) nr (pc .lookups) b v (not-zero (tableShare Sender b v isWhKind (pairsOf core)) l)
 
-  -- ---- what is sent is found
-  core-found : (b : Bus) → (b ≡ IsWh → ⊥) → (v : List ℕ) → 1 ≤ tableShare Sender b v (coreKind nr) core → FoundOn b v
-  core-found b n = table-found (coreKind nr) core b (λ r i lr li e. pc .lookups r i lr li)
-
-  round-found : (b : Bus) (v : List ℕ) → 1 ≤ tableShare Sender b v roundKind round → FoundOn b v
-  round-found b = table-found roundKind round b (λ r i lr li e. answer .passes .lookups r i lr li)
-
-  sent-pair : (b : Bus) (v : List ℕ) → 1 ≤ tableShare Sender b v isWhKind pairs % p → PairSent core (core-mu nr core cc) b v
-  sent-pair b v l = pairs-found core (core-mu nr core cc) nr (pc .lookups) b v (not-zero (tableShare Sender b v isWhKind pairs) l)
-
-  half-at : (v : List ℕ) → 1 ≤ tableShare Sender IsHalfword v isWhKind pairs % p → BitwiseFound IsHalfword v
+  pub half-at : (v : List ℕ) → 1 ≤ tableShare Sender IsHalfword v isWhKind (pairsOf core) % p → BitwiseFound IsHalfword v
   half-at v l =
       let q = sent-pair IsHalfword v l in
       ⊎-elim (λ e. absurd (buses-differ (ap busNumber (e .0)))) (λ e. subst (BitwiseFound IsHalfword) (sym (q .values)) (half-occurs (q .number) (e .1))) (q .range)
@@ -52,7 +43,7 @@ module _ (nr : ℕ) (core round : List ℕ) (pc : Passes (coreKind nr) core) (an
       buses-differ : _≡_ {A = ℕ} 2 11 → ⊥
       buses-differ e = omega arith
 
-  twenty-at : (v : List ℕ) → 1 ≤ tableShare Sender IsB20 v isWhKind pairs % p → Placed IsB20 v
+  pub twenty-at : (v : List ℕ) → 1 ≤ tableShare Sender IsB20 v isWhKind (pairsOf core) % p → Placed IsB20 v
   twenty-at v l =
       let q = sent-pair IsB20 v l in
       ⊎-elim (λ e. subst (Placed IsB20) (sym (q .values)) (twenty-placed (q .number) (e .1))) (λ e. absurd (buses-differ (ap busNumber (e .0)))) (q .range)
@@ -60,11 +51,28 @@ module _ (nr : ℕ) (core round : List ℕ) (pc : Passes (coreKind nr) core) (an
       buses-differ : _≡_ {A = ℕ} 11 2 → ⊥
       buses-differ e = omega arith
 
+-- ---- the sums
+module _ (nr : ℕ) (core round : List ℕ) (pc : Passes (coreKind nr) core) (answer : Answers nr core round) (fc : rows coreLayout core ≤ MAX-ROWS) (fr : rows roundLayout round ≤ MAX-ROWS) where
+  cc : Constrained (coreKind nr) core
+  cc = core-constrained nr core pc fc
+
+  cr : Constrained roundKind round
+  cr = let h = answer .passes in record { whole = h .whole; below = h .below; values = h .values; few = fr }
+
+  abbrev pairs : List ℕ
+  pairs = pairsOf core
+
+  core-found : (b : Bus) → (b ≡ IsWh → ⊥) → (v : List ℕ) → 1 ≤ tableShare Sender b v (coreKind nr) core → FoundOn b v
+  core-found = core-sent nr core pc fc
+
+  round-found : (b : Bus) (v : List ℕ) → 1 ≤ tableShare Sender b v roundKind round → FoundOn b v
+  round-found b = table-found roundKind round b (λ r i lr li e. answer .passes .lookups r i lr li)
+
   agree : (b : Bus) → Ours b → (v : List ℕ) → Agree nr core round (filled nr core round pairs) nobody b v
   agree ByteAlu o v = alu-agree nr core round pairs core-found round-found v
   agree AreBytes o v = bytes-agree nr core round pairs core-found round-found v
-  agree IsHalfword o v = half-agree nr core round pairs core-found round-found v (half-at v)
-  agree IsB20 o v = twenty-agree nr core round pairs v (twenty-at v)
+  agree IsHalfword o v = half-agree nr core round pairs core-found round-found v (half-at nr core pc fc v)
+  agree IsB20 o v = twenty-agree nr core round pairs v (twenty-at nr core pc fc v)
   agree IsWh o v = is-wh-agree nr core round pairs v (ap (λ (n : ℕ). n % p) (pairs-received core (pc .below) nr v))
   agree KeccakRc o v = constants-agree nr core round pairs core-found round-found v
   agree Keccak o v = keccak-agree nr core round pairs cc cr (answer .balanced) v

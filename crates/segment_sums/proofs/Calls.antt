@@ -45,7 +45,8 @@ use Rattle.verdict.specs.Honest.{RightOperation}
 use Rattle.verdict.specs.Kind.{rows}
 use Rattle.bus_sums.specs.Sums.{isWhLayout, SumsHold, nobody}
 use Rattle.is_wh_sums.proofs.Written.{keysOf, rowsWritten, rows-are}
-use Rattle.segment_sums.proofs.Segment.{segment-holds, empty-holds}
+use Rattle.segment_sums.proofs.Segment.{segment-holds, segment-idle, empty-holds}
+use Rattle.segment_sums.proofs.Counters.{busAt, Unsending}
 use Rattle.segment_sums.proofs.Unpaired.{unpaired}
 
 -- the constants of n operations, as they are written
@@ -145,6 +146,13 @@ module _ (nr floor : ℕ) (ops : List ℕ) (has : 1 ≤ opCount ops) (right : (i
                 (overwrite rcTable K) (constants-length nr n K wrote-constants set-constants) (late-zero nr n K wrote-constants set-constants) mu constant
                 (λ i k li lk. filled-word counters B fills i k li lk ∙ ap (λ (l : List ℕ). word l (i * 10 + k)) counters-are)
                 (λ r _. constant-word nr n K wrote-constants set-constants r))))
+
+            pub calls-idle : (i k : ℕ) → i < 1048576 → k < 10 → Unsending (busAt k) → word (fillAfter counters B) (i * 21 + (11 + k)) ≡ 0
+            calls-idle =
+                let ok = charge-accepted nr floor ops Z .0 charged in
+                segment-idle nr floor n (ok .0) (ok .1) (floor-most floor (ok .2)) (ok .3 .few) (opAt ops) right differ has
+                shipped Z (ok .3 .long) zeros (λ i k. word (fillAfter counters B) (i * 21 + (11 + k)))
+                (λ i k li lk. filled-word counters B fills i k li lk ∙ ap (λ (l : List ℕ). word l (i * 10 + k)) counters-are)
 
 -- ---- an empty list, shipped: both tables as they are written, no IS_WH table, the constants after `update_multiplicities` with 0, and the
 -- bitwise table filled from counters that `charge` charged from zero

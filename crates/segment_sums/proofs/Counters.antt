@@ -4,6 +4,7 @@
 --     total            what the rows of the three tables add to counter c
 --     lands            a tuple falls on a counter only where the values of that row and kind are charged
 --     filled-word      a counter is the multiplicity by which bus_sums/proofs/Filling.antt fills the bitwise table
+--     total-idle       a kind of lookup that none of the three sends is counted nowhere
 --     counted-hold     so the sums of every bus agree, with the counters as they were charged
 use mathlib.Core.Bool.{Bool, true, false, _&&_}
 use mathlib.Core.List.{List, [], _∷_, _++_}
@@ -38,6 +39,7 @@ use Rattle.keccak_rc.specs.Row.{rcRow}
 use Rattle.keccak_rc.specs.Tuples.{rcTuple}
 use Rattle.verdict.specs.Kind.{Kind, rows, Lookups, Balanced}
 use Rattle.verdict.specs.CoreAndRound.{coreLayout, roundLayout, coreKind, roundKind}
+use Rattle.bus_sums.specs.Buses.{coreLine, roundLine, isWhLine}
 use Rattle.bus_sums.specs.Sums.{Fillings, share, shares, tupleAt, tableShare, bitwiseAt, bitwiseShare, constantAt, constantsShare, isWhLayout, isWhKind, busTotal, Agree, Ours, Constrained, SumsHold, nobody, MAX-PAIRS}
 use Rattle.bus_sums.proofs.Shares.{not-zero, shares-find}
 use Rattle.bus_sums.proofs.Buses.{no-core, no-round, no-is-wh}
@@ -52,11 +54,15 @@ zero-of zero h = refl
 zero-of (suc n) h = absurd (h (omega arith))
 
 -- the bus and the values of counter i * 10 + k
-abbrev busAt : ℕ → Bus
+abbrev pub busAt : ℕ → Bus
 busAt k = kindBus (kindAt k)
 
 abbrev valuesAt : ℕ → ℕ → List ℕ
 valuesAt i k = kindValues (bitwiseRow i) (kindAt k)
+
+-- a bus on which neither core rows, nor round rows, nor IS_WH rows send
+abbrev pub Unsending : Bus → Type 0
+Unsending b = ((m : ℕ) → coreLine Sender b m ≡ 0) × ((m : ℕ) → roundLine Sender b m ≡ 0) × ((m : ℕ) → isWhLine Sender b m ≡ 0)
 
 -- they are charged there, and found
 record Here (i k : ℕ) : Type 0 where
@@ -231,6 +237,21 @@ module _ (nr : ℕ) (core round is-wh : List ℕ) (pc : Lookups (coreKind nr) co
       go true true false ex ey ef = zero-mod (total-none i k l (λ h. never (h .seen) ef)) ∙ sym (zero-mod (unsent (kindAt k) v ef))
       go true false f ex ey ef = zero-mod (total-none i k l (λ h. never (eq-eqb k (placeKind b v) (h .kind-is)) ey))
       go false y f ex ey ef = zero-mod (total-none i k l (λ h. never (eq-eqb i (placeRow b v) (h .row-is)) ex))
+
+  -- a kind of lookup that none of the three sends is counted nowhere
+  pub total-idle : (i k : ℕ) → k < 10 → Unsending (busAt k) → total (i * 10 + k) % p ≡ 0
+  unfolding filling.charged filling.chargeOf sentOn
+  total-idle i k l quiet = filled-word i k l ∙ go (filling.chargedAt (sentOn nr core round is-wh) i k (busAt k) (valuesAt i k))
+    where
+      nothing : sentOn nr core round is-wh (busAt k) (valuesAt i k) ≡ 0
+      nothing =
+          ap (λ (n : ℕ). n % p)
+          (ap₂ _+_ (ap₂ _+_ (no-core Sender (busAt k) (valuesAt i k) (quiet .0) nr core) (no-round Sender (busAt k) (valuesAt i k) (quiet .1) round))
+          (no-is-wh Sender (busAt k) (valuesAt i k) (quiet .2) is-wh))
+
+      go : (t : Bool) → pick t (sentOn nr core round is-wh (busAt k) (valuesAt i k)) 0 ≡ 0
+      go true = nothing
+      go false = refl
 
   -- ---- so the sums of every bus agree: with the counters as they are charged, mod p, and each constant as often as it is sent
   module _ (mu : ℕ → ℕ → ℕ) (constant : ℕ → ℕ) (mu-is : (i k : ℕ) → i < 1048576 → k < 10 → mu i k ≡ total (i * 10 + k) % p)

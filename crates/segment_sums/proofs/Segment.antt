@@ -2,6 +2,7 @@
 -- `collect_bitwise_from_is_wh` from zeros and the constants updated by the number of operations, are as a prover's check wants them.
 --     constant-is      each constant is counted as often as it is sent, whatever stands in the IS_WH table
 --     segment-holds    the sums of every bus agree, with nothing left to choose
+--     segment-idle     and kinds of lookups that are not sent are counted nowhere
 use mathlib.Core.Bool.{Bool, true, _&&_}
 use mathlib.Core.List.{List, [], _∷_}
 use mathlib.Core.Option.{none}
@@ -61,7 +62,7 @@ use Rattle.bus_sums.proofs.Shares.{no-line}
 use Rattle.bus_sums.proofs.Buses.{core-line, no-core, no-is-wh}
 use Rattle.bus_sums.proofs.Filling.{sentOn}
 use Rattle.is_wh_sums.proofs.Sent.{keys-good, list-good, pairs-balanced, row-sound, rows-sent}
-use Rattle.segment_sums.proofs.Counters.{adds, PairsFound, total, counted-hold}
+use Rattle.segment_sums.proofs.Counters.{adds, PairsFound, total, busAt, Unsending, total-idle, counted-hold}
 use Rattle.segment_sums.proofs.Sent.{core-height, round-height, both-add}
 use Rattle.segment_sums.proofs.Constants.{constant-used, constant-unused}
 
@@ -190,6 +191,13 @@ module _ (nr floor n : ℕ) (some : 1 ≤ nr) (most : nr ≤ 24) (low-floor : fl
           counted-hold nr core round is-wh (holds .0 .lookups) (holds .2 .lookups) pair-sound pairs-found mu constant
           (λ i k li lk. mu-is i k li lk ∙ counter-is (i * 10 + k) (omega arith)) (λ r l. row-is r l ∙ constant-is K room late-zero is-wh r l)
           core-constrained round-constrained (holds .3) few-pairs (pairs-balanced n op few fits nr floor)
+
+      -- and a kind of lookup that none of them sends is counted nowhere
+      pub segment-idle : (mu : ℕ → ℕ → ℕ) → ((i k : ℕ) → i < 1048576 → k < 10 → mu i k ≡ word counters (i * 10 + k))
+          → (i k : ℕ) → i < 1048576 → k < 10 → Unsending (busAt k) → mu i k ≡ 0
+      segment-idle mu mu-is i k li lk quiet =
+          mu-is i k li lk ∙ counter-is (i * 10 + k) (omega arith)
+          ∙ total-idle nr core round is-wh (holds .0 .lookups) (holds .2 .lookups) pair-sound pairs-found i k lk quiet
 
   -- ---- no operation, shipped: "No sends, no table" (tables/is_wh.rs), so there is no IS_WH table
   module _ (none-made : n ≡ 0) where

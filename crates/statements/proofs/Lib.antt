@@ -7,3 +7,5 @@ pub mod Segments
 pub mod Calls
 pub mod Exports
 pub mod Answers
+pub mod Lookups
+pub mod Challenges

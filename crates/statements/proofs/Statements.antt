@@ -1607,7 +1607,7 @@ segment-passes = calls-hold
 pub sums-met : Filled 24 (oneCore witness) (oneRound witness)
 sums-met = witness-sums
 
--- MU is 0 or 1 where its value, 51 of a core row and 140 of a round row, is 0, though p is nowhere known to be prime
+-- MU is 0 or 1 where its value, 51 of a core row and 140 of a round row, is 0, because p is prime (`no-divisors`)
 pub mu-bit : (r : ℕ) → r < p → isBit r ≡ 0 → r < 2
 mu-bit = bit-is
 

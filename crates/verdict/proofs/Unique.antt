@@ -74,7 +74,7 @@ tuples-same {K} bus s t u h x =
     ∙ by-active (isActive A) test (tab (rows A u) (row A u))
     ∙ sym (active-tuples-listed bus s u x)
 
-balanced-same : (nr : ℕ) (core u v : List ℕ) → EquallyOften roundLayout v u → Balanced (coreKind nr) roundKind core u → Balanced (coreKind nr) roundKind core v
+pub balanced-same : (nr : ℕ) (core u v : List ℕ) → EquallyOften roundLayout v u → Balanced (coreKind nr) roundKind core u → Balanced (coreKind nr) roundKind core v
 unfolding Balanced
 balanced-same nr core u v h b x = omega (arith, b x, tuples-same round-bus Sender v u h x, tuples-same round-bus Receiver v u h x)
 

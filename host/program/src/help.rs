@@ -13,7 +13,7 @@ pub struct Command {
 }
 
 /// The commands, in the order in which they are told.
-pub const COMMANDS: [Command; 12] = [
+pub const COMMANDS: [Command; 14] = [
     Command {
         name: "demo",
         arguments: "",
@@ -78,6 +78,29 @@ that are not pairs, or whose sums are not the rows of the tables, are refused by
 and 32 bytes beside them for each row of both tables.
 With --rounds NR the tables are judged as those of NR rounds, as by `judge`.
 Exit status: 0 every segment holds, and the job; 1 one does not, or refused; 2 a file can't be read.
+",
+    },
+    Command {
+        name: "balance",
+        arguments: "[--rounds NR] [--challenge SEED] DIR",
+        short: "says whether every bus between a segment's tables adds up, or with --challenge adds up a prover's one sum",
+        long: "\
+DIR has the files that `write --all` makes: core, round, is_wh, constants and bitwise; the first three may be missing, and then
+have no rows. Of each bus a line: `BUS tuples T sent S received R`, the tuples that have a multiplicity, equal ones counted once,
+and the sums of multiplicities, then `agree` where each tuple is as often sent as received mod p, and `differ N` where N are not.
+Memw and Ecall end in tables outside: these read `outside`, and nothing is asked of them. The last line is `balance agrees`, or of
+the tuple that stands first in these tables of those that differ `balance TABLE row R tuple I BUS VALUES sent S received R`, S and
+R mod p. Whether the rows hold by themselves is not looked at (`judge`).
+With --challenge SEED it adds up, as a prover does, a fraction for each tuple of each row: its multiplicity over z less its
+fingerprint, which is BUS + v0 alpha + v1 alpha^2 + .., BUS the number of the bus; what is received counts negatively. Each tuple
+of Memw and Ecall is added a second time, as the outside tables'. The field has p^3 elements, a + b w + c w^2 with w^3 = 2, which
+are shown as `a b c`. alpha and z are drawn from SEED, a decimal below 2^64, by SHA3-256; a prover draws them when the tables
+are fixed, so take a SEED that was not known then. The last line is `sum A B C`. It is 0 0 0 where the sums of all tuples agree;
+where they don't, it is so for one pair of challenges in 2^157 at most, of tables of up to 131072 round rows.
+With --rounds NR the tables are those of NR rounds, 1 to 24, and 24 without it; another number is refused by 8. Some rows are held
+in memory at a time, and every tuple once.
+Exit status: 0 all agree, or the sum is 0; 1 not, or refused; 2 a file can't be read or is no such table: rows that are not
+whole, a word that is not below p, fixed columns of constants and bitwise that are others.
 ",
     },
     Command {
@@ -197,6 +220,21 @@ columns' names. A column's name, as in THETA[1][2][3] (x, y, byte), may stand fo
 `same` printed, or of `refused N D`, as one argument or as many, it says what that means: which rule failed, what the columns
 are and what was found there.
 Exit status: 0; 2 there is no such index, or the line is none of these.
+",
+    },
+    Command {
+        name: "attack",
+        arguments: "core|round value|tuple INDEX DIR",
+        short: "writes two tables in which one rule alone fails and something false is claimed, or says why there are none",
+        long: "\
+Makes the folder DIR with the files core and round: the tables of a segment of one call, 24 rounds, in which the value or the
+tuple INDEX fails in one row and nothing else does, and a core row claims something false: an OUTPUT that is not Keccak-f[1600]
+of its INPUT, or a lane that sits elsewhere. Prints the rule, what was done, what is false, and the lines that `judge --all`
+prints of the tables: one, or two where a tuple of the Keccak bus is asked for, since what is sent and not received leaves
+another that is received and not sent. So it is shown what the rule is for. Where a rule follows from the others, or is asked
+by other tables alone, it says so, names the theorem and writes nothing. DIR must be new or empty; it is written beside its name,
+as DIR.N.part, and has both tables or is as it was.
+Exit status: 0 the tables are there; 1 there are none; 2 there is no such rule, or DIR can't be written.
 ",
     },
 ];

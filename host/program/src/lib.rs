@@ -3,6 +3,8 @@
 #![deny(unsafe_code)]
 #![warn(missing_docs)]
 
+mod attack;
+pub mod balance;
 mod charge;
 mod charged;
 #[allow(unsafe_code)]
@@ -163,12 +165,14 @@ fn named(name: &str, rest: &[OsString], streams: &mut Streams) -> Result<Outcome
         "write" => write::write(rest, streams),
         "judge" => judge::judge(rest, streams),
         "job" => job::job(rest, streams),
+        "balance" => balance::balance(rest, streams),
         "same" => same::same(rest, streams),
         "tally" => tally::tally(rest, streams),
         "look" => charge::look(rest, streams),
         "charge" => charge::charge(rest, streams),
         "month" => month::month(rest, streams),
         "message" => message::message(rest, streams),
+        "attack" => attack::attack(rest, streams),
         "is-message" => message::is_message(rest, streams),
         _ => explain::explain(rest, streams),
     }

@@ -6,7 +6,7 @@ use super::Failure;
 use keccak_tables::{Parameters, keccak_rnd};
 
 /// Options that have a number behind them, and those that have a file's name.
-const NUMBERED: [&str; 4] = ["--rounds", "--floor", "--most", "--register"];
+const NUMBERED: [&str; 5] = ["--rounds", "--floor", "--most", "--register", "--challenge"];
 const NAMED: [&str; 2] = ["--ledgers", "--svg"];
 
 /// What an option says: that it is there, a number or a file's name.

@@ -1876,6 +1876,7 @@ fn every_command_has_its_help() {
         "write",
         "judge",
         "job",
+        "balance",
         "same",
         "tally",
         "look",

@@ -1,0 +1,11 @@
+pub mod Bound
+pub mod Collisions
+pub mod Complete
+pub mod Fractions
+pub mod Gathered
+pub mod Kept
+pub mod Often
+pub mod Polynomials
+pub mod Ring
+pub mod Roots
+pub mod Words

@@ -1,0 +1,4 @@
+pub mod Honest
+pub mod Receipt
+pub mod Totals
+pub mod Widths

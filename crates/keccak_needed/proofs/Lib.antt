@@ -1,0 +1,3 @@
+pub mod CoreTests
+pub mod CoreNeeded
+pub mod CoreFollows

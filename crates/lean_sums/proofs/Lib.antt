@@ -1,0 +1,2 @@
+pub mod LeanSums
+pub mod LeanComplete
