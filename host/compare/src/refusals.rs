@@ -538,10 +538,11 @@ mod tests {
     #[test]
     fn the_matrix_has_every_call_of_the_header() {
         let header = include_str!("../../../include/keccak_tables.h");
-        let declared = header.lines().filter(|line| line.starts_with("keccak_tables_")).count();
-        assert_eq!(declared, MATRIX.len());
+        let declared: Vec<_> = header.lines().filter(|line| line.starts_with("keccak_tables_")).collect();
+        assert_eq!(declared.len(), MATRIX.len());
         for (call, _) in MATRIX {
-            assert_eq!(header.matches(&format!(" keccak_tables_{call}(")).count(), 1, "{call}");
+            let name = format!(" keccak_tables_{call}(");
+            assert_eq!(declared.iter().filter(|line| line.contains(&name)).count(), 1, "{call}");
         }
     }
 
