@@ -1,11 +1,12 @@
 /*
  * The proved Keccak tables, by C linkage: the functions of libkeccak_tables.a, which `rt staticlib keccak_tables` makes.
  * crates/keccak_tables/src has the contract of each. host/tests/header.rs holds the names, parameters, structs and numbers of this
- * page against it; the refusals that are said here are tried by the differential runs.
+ * page against it, .ci/documents the refusals that are said here; the differential runs try them.
  *
  * A slice is a pointer, then a length: in words of 64 bits, or in bytes where the pointer is one to bytes. The pointer is not
  * NULL, even where the length is 0, and is aligned; a slice that is written overlaps no other slice of the call. That is all
- * that a caller has to keep; every number and every word is allowed.
+ * that a caller has to keep; every number and every word is allowed, and what can't be taken is refused. A word of a table, and a counter,
+ * is to be below p = 2^64 - 2^32 + 1.
  *
  * A call answers a struct, whose third word is 1 where the answer is good and 0 anywhere else. So a refusal, a failure, and a struct
  * that no call has filled and that is all zeros never read as good:
@@ -171,8 +172,8 @@ extern "C" {
 
 /*
  * The words of an operation, and the place of its segment number among them; the most operations of a list, the highest address that is
- * not refused by 4 (the highest multiple of 8 is 7 below it), the bytes of a file's record without and with a segment number, and the bytes of
- * their marks: the first, and the second of either.
+ * not refused by 4 (the highest multiple of 8 is 7 below it), the bytes of a file's record without and with a segment number, and the
+ * bytes of their marks: the first, and the second of either.
  */
 #define KECCAK_TABLES_OP_WORDS 53
 #define KECCAK_TABLES_SEGMENT_WORD 52
@@ -299,8 +300,8 @@ extern "C" {
 #define KECCAK_TABLES_VERDICT_WORDS 4
 
 /*
- * What a verdict is lent to work in: the words of `scratch`, and as many of `spare`, for each row of both tables. (The bindings in Rust lend
- * both as one slice, so their SCRATCH_WORDS is twice this.)
+ * What a verdict is lent to work in: the words of `scratch`, and as many of `spare`, for each row of both tables. (The bindings in Rust
+ * lend both as one slice, so their SCRATCH_WORDS is twice this.)
  */
 #define KECCAK_TABLES_SCRATCH_WORDS 2
 
@@ -413,8 +414,8 @@ typedef struct keccak_tables_cursor {
 
 /*
  * What a file's tables would hold and send: operations, heights, and per bus the sum of multiplicities (Ecall: received). Records at
- * addresses that are no multiples of 8 are left out of all of these, and `unaligned` is their number. Where a record that is counted is marked
- * 4B 50, `segments` is 1, and the least and the greatest segment number are those of all that are counted; else the three are 0.
+ * addresses that are no multiples of 8 are left out of all of these, and `unaligned` is their number. Where a record that is counted is
+ * marked 4B 50, `segments` is 1, and the least and the greatest segment number are those of all that are counted; else the three are 0.
  */
 typedef struct keccak_tables_sums {
     uint64_t refusal;
@@ -802,10 +803,10 @@ keccak_tables_number keccak_tables_verdict_line(uint64_t nr, const uint64_t *cor
                                                 size_t round_length, uint8_t *line, size_t line_length);
 
 /*
- * The verdict in lent memory: the same answer, in a time that was measured to grow as n log n with the rows in every order that was tried, so for
- * tables that somebody else ordered. `scratch` and `spare` each need two words for each row of both tables, KECCAK_TABLES_SCRATCH_WORDS * (core rows + round rows),
- * together 32 bytes a row; what they hold before does not matter. Afterwards that many words of each are 0, and the words past them as they
- * were. 8 and 2 as above; 3 scratch, then spare; 5 as above.
+ * The verdict in lent memory: the same answer, in a time that was measured to grow as n log n with the rows in every order that was tried,
+ * so for tables that somebody else ordered. `scratch` and `spare` each need two words for each row of both tables,
+ * KECCAK_TABLES_SCRATCH_WORDS * (core rows + round rows), together 32 bytes a row; what they hold before does not matter. Afterwards that
+ * many words of each are 0, and the words past them as they were. 8 and 2 as above; 3 scratch, then spare; 5 as above.
  */
 KECCAK_TABLES_MUST_USE
 keccak_tables_judgement keccak_tables_verdict_within(uint64_t nr, const uint64_t *core, size_t core_length, const uint64_t *round,
