@@ -233,7 +233,7 @@ of its INPUT, or a lane that sits elsewhere. Prints the rule, what was done, wha
 prints of the tables: one, or two where a tuple of the Keccak bus is asked for, since what is sent and not received leaves
 another that is received and not sent. So it is shown what the rule is for. Where a rule follows from the others, or is asked
 by other tables alone, it says so, names the theorem and writes nothing. DIR must be new or empty; it is written beside its name,
-as DIR.N.part, and has both tables or is as it was.
+as DIR.X.part, X drawn, and has both tables or is as it was.
 Exit status: 0 the tables are there; 1 there are none; 2 there is no such rule, or DIR can't be written.
 ",
     },

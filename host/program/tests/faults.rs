@@ -45,7 +45,7 @@ const ALL: &[(i32, bool)] = &[
 ];
 const FEW: &[(i32, bool)] = &[(EIO, false), (KILLED, false)];
 
-const WRITERS: [Writer; 5] = [
+const WRITERS: [Writer; 7] = [
     Writer {
         name: "write",
         arguments: &["write", "ops", "core", "round"],
@@ -72,6 +72,20 @@ const WRITERS: [Writer; 5] = [
         arguments: &["charge", "--register", "1", "--ledgers", "ledgers", "ops", "counters"],
         writes: &["counters", "counters.charged", "ledgers"],
         reader: &["look", "--register", "1", "--ledgers", "ledgers", "ops", "counters"],
+        errors: FEW,
+    },
+    Writer {
+        name: "charge",
+        arguments: &["charge", "ops", "counters"],
+        writes: &["counters", "counters.charged"],
+        reader: &["look", "ops", "counters"],
+        errors: FEW,
+    },
+    Writer {
+        name: "attack",
+        arguments: &["attack", "round", "tuple", "623", "false"],
+        writes: &["false"],
+        reader: &["judge", "false/core", "false/round"],
         errors: FEW,
     },
     Writer {
@@ -279,7 +293,7 @@ fn next_run(place: &Place, writer: &Writer, settled: &[Option<u64>], what: &str)
     let said = String::from_utf8_lossy(&output.stderr);
     let status = match writer.arguments {
         ["charge", ..] if settled == place.new => 1,
-        ["write", "--all", ..] if settled == place.new => 2,
+        ["write", "--all", ..] | ["attack", ..] if settled == place.new => 2,
         _ => 0,
     };
     assert_eq!(output.status.code(), Some(status), "{what}; then {said}");
@@ -348,12 +362,12 @@ fn a_fault_leaves_tables_and_messages_old_or_new() {
 
 #[test]
 fn a_fault_leaves_charges_made_or_not() {
-    tries(&["register"]);
+    tries(&["register", "charge"]);
 }
 
 #[test]
 fn a_fault_leaves_a_folder_whole_or_none() {
-    tries(&["all"]);
+    tries(&["all", "attack"]);
 }
 
 /// While a run waits at any of its calls, another writes the same names and a third reads them: the tables that are left are of one run, and
