@@ -4,7 +4,7 @@ A definition is one of an .antt file (a signature with its clauses, a record, a 
 function there. `parsed(path)` has those of a file; `Definition.rests_on()` the definitions that one names, and what it names of the kit.
 Followed are types, records' fields, and the bodies of definitions; of a proof (a name of proofs/ without `abbrev` or `unfoldable`) its type alone.
 Local names (arguments, λ, let, a module's parameters, earlier fields) hide those of the file, these those of `use` lines. A field `x .f` leads to
-no record: the type of x, which names it, is followed; `closure` tells of a field that no record among the definitions has.
+no record: the type of x, which names it, is followed.
 """
 
 import re
@@ -56,7 +56,7 @@ class Definition:
         return "\n".join(text for _, text in self.lines)
 
     def rests_on(self):
-        """(the definitions it names, the kit's names, the fields, the names that nothing resolves)."""
+        """What it names: `found` are definitions, `kit` the kit's names, `fields` fields, `lost` names that nothing resolves."""
         return rests_on(self)
 
 
@@ -102,7 +102,8 @@ class File:
     def add(self, definition):
         for name in [definition.name, *(definition.members if definition.kind == "data" else [])]:
             self.definitions.setdefault(name, []).append(definition)
-            self.note(name)
+            if self.path.endswith(".antt"):
+                self.note(name)
 
     def note(self, name):
         if "_" in name.strip("_") or name != name.strip("_"):
@@ -247,8 +248,8 @@ def rust_types(definition, text):
 # ---- names
 
 
-def module_file(module, crate):
-    """The file that a module's path leads to, or (crate, struct or enum), or the contract of a function."""
+def module_file(module):
+    """The file that a module's path leads to; or the struct or enum; or, for what the toolchain reads of a contract, that contract."""
     found = re.match(r"Rattle·(\w+?)(?:·\w+)?\.(specs|proofs)\.(.*)$", module)
     if not found:
         return None
@@ -282,7 +283,7 @@ class Names:
         if module.split(".")[0] in KIT:
             self.kit.add(f"{module}.{name}")
             return None
-        target = module_file(module, self.of.crate)
+        target = module_file(module)
         return target.find(name) if isinstance(target, File) else target
 
     def lookup(self, name):
@@ -510,7 +511,7 @@ def of_rust(definition, names):
 
 
 def closure(roots):
-    """Every definition that the roots rest on, the roots with them where they are definitions to be read."""
+    """Every definition that the roots rest on, and the roots."""
     found, left = [], list(roots)
     while left:
         one = left.pop()
