@@ -185,7 +185,8 @@ def fields(text):
     """The type of every field of a record that is a statement, as places."""
     for record in re.finditer(r"(?m)^pub record .* where\n((?:(?: .*)?\n)*)", text):
         for match in re.finditer(r"(?m)^  pub \S+ : (.*(?:\n {3,}\S.*)*)", record.group(1)):
-            if re.search(r"[≡≤<→]|^[A-Z][a-z]+ (?<!List )(?<!Option )", match.group(1)):
+            start, end = parts(match.group(1), 0, len(match.group(1)), " → ")[-1]
+            if re.search(r"[≡≤<]|^\s*[A-Z][\w-]+ (?<!List )(?<!Option )", match.group(1)[start:end]):
                 yield record.start(1) + match.start(1), record.start(1) + match.end(1)
 
 
