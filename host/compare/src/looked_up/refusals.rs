@@ -121,10 +121,10 @@ fn spoilt_among(words: &mut Words, charged: &[usize], none: bool) -> Vec<(usize,
     let uncharged = words.below(2) == 0;
     let mut spoilt = drawn_or_none(words, !uncharged).to_vec();
     for _ in 0..words.below(3) {
-        if let Some(&place) = charged.get(words.below(charged.len().max(1) as u64) as usize) {
-            if spoilt.iter().all(|(other, _)| *other != place) {
-                spoilt.push((place, [P - 1, P, u64::MAX][words.below(3) as usize]));
-            }
+        if let Some(&place) = charged.get(words.below(charged.len().max(1) as u64) as usize)
+            && spoilt.iter().all(|(other, _)| *other != place)
+        {
+            spoilt.push((place, [P - 1, P, u64::MAX][words.below(3) as usize]));
         }
     }
     spoilt
