@@ -538,7 +538,10 @@ mod tests {
     #[test]
     fn the_matrix_has_every_call_of_the_header() {
         let header = include_str!("../../../include/keccak_tables.h");
-        let declared: Vec<_> = header.lines().filter(|line| line.starts_with("keccak_tables_")).collect();
+        let declared: Vec<_> = header
+            .lines()
+            .filter(|line| line.starts_with("keccak_tables_"))
+            .collect();
         assert_eq!(declared.len(), MATRIX.len());
         for (call, _) in MATRIX {
             let name = format!(" keccak_tables_{call}(");
