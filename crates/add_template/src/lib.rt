@@ -1,5 +1,7 @@
 // constraints/templates.rs: the ADD template on a row, over words mod P; the words of an operand and IS_BIT are handed
 // on.
+#![tactic(auto)]
+
 ghost use Rattle.std.specs.Prelude.{◌≡◌, ◌<◌};
 ghost use Rattle.field.specs.Field.{p};
 ghost use Rattle.templates.specs.Templates.{bit_under};
@@ -19,14 +21,14 @@ pub mod operand;
 const INV_SHIFT_32: u64 = 18446744065119617026;
 
 // An operand on a row: its low and its high word.
-#[derive(Drop)]
+#[derive(Clone, Copy)]
 pub struct AddWords {
     pub lo: u64,
     pub hi: u64,
 }
 
 // The two values of ADD, of the carry out of the low words and of that out of the high words.
-#[derive(Drop)]
+#[derive(Clone, Copy)]
 pub struct Pair {
     pub low: u64,
     pub high: u64,

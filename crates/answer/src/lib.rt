@@ -1,6 +1,8 @@
 // What a call answers where it refuses: the refusals of the interface by their numbers. They are checked in the order of
 // these, but for 7 and 11, which come after 4 and before 5, 8, 9, 10 and 14, which come before all others, and 12 and 13,
 // which come after 1 and before 2.
+#![tactic(auto)]
+
 ghost use Rattle.std.specs.Prelude.{◌≡◌};
 ghost use Rattle.answer.specs.Refusal.{refusal_number, refusal_detail, accepted, answer_of, not_rounds, not_floor};
 
@@ -12,7 +14,7 @@ ghost use Rattle.answer.specs.Refusal.{refusal_number, refusal_detail, accepted,
 // 65,536: the floor. 10: a register that is not in use: its number. 11: a segment word of 2^32 or more: the word.
 // 12: a message of more than 65,536 bytes: its length. 13: timestamps that pass 2^64 - 1: the first of them.
 // 14: more than 4,096 files: their number.
-#[derive(Drop)]
+#[derive(Clone, Copy)]
 pub enum Refusal {
     PastEnd(u64),
     NotWhole(u64),
@@ -76,14 +78,14 @@ impl Refusal {
 }
 
 // The answer of a call that only writes.
-#[derive(Drop)]
+#[derive(Clone, Copy)]
 pub enum Answer {
     Done,
     Refused(Refusal),
 }
 
 // The answer of a call that gives a number.
-#[derive(Drop)]
+#[derive(Clone, Copy)]
 pub enum Number {
     Is(u64),
     Refused(Refusal),

@@ -1,5 +1,7 @@
 // tables/bitwise.rs: a lookup and its constructors; lookups lent as a flat list, counted into the counters or into the
 // table.
+#![tactic(auto)]
+
 ghost use Rattle.std.specs.Prelude.{◌≡◌};
 ghost use Rattle.bitwise.specs.Row.{index_refusal};
 ghost use Rattle.bitwise.specs.Tuples.{lookup-type-index};
@@ -16,7 +18,7 @@ pub mod counted;
 pub const LOOKUP_WORDS: usize = 4;
 
 // A lookup: x and y are bytes, z is below 16.
-#[derive(Drop)]
+#[derive(Clone, Copy)]
 pub struct BitwiseOperation {
     pub lookup_type: BitwiseOperationType,
     pub x: u8,
@@ -25,7 +27,7 @@ pub struct BitwiseOperation {
 }
 
 // The answer of a constructor that refuses.
-#[derive(Drop)]
+#[derive(Clone, Copy)]
 pub enum OperationAnswer {
     Is(BitwiseOperation),
     Refused(Refusal),

@@ -1,4 +1,6 @@
 // tables/bitwise.rs: the ten tuples of a row.
+#![tactic(auto)]
+
 ghost use Rattle.std.specs.Prelude.{◌≡◌};
 ghost use Rattle.tuple.specs.Call.{tuple_answer_of, tuple_after};
 ghost use Rattle.bitwise.specs.Columns.{NUM-COLUMNS, NUM-LOOKUP-TYPES};

@@ -1,1 +1,2 @@
 // No code: proofs/ says why each condition of SumsHold (crate bus_sums) is there, by tables that pass without it.
+#![tactic(auto)]

@@ -1,5 +1,7 @@
 // Tuples of bytes: op(a, b) = c on the ByteAlu bus, and two bytes on the AreBytes bus. One as a call by index gives it,
 // and as words: one, or the eight of a lane.
+#![tactic(auto)]
+
 ghost use Rattle.std.specs.Prelude.{◌≡◌};
 ghost use Rattle.byte_tuples.specs.Lanes.{op_number};
 
@@ -7,7 +9,7 @@ pub mod send;
 pub mod words;
 
 // What is looked up of two bytes.
-#[derive(Drop)]
+#[derive(Clone, Copy)]
 pub enum Op {
     And,
     Xor,

@@ -2,6 +2,8 @@
 // refusal, both 0 where the call did its work. The third word is 1 exactly where the answer is good, so that no words of
 // zeros read as good: `done`, of a verdict `holds`, of a file against a table `same`, of a message `yes`, of a reader
 // `reading`.
+#![tactic(auto)]
+
 ghost use Rattle.std.specs.Prelude.{◌≡◌};
 ghost use Rattle.flat.specs.Flat.{flat_answer, flat_number, flat_tuple, flat_key};
 
@@ -15,7 +17,7 @@ pub mod lookup;
 pub mod reader;
 
 #[repr(C)]
-#[derive(Drop)]
+#[derive(Clone, Copy)]
 pub struct FlatAnswer {
     pub refusal: u64,
     pub detail: u64,
@@ -24,7 +26,7 @@ pub struct FlatAnswer {
 
 // The number that was asked for.
 #[repr(C)]
-#[derive(Drop)]
+#[derive(Clone, Copy)]
 pub struct FlatNumber {
     pub refusal: u64,
     pub detail: u64,
@@ -34,7 +36,7 @@ pub struct FlatNumber {
 
 // The tuple but for its values, which are in the lent slice.
 #[repr(C)]
-#[derive(Drop)]
+#[derive(Clone, Copy)]
 pub struct FlatTuple {
     pub refusal: u64,
     pub detail: u64,
@@ -46,7 +48,7 @@ pub struct FlatTuple {
 }
 
 #[repr(C)]
-#[derive(Drop)]
+#[derive(Clone, Copy)]
 pub struct FlatKey {
     pub refusal: u64,
     pub detail: u64,
@@ -57,7 +59,7 @@ pub struct FlatKey {
 
 // The four words of a lookup in a list.
 #[repr(C)]
-#[derive(Drop)]
+#[derive(Clone, Copy)]
 pub struct FlatLookup {
     pub refusal: u64,
     pub detail: u64,
@@ -71,7 +73,7 @@ pub struct FlatLookup {
 // The verdict on two tables: the number of active core rows where they hold; a kind, 1 to 6 the failure's place in the
 // verdict's order, 7 where they hold; the failure's table, row and index.
 #[repr(C)]
-#[derive(Drop)]
+#[derive(Clone, Copy)]
 pub struct FlatVerdict {
     pub refusal: u64,
     pub detail: u64,
@@ -86,7 +88,7 @@ pub struct FlatVerdict {
 // What a file and a core table say of each other: a kind, 1 and the number of the first record without a partner; 2 and the
 // number of the first active row left; 3 both record the same calls.
 #[repr(C)]
-#[derive(Drop)]
+#[derive(Clone, Copy)]
 pub struct FlatAgreement {
     pub refusal: u64,
     pub detail: u64,
@@ -97,7 +99,7 @@ pub struct FlatAgreement {
 
 // Whether a list is a message's.
 #[repr(C)]
-#[derive(Drop)]
+#[derive(Clone, Copy)]
 pub struct FlatReply {
     pub refusal: u64,
     pub detail: u64,
@@ -109,7 +111,7 @@ pub struct FlatReply {
 // addresses, where the next one starts, the second byte of its mark, what the bytes of its segment number so far make, and
 // of the records at multiples of 8 whether one has a segment number, the least and the greatest.
 #[repr(C)]
-#[derive(Drop)]
+#[derive(Clone, Copy)]
 pub struct FlatCursor {
     pub refusal: u64,
     pub detail: u64,
@@ -129,7 +131,7 @@ pub struct FlatCursor {
 // The ten numbers of a file, the number of records that they leave out, and 1 and the least and the greatest segment number,
 // or three zeros where no counted record is marked 4B 50.
 #[repr(C)]
-#[derive(Drop)]
+#[derive(Clone, Copy)]
 pub struct FlatTally {
     pub refusal: u64,
     pub detail: u64,

@@ -1,4 +1,6 @@
 // tables/is_wh.rs: the rows of the IS_WH table for a list of keys, each distinct key with how often it occurs.
+#![tactic(auto)]
+
 ghost use Rattle.std.specs.Prelude.{◌≡◌, ◌+◌, ◌*◌, ◌/◌, ◌^◌, ◌<◌, ◌≤◌, min, [], ◌∷◌, length, take, drop};
 ghost use Rattle.std.proofs.Math.Option.{none};
 ghost use Rattle.std.proofs.lemmas.List.Edits.{sets};
@@ -93,7 +95,7 @@ fn sort_loads(keys: &[u64], out: &mut [u64], spare: &mut [u64]) -> usize
 }
 
 // A run of loads of one code: where it ends, and how many keys it holds.
-#[derive(Drop)]
+#[derive(Clone, Copy)]
 struct Run {
     end: usize,
     count: usize,

@@ -1,4 +1,6 @@
 // tables/is_wh.rs: the IS_WH table of the rows that `dedup_is_wh_rows` writes.
+#![tactic(auto)]
+
 ghost use Rattle.std.specs.Prelude.{◌≡◌, ◌+◌, ◌*◌, ◌≤◌, length};
 ghost use Rattle.std.proofs.lemmas.List.Edits.{sets};
 ghost use Rattle.lists.specs.Tab.{table_of};

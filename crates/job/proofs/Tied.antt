@@ -213,8 +213,8 @@ pub some-reported : (nr : ℕ) (core round counts before : List ℕ) → Accepta
 some-reported nr core round counts before h =
     record {
       lifetimes = ([], ([], ([], tt)));
-      lent = (nr, (record { ref_ptr = (0, 0); now = core }, (record { ref_ptr = (0, 0); now = round }, (record { ref_ptr = (0, 0); now = counts }, (record { ref_ptr = (0, 0); now = before }, tt)))));
-      ended = (nr, (record { ref_ptr = (0, 0); now = core }, (record { ref_ptr = (0, 0); now = round }, (record { ref_ptr = (0, 0); now = counts }, (record { ref_ptr = (0, 0); now = job_after nr core round counts before }, tt)))));
+      lent = (nr, (record { ref_ptr = (0, 0); now = core }, (record { ref_ptr = (0, 0); now = round }, (record { ref_ptr = (0, 0); now = counts }, (record { ref_ptr = (0, 0); ghost_name = 0; now = before }, tt)))));
+      ended = (nr, (record { ref_ptr = (0, 0); now = core }, (record { ref_ptr = (0, 0); now = round }, (record { ref_ptr = (0, 0); now = counts }, (record { ref_ptr = (0, 0); ghost_name = 0; now = job_after nr core round counts before }, tt)))));
       rounds-are = refl;
       core_is = refl;
       round_is = refl;

@@ -101,8 +101,8 @@ some-called nr core round counts before scratch spare =
     let used : List ℕ → List ℕ = job_scratch_after nr core round counts (length before) (length scratch) (length spare) in
     record {
       lifetimes = ([], ([], ([], ([], ([], tt)))));
-      lent = (nr, (record { ref_ptr = (0, 0); now = core }, (record { ref_ptr = (0, 0); now = round }, (record { ref_ptr = (0, 0); now = counts }, (record { ref_ptr = (0, 0); now = before }, (record { ref_ptr = (0, 0); now = scratch }, (record { ref_ptr = (0, 0); now = spare }, tt)))))));
-      ended = (nr, (record { ref_ptr = (0, 0); now = core }, (record { ref_ptr = (0, 0); now = round }, (record { ref_ptr = (0, 0); now = counts }, (record { ref_ptr = (0, 0); now = words }, (record { ref_ptr = (0, 0); now = used scratch }, (record { ref_ptr = (0, 0); now = used spare }, tt)))))));
+      lent = (nr, (record { ref_ptr = (0, 0); now = core }, (record { ref_ptr = (0, 0); now = round }, (record { ref_ptr = (0, 0); now = counts }, (record { ref_ptr = (0, 0); ghost_name = 0; now = before }, (record { ref_ptr = (0, 0); ghost_name = 0; now = scratch }, (record { ref_ptr = (0, 0); ghost_name = 0; now = spare }, tt)))))));
+      ended = (nr, (record { ref_ptr = (0, 0); now = core }, (record { ref_ptr = (0, 0); now = round }, (record { ref_ptr = (0, 0); now = counts }, (record { ref_ptr = (0, 0); ghost_name = 0; now = words }, (record { ref_ptr = (0, 0); ghost_name = 0; now = used scratch }, (record { ref_ptr = (0, 0); ghost_name = 0; now = used spare }, tt)))))));
       rounds-are = refl;
       core_is = refl;
       round_is = refl;

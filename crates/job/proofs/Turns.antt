@@ -22,7 +22,7 @@ use Rattle.job.proofs.Parts.{parts-checked}
 use Rattle.job.proofs.Words.{words-length}
 
 pub record Passed (nr : ℕ) (core round counts before report : List ℕ) (a b i : ℕ) : Type 0 where
-  pub core_at_lem : a ≡ sum_below i (core_rows counts)
+  pub core-at : a ≡ sum_below i (core_rows counts)
   pub round-at : b ≡ sum_below i (round_rows counts)
   pub bound : i ≤ segment_count counts
   pub filled : Filled before 0 (segment_count counts * 4) (cells_of 4 (λ j. verdict_words (verdict_on nr core round counts j))) report (i * 4)
@@ -43,13 +43,13 @@ more_rows A ws f n a c i e f' g l = omega (arith, e, f', g, sum-next f i, sum-ri
 module _ (nr : ℕ) (core round counts before : List ℕ) where
   pub passed_none : Passed nr core round counts before before 0 0 0
   unfolding sum_below
-  passed_none = record { core_at_lem = refl; round-at = refl; bound = omega arith; filled = filled_none _ _ _ _ }
+  passed_none = record { core-at = refl; round-at = refl; bound = omega arith; filled = filled_none _ _ _ _ }
 
   module _ (split : Split core round counts) {report : List ℕ} {a b i c d : ℕ} (h : Passed nr core round counts before report a b i)
       (l : i < segment_count counts) (ec : c ≡ core_rows counts i) (ed : d ≡ round_rows counts i) where
     pub core-there : a + c ≤ rows (layout_of Core) core
     unfolding layout_of
-    core-there = more_rows core_layout core (core_rows counts) (segment_count counts) a c i split.core-sum h.core_at ec l
+    core-there = more_rows core_layout core (core_rows counts) (segment_count counts) a c i split.core-sum h.core-at ec l
 
     pub round-there : b + d ≤ rows (layout_of Round) round
     unfolding layout_of
@@ -66,10 +66,10 @@ module _ (nr : ℕ) (core round counts before : List ℕ) where
         after ≡ sets report (i * 4) (verdict_words (verdict_at nr x y)) → Passed nr core round counts before after (a + c) (b + d) (i + 1)
     unfolding layout_of verdict_on
     passed-more ex ey e =
-        let ea : rows_from core_layout core a c ≡ rows_from core_layout core (sum_below i (core_rows counts)) (core_rows counts i) = λ t. rows_from core_layout core (h.core_at t) (ec t) in
+        let ea : rows_from core_layout core a c ≡ rows_from core_layout core (sum_below i (core_rows counts)) (core_rows counts i) = λ t. rows_from core_layout core (h.core-at t) (ec t) in
         let eb : rows_from round_layout round b d ≡ rows_from round_layout round (sum_below i (round_rows counts)) (round_rows counts i) = λ t. rows_from round_layout round (h.round-at t) (ed t) in
         record {
-          core_at_lem = omega (arith, h.core_at, ec, sum-next (core_rows counts) i);
+          core-at = omega (arith, h.core-at, ec, sum-next (core_rows counts) i);
           round-at = omega (arith, h.round-at, ed, sum-next (round_rows counts) i);
           bound = omega (arith, l);
           filled = filled_row_lem (segment_count counts) 4 (λ j. verdict_words (verdict_on nr core round counts j)) i h.filled l

@@ -1,5 +1,7 @@
 // Segments, then the job: the verdicts on each segment's two tables, and then that on all core rows and all round rows, as a report of
 // four words each (specs/Report.antt).
+#![tactic(auto)]
+
 ghost use Rattle.std.specs.Prelude.{◌≡◌, ◌+◌, ◌*◌, ◌≤◌, length};
 ghost use Rattle.std.proofs.lemmas.List.Edits.{sets};
 ghost use Rattle.lists.specs.Tab.{table_of};

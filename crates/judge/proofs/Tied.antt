@@ -106,9 +106,9 @@ pub some-wrote : (nr floor : ℕ) (ops before : List ℕ) → Wrote nr floor ops
 some-wrote nr floor ops before =
     record {
       lifetimes = ([], ([], tt));
-      lent = (nr, (floor, (record { ref_ptr = (0, 0); now = ops }, (record { ref_ptr = (0, 0); now = before }, tt))));
+      lent = (nr, (floor, (record { ref_ptr = (0, 0); now = ops }, (record { ref_ptr = (0, 0); ghost_name = 0; now = before }, tt))));
       answer = answer_of (round_trace_refusal nr floor (length before) ops);
-      ended = (nr, (floor, (record { ref_ptr = (0, 0); now = ops }, (record { ref_ptr = (0, 0); now = round_trace_after nr floor ops before }, tt))));
+      ended = (nr, (floor, (record { ref_ptr = (0, 0); now = ops }, (record { ref_ptr = (0, 0); ghost_name = 0; now = round_trace_after nr floor ops before }, tt))));
       rounds-are = refl;
       floor-is = refl;
       ops-are = refl;

@@ -1,5 +1,7 @@
 // The verdict on a core table and a round table for nr rounds: refusal 8, then the stages of `verdict_at`, one after the
 // other.
+#![tactic(auto)]
+
 ghost use Rattle.std.specs.Prelude.{◌≡◌, ◌≤◌};
 ghost use Rattle.verdict.specs.Kind.{rows};
 ghost use Rattle.verdict.specs.CoreAndRound.{core_kind, round_kind, core_layout, round_layout, verdict_at, verdict_for};

@@ -1,5 +1,7 @@
 // The first unbalanced tuple on the Keccak bus of a core table and a round table: counts of the rows that the walk
 // left.
+#![tactic(auto)]
+
 ghost use Rattle.std.specs.Prelude.{◌≡◌, not, ◌+◌, ◌^◌, ◌≤◌, ◌<◌, eqb, length};
 ghost use Rattle.verdict.specs.Kind.{rows};
 ghost use Rattle.verdict.specs.Verdict.{uneven, first_unbalanced};
@@ -24,7 +26,7 @@ fn differ(t: Counts, u: Counts) -> bool
 }
 
 // Which of two tuples are sent and received in different numbers.
-#[derive(Drop)]
+#[derive(Clone, Copy)]
 struct Unbalanced {
     first: bool,
     second: bool,

@@ -1,5 +1,7 @@
 // Whether one row of the Keccak bus receives what another one sends, the links of the chain of a core row; and how often rows
 // send and receive the tuples of a row.
+#![tactic(auto)]
+
 ghost use Rattle.std.specs.Prelude.{◌≡◌, ◌<◌, ◌+◌, ◌^◌, ◌≤◌, length};
 ghost use Rattle.verdict.specs.Kind.{rows, stamped_at};
 ghost use Rattle.verdict.specs.CoreAndRound.{core_layout, round_layout};
@@ -64,14 +66,14 @@ fn received_by(table: Table) -> Port
 }
 
 // How often rows send a tuple, and how often they receive it.
-#[derive(Drop)]
+#[derive(Clone, Copy)]
 pub struct Counts {
     pub sent: usize,
     pub received: usize,
 }
 
 // The counts of two tuples of one row.
-#[derive(Drop)]
+#[derive(Clone, Copy)]
 pub struct Both {
     pub first: Counts,
     pub second: Counts,

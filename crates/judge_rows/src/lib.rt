@@ -1,5 +1,7 @@
 // The first failure of a table. Each row is handed, as the part of the slice that it is, to a function that fills a word
 // for each value or each tuple, 0 where it is good; the scan is left at the first word that is not 0.
+#![tactic(auto)]
+
 ghost use Rattle.std.specs.Prelude.{◌≡◌, ℕ, ◌≤◌, length};
 ghost use Rattle.lists.specs.Tab.{word};
 ghost use Rattle.field.specs.Elements.{ElementRow};
@@ -20,7 +22,7 @@ use keccak_values::put_core_values;
 use verdict::Table;
 
 // What is looked at in a row: its values, or its tuples.
-#[derive(Drop)]
+#[derive(Clone, Copy)]
 pub enum Check {
     Values,
     Lookups,

@@ -1,5 +1,7 @@
 // What the verdict's scans share: the rows of either table, which are active and how many, whether two have one
 // timestamp, and where a scan found something; and the scan for a timestamp that an earlier active core row has.
+#![tactic(auto)]
+
 ghost use Rattle.std.specs.Prelude.{◌≡◌, ◌≤◌, ◌<◌, length};
 ghost use Rattle.lists.specs.Tab.{row_at};
 ghost use Rattle.lists.specs.First.{any_below, place_of};
@@ -15,7 +17,7 @@ use lists::Place;
 use verdict::Table;
 
 // The lowest row, and in it the lowest index.
-#[derive(Drop)]
+#[derive(Clone, Copy)]
 pub enum Spot {
     At { row: usize, index: usize },
     Nowhere,
@@ -98,7 +100,7 @@ fn has_same_stamp(core: &[u64], r: usize) -> bool
 }
 
 // The highest timestamp of the active rows so far, if there is one.
-#[derive(Drop)]
+#[derive(Clone, Copy)]
 struct Highest {
     some: bool,
     high: u64,

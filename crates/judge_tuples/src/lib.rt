@@ -1,4 +1,6 @@
 // The Keccak tuples of core rows and round rows, compared by the columns that they are made of.
+#![tactic(auto)]
+
 ghost use Rattle.std.specs.Prelude.{◌≡◌, ◌+◌, ◌≤◌, length};
 ghost use Rattle.lists.specs.Select.{words_test};
 ghost use Rattle.field.specs.Field.{fadd};
@@ -13,7 +15,7 @@ use lists::same_words;
 
 // The four Keccak tuples: a core row sends INPUT, with so many rounds to come, and receives OUTPUT; a round row receives
 // START and sends the state after its round.
-#[derive(Drop)]
+#[derive(Clone, Copy)]
 pub enum Port {
     CoreSend(usize),
     CoreReceive,

@@ -1,4 +1,6 @@
 // The walk along the Keccak bus over rows in the writer's order: how far both tables balance among themselves.
+#![tactic(auto)]
+
 ghost use Rattle.std.specs.Prelude.{◌≡◌, ◌≤◌, ◌<◌};
 ghost use Rattle.verdict.specs.Kind.{rows};
 ghost use Rattle.verdict.specs.CoreAndRound.{core_layout, round_layout};
@@ -53,7 +55,7 @@ fn active_from(round: &[u64], b: usize) -> usize
 }
 
 // How far the walk came: so many core rows and round rows at the front balance among themselves.
-#[derive(Drop)]
+#[derive(Clone, Copy)]
 pub struct Walked {
     pub core: usize,
     pub round: usize,

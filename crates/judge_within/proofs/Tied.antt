@@ -82,8 +82,8 @@ pub some-within : (nr : ℕ) (core round scratch spare : List ℕ) →
 some-within nr core round scratch spare =
     record {
       lifetimes = ([], ([], ([], tt)));
-      lent = (nr, (record { ref_ptr = (0, 0); now = core }, (record { ref_ptr = (0, 0); now = round }, (record { ref_ptr = (0, 0); now = scratch }, (record { ref_ptr = (0, 0); now = spare }, tt)))));
-      ended = (nr, (record { ref_ptr = (0, 0); now = core }, (record { ref_ptr = (0, 0); now = round }, (record { ref_ptr = (0, 0); now = within_after nr core round (length scratch) (length spare) scratch }, (record { ref_ptr = (0, 0); now = within_after nr core round (length scratch) (length spare) spare }, tt)))));
+      lent = (nr, (record { ref_ptr = (0, 0); now = core }, (record { ref_ptr = (0, 0); now = round }, (record { ref_ptr = (0, 0); ghost_name = 0; now = scratch }, (record { ref_ptr = (0, 0); ghost_name = 0; now = spare }, tt)))));
+      ended = (nr, (record { ref_ptr = (0, 0); now = core }, (record { ref_ptr = (0, 0); now = round }, (record { ref_ptr = (0, 0); ghost_name = 0; now = within_after nr core round (length scratch) (length spare) scratch }, (record { ref_ptr = (0, 0); ghost_name = 0; now = within_after nr core round (length scratch) (length spare) spare }, tt)))));
       rounds-are = refl;
       core_is = refl;
       round_is = refl;

@@ -1,5 +1,7 @@
 // The verdict on a core table and a round table in lent memory: places of tuples are sorted by merging, and equal ones stand
 // together. That its time grows as n log n with the rows, in whatever order they stand, is measured, not proved.
+#![tactic(auto)]
+
 ghost use Rattle.std.specs.Prelude.{◌≡◌, ◌≤◌, length};
 ghost use Rattle.lists.specs.First.{place_of};
 ghost use Rattle.verdict.specs.Kind.{Elements};

@@ -65,7 +65,7 @@ fn with_place(core: &[u64], p: u64, t: Counts) -> Counts
 }
 
 // The places of one tuple: where they end, and whether they are sent and received in different numbers.
-#[derive(Drop)]
+#[derive(Clone, Copy)]
 struct Group {
     end: usize,
     uneven: bool,

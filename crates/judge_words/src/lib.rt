@@ -1,4 +1,6 @@
 // The four words by which a verdict is handed over.
+#![tactic(auto)]
+
 ghost use Rattle.std.specs.Prelude.{◌≡◌};
 ghost use Rattle.verdict.specs.Verdict.{verdict_words};
 ghost use Rattle.verdict.specs.declared.Verdict.TheVariants.{Value, Lookup, Unbalanced};

@@ -1,5 +1,7 @@
 // tables/keccak.rs: the bitwise lookups of core rows, charged to the counters. A row's follow from its operation's address alone,
 // so no row is made.
+#![tactic(auto)]
+
 ghost use Rattle.std.specs.Prelude.{◌≡◌, ℕ, ◌*◌, ◌≤◌, ◌<◌, length};
 ghost use Rattle.field.specs.Elements.{ElementRow};
 ghost use Rattle.bitwise.specs.Columns.{NUM-COUNTERS};

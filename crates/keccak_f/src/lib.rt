@@ -1,4 +1,6 @@
 // Keccak-p[1600, nr] of a state that is lent, with the checks of a call; where nr is 24 it is Keccak-f[1600].
+#![tactic(auto)]
+
 ghost use Rattle.std.specs.Prelude.{◌≡◌, ◌≤◌, length};
 ghost use Rattle.std.proofs.lemmas.List.Edits.{sets};
 ghost use Rattle.answer.specs.Refusal.{answer_of};

@@ -1,4 +1,6 @@
 // tables/keccak.rs, bus_interactions: the 84 tuples of a core row, all at once.
+#![tactic(auto)]
+
 ghost use Rattle.std.specs.Prelude.{◌≡◌, ◌+◌, ◌<◌, ◌≤◌, length};
 ghost use Rattle.std.proofs.lemmas.List.Edits.{sets};
 ghost use Rattle.field.specs.Elements.{ElementRow};

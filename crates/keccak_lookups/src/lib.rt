@@ -1,5 +1,7 @@
 // tables/keccak.rs, bus_interactions: a word for each tuple of a core row that is 0 exactly where the tuple needs no match
 // or has one.
+#![tactic(auto)]
+
 ghost use Rattle.std.specs.Prelude.{◌≡◌, ℕ, ◌/◌, ◌%◌, ◌≤◌, length};
 ghost use Rattle.std.proofs.lemmas.List.Edits.{sets};
 ghost use Rattle.lists.specs.Tab.{tab};

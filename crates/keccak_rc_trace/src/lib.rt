@@ -1,4 +1,6 @@
 // tables/keccak_rc.rs: the 32 rows of round constants and their multiplicities.
+#![tactic(auto)]
+
 ghost use Rattle.std.specs.Prelude.{◌≡◌, [], ◌∷◌, ◌++◌, ◌+◌, ◌≤◌, length};
 ghost use Rattle.std.proofs.lemmas.List.Edits.{sets};
 ghost use Rattle.answer.specs.Refusal.{answer_of};

@@ -1,4 +1,6 @@
 // tables/keccak_rc.rs: the one tuple of a row of round constants.
+#![tactic(auto)]
+
 ghost use Rattle.std.specs.Prelude.{◌≡◌};
 ghost use Rattle.tuple.specs.Call.{tuple_answer_of, tuple_after};
 ghost use Rattle.keccak_rc.specs.Columns.{NUM-COLUMNS};

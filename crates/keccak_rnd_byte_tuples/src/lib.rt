@@ -1,5 +1,7 @@
 // tables/keccak_rnd.rs, bus_interactions: the tuples of a round row from 3 on by index, 808 on the ByteAlu bus and 220 on
 // the AreBytes bus.
+#![tactic(auto)]
+
 ghost use Rattle.std.specs.Prelude.{◌≡◌, ◌+◌, ◌*◌, ◌<◌, ◌≤◌, length};
 ghost use Rattle.field.specs.Elements.{ElementRow};
 ghost use Rattle.answer.specs.Refusal.{overwrite};

@@ -1,4 +1,6 @@
 // tables/keccak_rnd.rs, bus_interactions: the lookups of round rows on the bitwise table, charged to its counters.
+#![tactic(auto)]
+
 ghost use Rattle.std.specs.Prelude.{◌≡◌, ℕ, ◌+◌, ◌-◌, ◌*◌, ◌/◌, ◌%◌, ◌≤◌, ◌<◌, length};
 ghost use Rattle.field.specs.Elements.{ElementRow};
 ghost use Rattle.bitwise.specs.Columns.{NUM-COUNTERS};

@@ -1,5 +1,7 @@
 // Halfwords: one of eight bytes; and one times a power of two, in its low sixteen bits and its carry, so that nothing
 // is lost.
+#![tactic(auto)]
+
 ghost use Rattle.std.specs.Prelude.{◌≡◌, ◌+◌, ◌*◌, ◌^◌, ◌<◌};
 ghost use Rattle.lists.specs.Tab.{word};
 ghost use Rattle.bits.specs.Bits.{byte_at, lane_of, halfword, hwsl, hwsl_carry, left_byte, right_byte};
@@ -19,7 +21,7 @@ pub fn half_of(c: [u8; 8], h: usize) -> u64
 }
 
 // The two parts of a shifted halfword; or of a lane, halfword by halfword.
-#[derive(Drop)]
+#[derive(Clone, Copy)]
 pub struct Shifted {
     pub low: u64,
     pub carry: u64,

@@ -1,4 +1,6 @@
 // tables/keccak_rnd.rs, bus_interactions: the 1,031 tuples of a round row, all at once.
+#![tactic(auto)]
+
 ghost use Rattle.std.specs.Prelude.{◌≡◌, ◌+◌, ◌*◌, ◌<◌, ◌≤◌, length};
 ghost use Rattle.std.proofs.lemmas.List.Edits.{sets};
 ghost use Rattle.field.specs.Elements.{ElementRow};

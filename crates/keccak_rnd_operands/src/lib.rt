@@ -1,6 +1,8 @@
 // tables/keccak_rnd.rs, bus_interactions: which words each ByteAlu and AreBytes tuple of a round row is made of. The
 // ByteAlu tuples are 101 lanes of eight: 5 of stage 0 of the column parities, 15 of stages 1 to 3, 5 of D, 25 of θ, 25 of
 // χ's ands, 25 of χ and 1 of ι; the AreBytes tuples are 20 pairs of C's shifted halfwords and 25 lanes of ρ's parts.
+#![tactic(auto)]
+
 ghost use Rattle.std.specs.Prelude.{◌≡◌, ◌+◌, ◌≤◌, ◌<◌, length};
 ghost use Rattle.lists.specs.Tab.{tab, word};
 ghost use Rattle.field.specs.Elements.{ElementRow};
@@ -28,14 +30,14 @@ const IOTA_LANE: usize = 100;
 pub const NUM_LANES: usize = 101;
 
 // The eight bytes of an operand: those from a column on, or from a term on.
-#[derive(Drop)]
+#[derive(Clone, Copy)]
 pub enum Operand {
     Column(usize),
     Term(usize),
 }
 
 // op(a, b) = c for each of eight bytes; c is the column of the first.
-#[derive(Drop)]
+#[derive(Clone, Copy)]
 pub struct Operands {
     pub op: Op,
     pub a: Operand,
@@ -44,7 +46,7 @@ pub struct Operands {
 }
 
 // The columns of two bytes.
-#[derive(Drop)]
+#[derive(Clone, Copy)]
 pub struct Pair {
     pub a: usize,
     pub b: usize,

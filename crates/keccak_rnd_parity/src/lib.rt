@@ -1,4 +1,6 @@
 // θ by tables of bytes: the column parities C in their four stages, and C rotated by one in its two parts.
+#![tactic(auto)]
+
 ghost use Rattle.std.specs.Prelude.{◌≡◌, ◌<◌};
 ghost use Rattle.lists.specs.Tab.{tab, word};
 ghost use Rattle.bits.specs.Bits.{byte_at, halfword, hwsl, hwsl_carry};

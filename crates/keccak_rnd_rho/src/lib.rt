@@ -1,4 +1,6 @@
 // ρ by halfwords, and the ands of χ, plane by plane.
+#![tactic(auto)]
+
 ghost use Rattle.std.specs.Prelude.{◌≡◌, ◌<◌};
 ghost use Rattle.fips202.specs.Lanes.{grid, plane};
 ghost use Rattle.keccak_rnd.specs.Row.{and_at, and_lanes};

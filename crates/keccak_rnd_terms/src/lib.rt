@@ -1,5 +1,7 @@
 // tables/keccak_rnd.rs, bus_interactions: the linear terms among the operands of a round row's tuples, each a byte that no
 // column holds: of C rotated by one, of π, and 255 less a byte of π. One byte, and all of a row.
+#![tactic(auto)]
+
 ghost use Rattle.std.specs.Prelude.{◌≡◌, ℕ, ◌+◌, ◌/◌, ◌%◌, ◌≤◌, ◌<◌, length};
 ghost use Rattle.std.proofs.lemmas.List.Edits.{sets};
 ghost use Rattle.lists.specs.Tab.{tab, word};
@@ -48,7 +50,7 @@ fn put_rotated(row: &[u64], out: &mut [u64])
 }
 
 // Where the low parts and the carries of a lane of π stand, and by how many bytes they are still to be moved.
-#[derive(Drop)]
+#[derive(Clone, Copy)]
 struct Source {
     left: usize,
     right: usize,

@@ -1,4 +1,6 @@
 // θ by tables of bytes: D, and the state after θ.
+#![tactic(auto)]
+
 ghost use Rattle.std.specs.Prelude.{◌≡◌, [], ℕ, ◌<◌, get_or};
 ghost use Rattle.std.specs.Int.Bits.{bit_xor};
 ghost use Rattle.lists.specs.Tab.{tab, word};

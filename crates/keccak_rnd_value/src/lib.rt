@@ -1,4 +1,6 @@
 // tables/keccak_rnd.rs, eval: the values of a round row, one by one.
+#![tactic(auto)]
+
 ghost use Rattle.std.specs.Prelude.{◌≡◌, ◌+◌, ◌/◌, ◌%◌, ◌^◌, ◌≤◌, ◌<◌};
 ghost use Rattle.lists.specs.Tab.{word};
 ghost use Rattle.field.specs.Field.{p, fmul};

@@ -1,5 +1,7 @@
 // tables/keccak.rs, bus_interactions: the tuples of a core row that carry the state: here those on the Keccak bus, which
 // are timestamp, round and the 200 words of a state, x outermost; in `memw` those of the memory.
+#![tactic(auto)]
+
 ghost use Rattle.std.specs.Prelude.{◌≡◌, ◌+◌, ◌<◌, ◌≤◌, length};
 ghost use Rattle.std.proofs.lemmas.List.Edits.{sets};
 ghost use Rattle.lists.specs.Tab.{tab, word};

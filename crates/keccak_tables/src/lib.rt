@@ -1,6 +1,7 @@
 // What a Rust prover links: the calls on the tables and on operation files by C linkage, on numbers and slices of words
 // or bytes. A slice is a pointer, then a length. An enum can't pass, so each answer is a flat struct, returned by
-// value.
+// value. The archive is made of `keccak_tables_c`, which passes these calls on.
+#![tactic(auto)]
 
 pub mod core_calls;
 pub mod counters;

@@ -1,13 +1,11 @@
 -- What a message's list says: its operations as the request has them, and its digest, which any list has whose inputs are
 -- chained by the message's blocks and whose outputs are right. And the judge says yes to what the writer leaves.
-use mathlib.Core.Path.{◌≡◌, refl, sym, ap, ap₂, ◌∙◌, subst}
+use mathlib.Core.Path.{◌≡◌, sym, ap, ap₂, ◌∙◌, subst}
 use mathlib.Core.Bool.{true}
-use mathlib.Core.Logic.{◌↔◌}
-use mathlib.Core.Option.{Option, none}
 use mathlib.Core.List.{List}
 use Prim.Native.Nat.{ℕ, zero, suc, ◌+◌, ◌-◌, ◌*◌, ◌%◌, ◌^◌, ◌≤◌, ◌<◌}
 use native.Mathlib.Omega.{arith}
-use lib.ListN.{length, replicate, take}
+use lib.ListN.{length, take}
 use Rattle.lists.specs.Tab.{tab, word}
 use Rattle.lists.proofs.Then.{T_true}
 use Rattle.bits.specs.Bits.{lane_byte}
@@ -19,7 +17,7 @@ use Rattle.sha3.specs.Sponge.{OnlyBytes, bits_of, sha3-256-bits}
 use Rattle.sha3.proofs.Sponge.{sha3-bits, added-lanes, absorbed-lanes}
 use Rattle.answer.specs.Refusal.{accepted}
 use Rattle.answer.proofs.Laws.{new-words}
-use Rattle.keccak.specs.Row.{OP-WORDS, op_at, list_words}
+use Rattle.keccak.specs.Row.{OP-WORDS, op_at}
 use Rattle.keccak.specs.Refusals.{op_count, address_at, segment_at}
 use Rattle.keccak.specs.declared.KeccakOperation.{KeccakOperation}
 use Rattle.keccak.proofs.Listed.{count-listed, whole-listed, listed-read, listed_below, words-below}

@@ -1,13 +1,12 @@
 -- The judge's answer: the test decides, and an empty list, or one of another length, is not a message's.
 use mathlib.Core.Path.{◌≡◌, refl, sym, ap, ◌∙◌}
-use mathlib.Core.Bool.{Bool, true, false, not, ◌&&◌}
+use mathlib.Core.Bool.{Bool, true, false, not}
 use mathlib.Core.Logic.{◌↔◌}
 use mathlib.Core.Option.{Option, none, some}
 use mathlib.Core.List.{List, []}
-use Prim.Native.Nat.{ℕ, ◌+◌, ◌-◌, ◌*◌, ◌^◌, ◌≤◌, ◌<◌}
+use Prim.Native.Nat.{ℕ, ◌+◌, ◌-◌, ◌*◌, ◌^◌, ◌<◌}
 use native.Mathlib.Omega.{arith}
-use borrow.Author.Tests.{le-leb, lt-leb, leb-false, not-true}
-use lib.Dec.{T}
+use borrow.Author.Tests.{lt-leb, leb-false, not-true}
 use lib.ListN.{length}
 use Rattle.lists.specs.Decides.{Decides}
 use Rattle.lists.specs.Select.{words_test}

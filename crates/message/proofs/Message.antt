@@ -2,15 +2,14 @@
 use mathlib.Core.Path.{◌≡◌, refl, sym, ap, ap₂, ◌∙◌}
 use mathlib.Core.Bool.{Bool, true, false, not}
 use mathlib.Core.List.{List}
-use Prim.Native.Nat.{ℕ, ◌+◌, ◌-◌, ◌*◌, ◌≤◌, ◌<◌}
+use Prim.Native.Nat.{ℕ, ◌+◌, ◌-◌, ◌*◌, ◌<◌}
 use native.Mathlib.Numerals.{add-one}
 use native.Mathlib.Omega.{arith}
-use borrow.Author.Tests.{eqb-true, eq-eqb, not-false, not-true}
+use borrow.Author.Tests.{eqb-true, eq-eqb, not-false}
 use lib.Bits.{bit_xor}
-use lib.Dec.{T, eqb}
 use lib.ListN.{length, get_or}
 use lib.Seq.{ext_get_or}
-use Rattle.lists.specs.Tab.{tab, word}
+use Rattle.lists.specs.Tab.{word}
 use Rattle.lists.specs.First.{any_below}
 use Rattle.lists.specs.Select.{words_test, words_differ}
 use Rattle.lists.proofs.First.{any-clear, any-nothing}
@@ -19,7 +18,6 @@ use Rattle.lists.proofs.Reading.{Alike}
 use Rattle.lists.proofs.Select.{words_same_lem, words-sound}
 use Rattle.lists.proofs.Tests.{true-not-false, T_of}
 use Rattle.lists.proofs.Then.{by_le, T_true}
-use Rattle.fips202.specs.Lanes.{keccak_pl}
 use Rattle.fips202.proofs.Rounds.{length-rounds}
 use Rattle.sha3.specs.Sha3.{blocks, block_lane, added, absorbed}
 use Rattle.keccak.specs.Row.{OP-WORDS, list_words}

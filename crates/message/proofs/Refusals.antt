@@ -3,9 +3,9 @@
 --     long-refused, late-refused, short-refused, high-refused, unaligned-refused   its refusals, in their order
 --     number-told              what an answer that is a number says
 --     judged-many, judged-long, judged-rest   those of `judge_message`: 1, 12, and then those of every call that takes a list
-use mathlib.Core.Path.{◌≡◌, refl, sym, ap, ◌∙◌}
+use mathlib.Core.Path.{◌≡◌, refl, sym, ap}
 use mathlib.Core.Logic.{◌↔◌}
-use mathlib.Core.Bool.{Bool, not}
+use mathlib.Core.Bool.{not}
 use mathlib.Core.Option.{Option, none, some}
 use mathlib.Core.List.{List}
 use Prim.Native.Nat.{ℕ, ◌+◌, ◌-◌, ◌*◌, ◌%◌, ◌^◌, ◌≤◌, ◌<◌}

@@ -1,4 +1,6 @@
 // A message as the operations that hash it with SHA3-256, and a list of operations judged against a message.
+#![tactic(auto)]
+
 ghost use Rattle.std.specs.Prelude.{◌≡◌, length};
 ghost use Rattle.sha3.specs.Sha3.{blocks};
 ghost use Rattle.answer.specs.Refusal.{number_of};
@@ -13,7 +15,7 @@ pub mod blocks;
 pub mod checks;
 
 // Whether a list is a message's, or why it was not judged.
-#[derive(Drop)]
+#[derive(Clone, Copy)]
 pub enum Judgement {
     Yes,
     No,

@@ -1,4 +1,6 @@
 // The month in whole numbers, from the operation counts of its files: specs/Month.antt.
+#![tactic(auto)]
+
 ghost use Rattle.std.specs.Prelude.{◌≡◌, ℕ, ◌+◌, ◌*◌, ◌≤◌, ◌<◌, ltb, length, take};
 ghost use Rattle.std.proofs.Math.Option.{some};
 ghost use Rattle.lists.specs.Tab.{pick, tab, word};
@@ -22,7 +24,7 @@ pub const MONTH_WORDS: usize = 39;
 pub const HEIGHTS: usize = 30;
 
 // The rows of a file's round table: those that are used, and all of them.
-#[derive(Drop)]
+#[derive(Clone, Copy)]
 struct Rows {
     used: u64,
     total: u64,

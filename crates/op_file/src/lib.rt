@@ -1,4 +1,6 @@
 // The operation file: how long a record is, where a reader stands, and what `tally` prints.
+#![tactic(auto)]
+
 use answer::Refusal;
 
 // A record under the mark 4B 4F, and one under 4B 50, which has four bytes more: its segment number.
@@ -18,7 +20,7 @@ pub const MAX_FILE_BYTES: u64 = 37759920670;
 
 // The segment numbers of counted records: 1 where one of these is marked 4B 50, else 0; and the least and the greatest of
 // all. A word, not a `bool`: a reader is words alone, as it is handed from call to call.
-#[derive(Drop)]
+#[derive(Clone, Copy)]
 pub struct Segments {
     pub shown: u64,
     pub least: u64,
@@ -27,7 +29,7 @@ pub struct Segments {
 
 // The whole records that are read: n at multiples of 8, which are counted, and `unaligned` at other addresses; where the
 // next one starts; and the segment numbers of the counted ones.
-#[derive(Drop)]
+#[derive(Clone, Copy)]
 pub struct Whole {
     pub n: u64,
     pub unaligned: u64,
@@ -37,7 +39,7 @@ pub struct Whole {
 
 // The record that is being read: how many of its bytes, the second byte of its mark (0 before it is read), and what its
 // address bytes and its segment number's bytes so far make.
-#[derive(Drop)]
+#[derive(Clone, Copy)]
 pub struct Begun {
     pub at: usize,
     pub mark: u64,
@@ -46,7 +48,7 @@ pub struct Begun {
 }
 
 // Where a reader stands, or the first fault.
-#[derive(Drop)]
+#[derive(Clone, Copy)]
 pub enum Cursor {
     Reading(Whole, Begun),
     Refused(Refusal),
@@ -54,7 +56,7 @@ pub enum Cursor {
 
 // What `tally` prints of a file: operations, heights, per bus the sum of multiplicities, the segment numbers, and the
 // records that these leave out, because their addresses are no multiples of 8.
-#[derive(Drop)]
+#[derive(Clone, Copy)]
 pub struct Sums {
     pub ops: u64,
     pub core_rows: u64,
@@ -70,7 +72,7 @@ pub struct Sums {
     pub unaligned: u64,
 }
 
-#[derive(Drop)]
+#[derive(Clone, Copy)]
 pub enum Tally {
     Counted(Sums),
     Refused(Refusal),

@@ -1,7 +1,7 @@
 -- How long files and lists are, and the clauses of the calls that read and write them.
 --     file-length    a file that is written has the bytes that 3 counts
 --     count_fits     a file without a fault has 418 bytes or more for each record
-use Prim.Native.Nat.{ℕ, zero, suc, ◌+◌, ◌*◌, ◌/◌, ◌≤◌, ◌<◌}
+use Prim.Native.Nat.{ℕ, zero, suc, ◌+◌, ◌*◌, ◌≤◌, ◌<◌}
 use mathlib.Core.Path.{◌≡◌, refl, sym, ap, ◌∙◌, subst}
 use mathlib.Core.Bool.{false}
 use mathlib.Core.List.{List, [], ◌∷◌, ◌++◌, append-nil, append_assoc}
@@ -15,15 +15,15 @@ use lib.ListN.{length, get_or, length-append}
 use lib.Seq.{sets}
 use Rattle.lists.specs.Sum.{sum_below}
 use Rattle.lists.specs.Tab.{tab, tab_from}
-use Rattle.lists.proofs.Laws.{length-tab, get_d-tab, tab-add}
+use Rattle.lists.proofs.Laws.{length-tab, tab-add}
 use Rattle.answer.specs.declared.Refusal.{Refusal}
 use Rattle.answer.specs.declared.Refusal.TheVariants.{TooShort}
 use Rattle.answer.specs.Refusal.{accepted, overwrite}
 use Rattle.answer.proofs.Laws.{refuse-yes, refuse-no, sets-overwrite}
-use Rattle.keccak.specs.Row.{OP-WORDS, op_at}
+use Rattle.keccak.specs.Row.{OP-WORDS}
 use Rattle.keccak.specs.Refusals.{op_count, Acceptable}
 use Rattle.keccak.proofs.Refusals.{accepted-is}
-use Rattle.op_file.specs.File.{RECORD-BYTES, SEGMENT-RECORD-BYTES, is_marked, record_size, records_of, bytes_of, record_word, operation_words, file_words, first_fault, aligned_of, unaligned_of, records_words, segments_of, sums_of, file_sums, unless, tally_of}
+use Rattle.op_file.specs.File.{RECORD-BYTES, SEGMENT-RECORD-BYTES, is_marked, record_size, records_of, bytes_of, record_word, operation_words, file_words, first_fault, sums_of, file_sums, unless, tally_of}
 use Rattle.op_file.specs.declared.Sums.{Sums}
 use Rattle.op_file.specs.declared.Tally.TheVariants as tally
 use Rattle.op_file.proofs.Cases.{each-counted, four, floor-counts}

@@ -16,11 +16,11 @@ use Rattle.answer.proofs.Laws.{new-words}
 use Rattle.keccak.specs.Row.{OP-WORDS, SEGMENT-WORD, LAST-SEGMENT, op_at}
 use Rattle.keccak.specs.Refusals.{op_count, segment_at}
 use Rattle.keccak.proofs.Refusals.{accepted-is}
-use Rattle.op_file.specs.File.{is_marked, size_of, records_of, bytes_of, segment_of, record_word, operation_words, records_words, file_words, first_fault, start_at}
+use Rattle.op_file.specs.File.{is_marked, size_of, records_of, bytes_of, segment_of, record_word, records_words, file_words, first_fault, start_at}
 use Rattle.op_file.proofs.Counted.{words-length, word-is}
 use Rattle.op_file.proofs.SegmentNumbers.{part_small}
 use Rattle.op_file.proofs.Starts.{Sized, each-whole, record-there, bytes-again, records-again}
-use Rattle.op_list.specs.Record.{record_bytes, words_from, Record}
+use Rattle.op_list.specs.Record.{words_from, Record}
 use Rattle.op_list.specs.Files.{read_refusal, read_after, records_for, file_bytes, bytes_for, write_refusal, write_after}
 use Rattle.op_list.proofs.RecordAgain.{record-sized, record-word, record-number, record_same, bytes_back}
 use Rattle.op_list.proofs.Files.{record_for, file-length, list_length}

@@ -1,6 +1,6 @@
 -- An operation's 53 words as the bytes of its record: the mark, then 8 bytes to a word, lowest first, and of its segment
 -- number four. What reads them back is `record_word` (op_file/specs/File.antt).
-use Rattle.std.specs.Prelude.{ℕ, ◌+◌, ◌-◌, ◌/◌, ◌%◌, ◌<◌, ◌≡◌, Bool, true, not, List, ◌∷◌, eqb, length}
+use Rattle.std.specs.Prelude.{ℕ, ◌+◌, ◌-◌, ◌/◌, ◌%◌, ◌<◌, ◌≡◌, Bool, true, not, List, ◌∷◌, eqb}
 use Rattle.lists.specs.Tab.{pick, tab, word}
 use Rattle.bits.specs.Bits.{byte_at}
 use Rattle.keccak.specs.Row.{SEGMENT-WORD}

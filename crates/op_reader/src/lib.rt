@@ -1,4 +1,6 @@
 // The operation file read in pieces: where a reader stands after each.
+#![tactic(auto)]
+
 ghost use Rattle.std.specs.Prelude.{◌≡◌, ◌<◌, ◌≤◌, length};
 ghost use Rattle.op_file.specs.Reader.{Advanced, feed_of, is_refused, file_start};
 
@@ -34,7 +36,7 @@ fn least(a: usize, b: usize) -> usize
 }
 
 // A part of a piece that is read at once.
-#[derive(Drop)]
+#[derive(Clone, Copy)]
 struct Part {
     cursor: Cursor,
     used: usize,

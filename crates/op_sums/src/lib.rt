@@ -1,4 +1,6 @@
 // What the end of an operation file makes of its reader: the sums that `tally` prints, or a refusal.
+#![tactic(auto)]
+
 ghost use Rattle.std.specs.Prelude.{◌≡◌, ℕ, ◌*◌, ◌^◌, ◌<◌, ◌≤◌};
 ghost use Rattle.keccak_rnd.specs.Row.{round_height};
 ghost use Rattle.op_file.specs.File.{told};

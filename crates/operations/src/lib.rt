@@ -1,5 +1,7 @@
 // What the writers of both tables read of a flat list of operations: an operation, the checks of the list, the height
 // of a table.
+#![tactic(auto)]
+
 ghost use Rattle.std.specs.Prelude.{◌≡◌, ◌+◌, ◌*◌, ◌≤◌, length, get_or};
 ghost use Rattle.lists.specs.Tab.{tab};
 ghost use Rattle.keccak.specs.Row.{OP-WORDS, LAST-SEGMENT, op_at};

@@ -25,7 +25,7 @@ use Rattle.lists.proofs.Then.{T_true}
 use Rattle.lists.proofs.Tests.{true-not-false, T_of, and-true, true-and, false-and, and-false}
 use Rattle.lists.proofs.First.{at_same, at_clear, at-nothing, at-found, count-start, count-more, count-skip}
 use Rattle.lists.proofs.Count.{count_same, count-before}
-use Rattle.lists.proofs.OneToOne.{Chosen, equally-matched, matched-equally, count-matched}
+use Rattle.lists.proofs.OneToOne.{Chosen, equally-matched, matched-equally}
 use Rattle.lists.proofs.Select.{words-sound, words_same_lem}
 use Rattle.partners.specs.Partners.{Run, holds_at, copies_to, copies_in, count_between, EquallyOften, alone, first_alone, is_free, partner_for, also_given, used, unpartnered, left}
 use Rattle.partners.proofs.Counts.{count-stays, count-grows, count-up, count-capped, count-place, between_is, count-given, count-fills, and_same, leb-sums, leb-not, ltb_next}

@@ -1,4 +1,6 @@
 // FIPS 202, sections 3.2 and 3.3: the state of 25 lanes, its steps, the round, Keccak-p[1600, nr] and Keccak-f[1600].
+#![tactic(auto)]
+
 ghost use Rattle.std.specs.Prelude.{◌≡◌, ◌++◌, ◌≤◌, ◌<◌};
 ghost use Rattle.fips202.specs.Fips.{Agree, rnd, keccak_p, keccak_f};
 ghost use Rattle.fips202.specs.Lanes.{bits, grid, theta_at, rho_pi_l, chi_l, iota_l, rnd_l, keccak_pl};
@@ -12,7 +14,7 @@ pub mod rho_pi;
 pub mod theta;
 
 // The state as 25 lanes; lane (x, y) is lanes[x + 5 * y], and bit z of it is A[x, y, z].
-#[derive(Drop)]
+#[derive(Clone, Copy)]
 pub struct State {
     pub lanes: [u64; 25],
 }

@@ -5,8 +5,8 @@
 --     zero-adds-up                  from zero
 use mathlib.Core.List.{List, [], ◌∷◌}
 use mathlib.Core.Option.{Option, none, some}
-use mathlib.Core.Path.{◌≡◌, refl, sym, ap, ap₂, subst, ◌∙◌}
-use Prim.Native.Nat.{ℕ, ◌+◌, ◌*◌, ◌/◌, ◌%◌, ◌≤◌, ◌<◌}
+use mathlib.Core.Path.{◌≡◌, refl, sym, ap, subst, ◌∙◌}
+use Prim.Native.Nat.{ℕ, ◌+◌, ◌*◌, ◌<◌}
 use native.Mathlib.Nat.{mod-eq_of_lt}
 use native.Mathlib.Omega.{arith}
 use lib.ListN.{length}
@@ -15,7 +15,7 @@ use Rattle.lists.specs.Sum.{sum_below}
 use Rattle.lists.proofs.Sum.{sum_same, sum-hit, sum-zero, sum_both, sum-grown}
 use Rattle.field.specs.Field.{p}
 use Rattle.answer.specs.declared.Refusal.{Refusal}
-use Rattle.bitwise.specs.Columns.{NUM-ROWS, NUM-COUNTERS}
+use Rattle.bitwise.specs.Columns.{NUM-ROWS}
 use Rattle.bitwise.specs.Charge.{charged_counters, charged_kind}
 use Rattle.bitwise.proofs.Charged.{charged-at}
 use Rattle.registers.specs.Registers.{in_use, charged_ledgers}

@@ -10,22 +10,20 @@ use mathlib.Core.Option.{Option, none, some}
 use mathlib.Core.Path.{◌≡◌, refl, sym, ap, subst, ◌∙◌}
 use Prim.Native.Nat.{ℕ}
 use borrow.Author.Tests.{eqb-true, eqb-false}
-use lib.Dec.{eqb}
 use lib.ListN.{length}
 use Rattle.lists.specs.Select.{cons_if, selected}
 use Rattle.lists.proofs.Tests.{true-not-false}
-use Rattle.field.specs.Elements.{first_not_element, ElementRow}
+use Rattle.field.specs.Elements.{first_not_element}
 use Rattle.field.proofs.NotElement.{none_found}
 use Rattle.answer.specs.Refusal.{answer_of}
 use Rattle.answer.specs.declared.Refusal.{Refusal}
-use Rattle.answer.specs.declared.Answer.{Answer}
 use Rattle.answer.proofs.Laws.{none_told_lem}
 use Rattle.bitwise.specs.Columns.{NUM-COUNTERS}
 use Rattle.bitwise.specs.Charge.{charged_counters}
 use Rattle.bitwise.proofs.Charge.{charged-elements}
 use Rattle.bitwise.proofs.Charged.{charged-length}
 use Rattle.segment_counts.proofs.Refusals.{counters-alike}
-use Rattle.registers.specs.Registers.{ledger_of, charged_ledger, charged_ledgers}
+use Rattle.registers.specs.Registers.{ledger_of, charged_ledger}
 use Rattle.registers.specs.History.{Charge, Call, plain, through, State, charge_of, refusal_of, step_after, history_after, is_of, calls_of, answers_to}
 use Rattle.registers.proofs.Ledgers.{in-use-is, ledgers-length, own-ledger, other-ledger, ledger-alike}
 use Rattle.registers.proofs.Refusals.{through-alike}

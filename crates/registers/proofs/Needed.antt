@@ -8,10 +8,10 @@ use mathlib.Core.Bool.{Bool, true, false}
 use mathlib.Core.List.{List, [], ◌∷◌, ◌++◌}
 use mathlib.Core.Option.{Option, none}
 use mathlib.Core.Path.{◌≡◌, refl, sym, ap, ap₂, subst, ◌∙◌}
-use Prim.Native.Nat.{ℕ, zero, suc, ◌+◌, ◌*◌, ◌/◌, ◌%◌, ◌^◌, ◌≤◌, ◌<◌}
+use Prim.Native.Nat.{ℕ, zero, suc, ◌+◌, ◌*◌, ◌%◌, ◌≤◌, ◌<◌}
 use native.Mathlib.Nat.{zero-add, mod-add-mod, mod-lt}
 use native.Mathlib.Omega.{arith}
-use borrow.Author.Tests.{eqb-true, eqb-false, ne_eqb, le-ltb}
+use borrow.Author.Tests.{ne_eqb, le-ltb}
 use lib.Dec.{eqb}
 use lib.ListN.{length, replicate}
 use Rattle.lists.specs.Tab.{pick, tab, word}
@@ -20,9 +20,8 @@ use Rattle.lists.proofs.Laws.{length-row_at, word-row_at, length-tab, get_d-tab}
 use Rattle.lists.proofs.Sum.{sum-place}
 use Rattle.lists.proofs.Kept.{by-eq}
 use Rattle.field.specs.Field.{p}
-use Rattle.field.specs.Elements.{ElementRow}
 use Rattle.field.proofs.NotElement.{none_found}
-use Rattle.answer.specs.Refusal.{accepted, too_short, PowerFloor}
+use Rattle.answer.specs.Refusal.{too_short, PowerFloor}
 use Rattle.answer.specs.declared.Refusal.{Refusal}
 use Rattle.answer.specs.declared.Refusal.TheVariants.{NotElement}
 use Rattle.answer.proofs.Laws.{refuse-no, at-no}
@@ -30,11 +29,10 @@ use Rattle.bitwise.specs.Columns.{NUM-ROWS, NUM-COUNTERS}
 use Rattle.bitwise.specs.Charge.{charged_kind, charged_counters}
 use Rattle.bitwise.proofs.Charged.{charged-at, charged-length}
 use Rattle.keccak.specs.Row.{op_at}
-use Rattle.segment_counts.specs.Segment.{segment_refusal}
 use Rattle.segment_counts.proofs.Sums.{empty-shipped}
 use Rattle.segment_counts.proofs.Segments.{empty-counter}
 use Rattle.segment_counts.proofs.Refusals.{empty-later}
-use Rattle.registers.specs.Registers.{in_use, ledger_of, charged_ledgers}
+use Rattle.registers.specs.Registers.{in_use, charged_ledgers}
 use Rattle.registers.specs.History.{Charge, Call, through, State, refusal_of, step_after, history_after, lookups_of, unless_refused, lookups_in, counter_sum, ledger_sum, Zero, OnlyThrough}
 use Rattle.registers.proofs.Ledgers.{in-use-is, ledgers-length, charged-own, charged-other}
 use Rattle.registers.proofs.Refusals.{through-accepted}

@@ -8,13 +8,12 @@
 use mathlib.Core.List.{List}
 use mathlib.Core.Logic.{◌↔◌}
 use mathlib.Core.Option.{Option, none, some, or_else}
-use mathlib.Core.Path.{◌≡◌, refl, sym, ap, ◌∙◌}
+use mathlib.Core.Path.{◌≡◌, refl, ap, ◌∙◌}
 use mathlib.Mathlib.Data.Option.Basic.{or_else-eq-none}
 use Prim.Native.Nat.{ℕ, ◌+◌, ◌*◌, ◌≤◌, ◌<◌}
 use native.Mathlib.Omega.{arith}
 use borrow.Author.Tests.{leb-false, le-leb, lt-leb}
 use lib.ListN.{length}
-use Rattle.lists.specs.Tab.{word, row_at}
 use Rattle.lists.proofs.Laws.{length-row_at}
 use Rattle.field.specs.Elements.{first_not_element, ElementRow}
 use Rattle.field.proofs.NotElement.{all-elements, none_found}

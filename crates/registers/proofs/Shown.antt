@@ -16,7 +16,7 @@ use Rattle.answer.specs.Refusal.{accepted, too_short, overwrite}
 use Rattle.answer.proofs.Overwrite.{left}
 use Rattle.bitwise.specs.Columns.{NUM-COUNTERS}
 use Rattle.bitwise.specs.Charge.{charged_words, charged_counters, charged_kind}
-use Rattle.segment_counts.specs.Segment.{list_charged, charge_refusal, charge_after, LOOK-WORDS, look_words, look_refusal, largest, look_copy_after, look_out_after}
+use Rattle.segment_counts.specs.Segment.{list_charged, charge_refusal, LOOK-WORDS, look_words, look_refusal, largest, look_out_after}
 use Rattle.segment_counts.proofs.Accepted.{look-refused}
 use Rattle.segment_counts.proofs.Refusals.{charge-later}
 use Rattle.segment_counts.proofs.Look.{copied-taken, look-copy, look-sum, look-largest}

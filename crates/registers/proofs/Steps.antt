@@ -2,9 +2,8 @@
 --     added_by           what a charge adds to a counter
 --     step-refused      a refused call leaves the state
 --     step-elements, step-counters, plain-ledgers, through-ledgers   an accepted one finds field elements in the counters, and leaves these
-use mathlib.Core.List.{List}
-use mathlib.Core.Option.{Option, none, some}
-use mathlib.Core.Path.{◌≡◌, refl, sym, ap, subst, ◌∙◌}
+use mathlib.Core.Option.{none, some}
+use mathlib.Core.Path.{◌≡◌, refl, sym}
 use Prim.Native.Nat.{ℕ, ◌<◌}
 use lib.ListN.{length}
 use Rattle.field.specs.Elements.{ElementRow}

@@ -1,5 +1,7 @@
 // A tuple's residue: 0 exactly where the tuple needs no match or has one. Of one tuple by its values, with no branch but
 // that on the multiplicity; and of a lane of eight.
+#![tactic(auto)]
+
 ghost use Rattle.std.specs.Prelude.{◌≡◌, [], ◌∷◌, ◌+◌, ◌≤◌, length};
 ghost use Rattle.std.proofs.lemmas.List.Edits.{sets};
 ghost use Rattle.lists.specs.Tab.{tab};

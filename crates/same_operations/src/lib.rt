@@ -1,4 +1,6 @@
 // An operation file against a core table: whether both record the same calls, in some order.
+#![tactic(auto)]
+
 ghost use Rattle.std.specs.Prelude.{◌≡◌, ◌&&◌, ◌+◌, ◌≤◌, ◌<◌, ltb, length, drop};
 ghost use Rattle.std.proofs.Math.Option.{none};
 ghost use Rattle.lists.specs.First.{place_of};
@@ -32,7 +34,7 @@ pub mod scan;
 
 // Both record the same calls; or the first record of the file with no partner of its own among the active rows; or, failing
 // that, the first active row left.
-#[derive(Drop)]
+#[derive(Clone, Copy)]
 pub enum Agreement {
     Same,
     Record(usize),
@@ -41,7 +43,7 @@ pub enum Agreement {
 }
 
 // How many records were passed, of how many bytes, and how many rows, where the records and the active rows of them are the same.
-#[derive(Drop)]
+#[derive(Clone, Copy)]
 struct Passed {
     records: usize,
     bytes: usize,
@@ -108,7 +110,7 @@ fn row_alone(core: &[u64], file: &[u8], n: usize, p: Passed, r: usize) -> bool
 }
 
 // Whether a record is alone; the highest timestamp of the records so far; and the row behind the last partner.
-#[derive(Drop)]
+#[derive(Clone, Copy)]
 struct Looked {
     alone: bool,
     top: u64,

@@ -69,8 +69,8 @@ pub some-charged : (nr floor : ℕ) (shipped : Bool) (ops before : List ℕ) →
 some-charged nr floor shipped ops before =
     record {
       lifetimes = ([], ([], tt));
-      lent = (nr, (floor, (shipped, (record { ref_ptr = (0, 0); now = ops }, (record { ref_ptr = (0, 0); now = before }, tt)))));
-      ended = (nr, (floor, (shipped, (record { ref_ptr = (0, 0); now = ops }, (record { ref_ptr = (0, 0); now = charge_after nr floor shipped ops before }, tt)))));
+      lent = (nr, (floor, (shipped, (record { ref_ptr = (0, 0); now = ops }, (record { ref_ptr = (0, 0); ghost_name = 0; now = before }, tt)))));
+      ended = (nr, (floor, (shipped, (record { ref_ptr = (0, 0); now = ops }, (record { ref_ptr = (0, 0); ghost_name = 0; now = charge_after nr floor shipped ops before }, tt)))));
       rounds-are = refl;
       floor-is = refl;
       mode-is = refl;

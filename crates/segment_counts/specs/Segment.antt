@@ -11,7 +11,7 @@
 -- nr is the number of rounds, "One nr holds for a whole segment", and floor the least height of both tables: "the height rule takes it in
 -- place of 4, and so do both writers, padding counts, the charge, its look and `tally`". Of 24 rounds the sums are those of `tally`
 -- (segment_sums/proofs/Tally.antt).
-use Rattle.std.specs.Prelude.{ℕ, ◌+◌, ◌*◌, ◌/◌, ◌%◌, Bool, true, false, not, ◌&&◌, List, eqb, length}
+use Rattle.std.specs.Prelude.{ℕ, ◌+◌, ◌*◌, ◌/◌, ◌%◌, Bool, not, ◌&&◌, List, eqb, length}
 use Rattle.std.proofs.Math.Option.{Option}
 use Rattle.lists.specs.Tab.{pick, tab, word}
 use Rattle.lists.specs.Sum.{largest_below}

@@ -18,7 +18,7 @@ use operations::check_operations;
 pub const LOOK_WORDS: usize = 20;
 
 // A slice's length, and the length that is needed.
-#[derive(Drop)]
+#[derive(Clone, Copy)]
 pub struct Room {
     pub room: usize,
     pub needed: usize,

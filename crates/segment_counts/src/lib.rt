@@ -1,4 +1,6 @@
 // What a segment's lookups add to the counters of the bitwise table, and a look at it beforehand: specs/Segment.antt.
+#![tactic(auto)]
+
 ghost use Rattle.std.specs.Prelude.{◌≡◌, ℕ, ◌≤◌, ◌<◌};
 ghost use Rattle.field.specs.Elements.{ElementRow};
 ghost use Rattle.answer.specs.Limits.{MAX-OPS};

@@ -1,6 +1,6 @@
 -- SHA3-256 in bytes is FIPS 202's on bits: `sha3-bits`. Bytes are known by their bits: `bits-known`. And what the standard says
 -- of its Algorithms 8 and 9: `sponge-length`, `blocks-joined`, `blocks-unique`, `pad-multiple`.
-use mathlib.Core.Path.{◌≡◌, refl, sym, ap, ap₂, ◌∙◌, subst}
+use mathlib.Core.Path.{◌≡◌, refl, sym, ap, ap₂, ◌∙◌}
 use mathlib.Core.Bool.{Bool, true, false}
 use mathlib.Core.List.{List, [], ◌∷◌, ◌++◌, append_assoc}
 use Prim.Native.Nat.{ℕ, zero, suc, ◌+◌, ◌-◌, ◌*◌, ◌/◌, ◌%◌, ◌^◌, ◌≤◌, ◌<◌}
@@ -9,7 +9,7 @@ use native.Mathlib.Omega.{arith}
 use borrow.Author.Tests.{le-leb, leb-true}
 use lib.Bits.{bit_xor, xor_lt}
 use lib.Dec.{T, eqb, leb, eqb→eq}
-use lib.ListN.{length, get_or, take, drop, replicate, length-append, length-drop, length-replicate, get_or-replicate, get_or-append}
+use lib.ListN.{length, get_or, drop, replicate, length-append, length-drop, length-replicate, get_or-replicate, get_or-append}
 use lib.Seq.{get_or-append-add, get_or_at, get_or-take, get_or-drop, length-take-le, take-take, ext_get_or}
 use Rattle.lists.specs.Tab.{pick, tab, word, table_of}
 use Rattle.lists.specs.Sum.{all_below}
@@ -17,12 +17,12 @@ use Rattle.lists.proofs.Laws.{length-tab, get_d-tab, table_at, length-table}
 use Rattle.lists.proofs.Kept.{by-eq}
 use Rattle.lists.proofs.Sum.{all-at}
 use Rattle.lists.proofs.Then.{by_le}
-use Rattle.bits.specs.Bits.{bit, lane_of, lane_byte}
+use Rattle.bits.specs.Bits.{bit, lane_byte}
 use Rattle.bits.proofs.BitLaws.{bit-xor, bit-ext}
-use Rattle.bits.proofs.Bytes.{lane-bit, lane-lt64, lane_byte_lem, byte-lt, byte-bit}
+use Rattle.bits.proofs.Bytes.{lane-bit, lane-lt64, byte-bit}
 use Rattle.fips202.specs.Fips.{State, Agree, xor_bit, keccak_p}
-use Rattle.fips202.specs.Lanes.{Lanes, lane, bits, keccak_pl}
-use Rattle.fips202.proofs.Steps.{agree_trans, lane-of}
+use Rattle.fips202.specs.Lanes.{Lanes, bits, keccak_pl}
+use Rattle.fips202.proofs.Steps.{lane-of}
 use Rattle.fips202.proofs.Rounds.{rounds-cong, rounds-lanes, keccak_p-agree}
 use Rattle.sha3.specs.Sha3.{RATE, blocks, padded_byte, block_lane, added, absorbed, sha3-256}
 use Rattle.sha3.specs.Sponge.{Trunc, zeros, xor_string, state_of, lane_string, plane_string, string_of, keccak_ps, pad_zeros, pad10*1, padded, block, absorbing, squeezing, sponge, keccak_c, sha3-256-bits, byte_bits, bits_of, OnlyBytes}

@@ -1,9 +1,11 @@
 // The arguments of `tally`, word by word.
+#![tactic(auto)]
+
 ghost use Rattle.std.specs.Prelude.{◌≡◌};
 ghost use Rattle.tally_arguments.specs.Arguments.{is_shipped, is_digit, floor_in, plain, argument_of};
 
 // What the words so far say: the floor of both tables' heights, and whether the tables of an empty file are shipped.
-#[derive(Drop)]
+#[derive(Clone, Copy)]
 pub struct Call {
     pub floor: u64,
     pub shipped: bool,

@@ -1,4 +1,6 @@
 // The lines that `tally` writes.
+#![tactic(auto)]
+
 ghost use Rattle.std.specs.Prelude.{◌+◌, ◌≤◌, length};
 ghost use Rattle.text.specs.Text.{Puts};
 ghost use Rattle.tally_text.specs.Output.{height_lines, lookup_lines, other_lines, pair_line, segments_line, unaligned_line, text_of};

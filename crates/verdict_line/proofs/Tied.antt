@@ -38,8 +38,8 @@ pub some-lined : (nr : ℕ) (core round before : List ℕ) → Lined nr core rou
 some-lined nr core round before =
     record {
       lifetimes = ([], ([], ([], tt)));
-      lent = (nr, (record { ref_ptr = (0, 0); now = core }, (record { ref_ptr = (0, 0); now = round }, (record { ref_ptr = (0, 0); now = before }, tt))));
-      ended = (nr, (record { ref_ptr = (0, 0); now = core }, (record { ref_ptr = (0, 0); now = round }, (record { ref_ptr = (0, 0); now = line_after nr core round before }, tt))));
+      lent = (nr, (record { ref_ptr = (0, 0); now = core }, (record { ref_ptr = (0, 0); now = round }, (record { ref_ptr = (0, 0); ghost_name = 0; now = before }, tt))));
+      ended = (nr, (record { ref_ptr = (0, 0); now = core }, (record { ref_ptr = (0, 0); now = round }, (record { ref_ptr = (0, 0); ghost_name = 0; now = line_after nr core round before }, tt))));
       rounds-are = refl;
       core_is = refl;
       round_is = refl;

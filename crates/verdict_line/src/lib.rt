@@ -1,4 +1,6 @@
 // The verdict as one English line: `holds 3`, `core row 0 value 12`, `round row 7 lookup 223 ByteAlu 2 17 5 20`.
+#![tactic(auto)]
+
 ghost use Rattle.std.specs.Prelude.{◌≡◌, ◌++◌, ◌+◌, ◌≤◌, length, take};
 ghost use Rattle.std.proofs.Math.Option.{some};
 ghost use Rattle.std.proofs.lemmas.List.Edits.{sets};

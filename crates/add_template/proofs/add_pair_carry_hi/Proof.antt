@@ -3,7 +3,7 @@ use borrow.Author.Rules.{rules}
 use Rattle.add_template.proofs.add_pair_carry_hi.Statement.{statement}
 use Rattle.add_template.proofs.add_pair_carry_hi.Tie as tie
 
-carry0-requires : tie.Need-carry0-requires
+carry0-requires : tie.Need-carry0-low-requires
 carry0-requires c κs = search rules
 
 carry1-requires : tie.Need-carry1-requires
@@ -12,5 +12,5 @@ carry1-requires c κs = search rules
 returns : tie.Need-returns
 returns c = (c.carry1.ensures.0, c.carry1.ensures.1)
 
-pub add-pair-carry-hi-spec : {M : Type 1} → statement M
-add-pair-carry-hi-spec = tie.close (tie.spec carry0-requires carry1-requires returns)
+pub add_pair_carry_hi_spec : {M : Type 1} → statement M
+add_pair_carry_hi_spec = tie.close (tie.spec carry0-requires carry1-requires returns)

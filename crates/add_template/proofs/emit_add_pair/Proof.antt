@@ -6,28 +6,25 @@ use Rattle.add_template.specs.Conditions.{columns_of}
 use Rattle.add_template.proofs.emit_add_pair.Statement.{statement}
 use Rattle.add_template.proofs.emit_add_pair.Tie as tie
 
-carry0-requires : tie.Need-carry0-requires
+carry0-requires : tie.Need-carry0-low-requires
 carry0-requires c κs = search rules
 
-carry1-requires : tie.Need-carry1-requires
+carry1-requires : tie.Need-carry1-high-requires
 carry1-requires c κs = search rules
 
-bit-under-requires : tie.Need-bit-under-requires
+bit-under-requires : tie.Need-bit_under-requires
 bit-under-requires c κs = search rules
 
-bit-under-requires-2 : tie.Need-bit-under-requires-2
+bit-under-requires-2 : tie.Need-bit_under-requires-2
 bit-under-requires-2 c κs = search rules
 
 returns : tie.Need-returns
 unfolding emit-add-pair
 returns c =
-    let high = c.before.before in
-    let low = high.before in
-    let s = low.before.before in
-    let bit = bit_under s.args.row.now (columns_of s.args.cond) in
-    (c.before.bit-under.ensures ∙ ap bit low.carry0.ensures.0, c.bit-under2.ensures ∙ ap bit high.carry1.ensures.0)
+    let bit = bit_under c.args.row.now (columns_of c.args.cond) in
+    (c.bit_under.ensures ∙ ap bit c.carry0-low.ensures.0, c.bit_under-2.ensures ∙ ap bit c.carry1-high.ensures.0)
 
-pub emit-add-pair-spec : {M : Type 1} → statement M
-emit-add-pair-spec =
+pub emit_add_pair_spec : {M : Type 1} → statement M
+emit_add_pair_spec =
     tie.close
     (tie.spec carry0-requires carry1-requires bit-under-requires bit-under-requires-2 returns)

@@ -8,72 +8,68 @@ use Rattle.bitwise.specs.Counters.{charge, bump_refusal}
 use Rattle.bitwise_counts.proofs.bump_n.Statement.{statement}
 use Rattle.bitwise_counts.proofs.bump_n.Tie as tie
 
-returns : tie.Need-returns
+returns : tie.Need-returns-then-kind-ge-NUM_LOOKUP_TYPES
 unfolding bump_refusal
-returns c = refused _ _ (refuse-yes _ _ (le-leb _ _ c.if1.true))
+returns c = refused _ _ (refuse-yes _ _ (le-leb _ _ c.if-kind-ge-NUM_LOOKUP_TYPES.true))
 
-returns-2 : tie.Need-returns-2
+returns-2 : tie.Need-returns-then-z-ge16
 unfolding bump_refusal
-returns-2 c = refused _ _ (refuse-no _ (lt-leb _ _ c.before.if1.false) (refuse-yes _ _ (le-leb _ _ c.if2.true)))
+returns-2 c = refused _ _ (refuse-no _ (lt-leb _ _ c.if-kind-ge-NUM_LOOKUP_TYPES.false) (refuse-yes _ _ (le-leb _ _ c.if-z-ge16.true)))
 
-returns-3 : tie.Need-returns-3
+returns-3 : tie.Need-returns-then-counters-lt-NUM_COUNTERS
 unfolding bump_refusal
 returns-3 c =
     refused _ _
-    (refuse-no _ (lt-leb _ _ c.before.before.if1.false)
-    (refuse-no _ (lt-leb _ _ c.before.if2.false)
-    (refuse-yes _ _ (lt-ltb _ _ c.if3.true))))
+    (refuse-no _ (lt-leb _ _ c.if-kind-ge-NUM_LOOKUP_TYPES.false)
+    (refuse-no _ (lt-leb _ _ c.if-z-ge16.false)
+    (refuse-yes _ _ (lt-ltb _ _ c.if-counters-lt-NUM_COUNTERS.true))))
 
-row-of-requires : tie.Need-row-of-requires
+row-of-requires : tie.Need-row_of-requires
 row-of-requires c κs = search rules
 
-mul_at : tie.Need-overflow-mul-at
+mul_at : tie.Need-overflow_mul-at
 mul_at c = search rules
 
-add_at : tie.Need-overflow-add-at
+add_at : tie.Need-overflow_add-at
 add_at c = search rules
 
-mul-if4 : tie.Need-overflow-mul-if4
+mul-if4 : tie.Need-offset_bounds-counters-at
 mul-if4 c = search rules
 
-slice-read-if4 : tie.Need-slice-read-if4
+slice-read-if4 : tie.Need-bounds-counters-at
 slice-read-if4 c = search rules
 
-returns-4 : tie.Need-returns-4
+returns-4 : tie.Need-returns-then-counters-at-ge-P
 unfolding bump_refusal
 returns-4 c =
-    let s = c.before.before.before in
-    let e = c.before.before.row_of.ensures in
+    let e = c.row_of.ensures in
     rw e
     (refused _ _
-    (refuse-no _ (lt-leb _ _ s.before.before.if1.false)
-    (refuse-no _ (lt-leb _ _ s.before.if2.false)
-    (refuse-no _ (le-ltb _ _ s.if3.false)
-    (refuse-yes _ _ (le-leb _ _ (rw e at c.if4.true)))))))
+    (refuse-no _ (lt-leb _ _ c.if-kind-ge-NUM_LOOKUP_TYPES.false)
+    (refuse-no _ (lt-leb _ _ c.if-z-ge16.false)
+    (refuse-no _ (le-ltb _ _ c.if-counters-lt-NUM_COUNTERS.false)
+    (refuse-yes _ _ (le-leb _ _ (rw e at c.if-counters-at-ge-P.true)))))))
 
-charge-word-requires : tie.Need-charge-word-requires
+charge-word-requires : tie.Need-charge_word-requires
 charge-word-requires c κs = search rules
 
-same_length : tie.Need-same-length
+same_length : tie.Need-shape_of-counters
 same_length c = search rules
 
-returns-5 : tie.Need-returns-5
+returns-5 : tie.Need-returns
 unfolding bump_refusal
 returns-5 c =
-    let called = c.before.before in
-    let left = called.before.before in
-    let s = left.before.before.before in
-    let e = left.before.before.row_of.ensures in
-    let a = s.before.before.before.before.args in
+    let e = c.row_of.ensures in
+    let a = c.args in
     done _
-    (refuse-no _ (lt-leb _ _ s.before.before.if1.false)
-    (refuse-no _ (lt-leb _ _ s.before.if2.false)
-    (refuse-no _ (le-ltb _ _ s.if3.false)
-    (refuse-no _ (lt-leb _ _ (rw e at left.if4.false)) refl))))
-    (called.charge-word.ensures ∙ ap (λ (i : ℕ). charge a.counters.now (i * 10 + a.kind) a.n) e)
+    (refuse-no _ (lt-leb _ _ c.if-kind-ge-NUM_LOOKUP_TYPES.false)
+    (refuse-no _ (lt-leb _ _ c.if-z-ge16.false)
+    (refuse-no _ (le-ltb _ _ c.if-counters-lt-NUM_COUNTERS.false)
+    (refuse-no _ (lt-leb _ _ (rw e at c.if-counters-at-ge-P.false)) refl))))
+    (c.charge_word.ensures ∙ ap (λ (i : ℕ). charge a.counters.now (i * 10 + a.kind) a.n) e)
 
-pub bump-n-spec : {M : Type 1} → statement M
-bump-n-spec =
+pub bump_n_spec : {M : Type 1} → statement M
+bump_n_spec =
     tie.close
     (tie.spec
     returns

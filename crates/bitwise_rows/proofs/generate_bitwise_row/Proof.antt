@@ -7,28 +7,27 @@ use Rattle.bitwise.specs.Row.{row_of_xyz, bitwise_row, bitwise_row_refusal}
 use Rattle.bitwise_rows.proofs.generate_bitwise_row.Statement.{statement}
 use Rattle.bitwise_rows.proofs.generate_bitwise_row.Tie as tie
 
-returns : tie.Need-returns
+returns : tie.Need-returns-then-index-ge-NUM_ROWS
 unfolding bitwise_row_refusal
-returns c = refused _ _ (refuse-yes _ _ (le-leb _ _ c.if1.true))
+returns c = refused _ _ (refuse-yes _ _ (le-leb _ _ c.if-index-ge-NUM_ROWS.true))
 
-returns-2 : tie.Need-returns-2
+returns-2 : tie.Need-returns-then-row-lt-NUM_PRECOMPUTED_COLS
 unfolding bitwise_row_refusal
-returns-2 c = refused _ _ (refuse-no _ (lt-leb _ _ c.before.if1.false) (refuse-yes _ _ (lt-ltb _ _ c.if2.true)))
+returns-2 c = refused _ _ (refuse-no _ (lt-leb _ _ c.if-index-ge-NUM_ROWS.false) (refuse-yes _ _ (lt-ltb _ _ c.if-row-lt-NUM_PRECOMPUTED_COLS.true)))
 
-put-row-requires : tie.Need-put-row-requires
+put-row-requires : tie.Need-put_row-requires
 put-row-requires c κs = search rules
 
-same_length : tie.Need-same-length
+same_length : tie.Need-shape_of-row
 same_length c = search rules
 
-returns-3 : tie.Need-returns-3
+returns-3 : tie.Need-returns
 unfolding bitwise_row_refusal bitwise_row row_of_xyz
 returns-3 c =
-    let e = c.before.before.before.before in
     done _
-    (refuse-no _ (lt-leb _ _ e.before.if1.false) (refuse-no _ (le-ltb _ _ e.if2.false) refl))
-    (c.before.before.put-row.ensures ∙ sets-overwrite _ _ e.if2.false)
+    (refuse-no _ (lt-leb _ _ c.if-index-ge-NUM_ROWS.false) (refuse-no _ (le-ltb _ _ c.if-row-lt-NUM_PRECOMPUTED_COLS.false) refl))
+    (c.put_row.ensures ∙ sets-overwrite _ _ c.if-row-lt-NUM_PRECOMPUTED_COLS.false)
 
-pub generate-bitwise-row-spec : {M : Type 1} → statement M
-generate-bitwise-row-spec =
+pub generate_bitwise_row_spec : {M : Type 1} → statement M
+generate_bitwise_row_spec =
     tie.close (tie.spec returns returns-2 put-row-requires same_length returns-3)

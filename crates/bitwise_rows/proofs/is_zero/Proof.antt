@@ -3,17 +3,17 @@ use borrow.Author.Tests.{eq-eqb, ne_eqb}
 use Rattle.bitwise_rows.proofs.is_zero.Statement.{statement}
 use Rattle.bitwise_rows.proofs.is_zero.Tie as tie
 
-returns : tie.Need-returns
-returns c = rw (ne_eqb _ _ c.if1.true)
+returns : tie.Need-returns-then-x-ne0
+returns c = rw (ne_eqb _ _ c.if-x-ne0.true)
 
-returns-2 : tie.Need-returns-2
-returns-2 c = rw (eq-eqb _ _ c.before.if1.false, ne_eqb _ _ c.if2.true)
+returns-2 : tie.Need-returns-then-y-ne0
+returns-2 c = rw (eq-eqb _ _ c.if-x-ne0.false, ne_eqb _ _ c.if-y-ne0.true)
 
-returns-3 : tie.Need-returns-3
-returns-3 c = rw (eq-eqb _ _ c.before.before.if1.false, eq-eqb _ _ c.before.if2.false, ne_eqb _ _ c.if3.true)
+returns-3 : tie.Need-returns-then-z-ne0
+returns-3 c = rw (eq-eqb _ _ c.if-x-ne0.false, eq-eqb _ _ c.if-y-ne0.false, ne_eqb _ _ c.if-z-ne0.true)
 
-returns-4 : tie.Need-returns-4
-returns-4 c = rw (eq-eqb _ _ c.before.before.if1.false, eq-eqb _ _ c.before.if2.false, eq-eqb _ _ c.if3.false)
+returns-4 : tie.Need-returns
+returns-4 c = rw (eq-eqb _ _ c.if-x-ne0.false, eq-eqb _ _ c.if-y-ne0.false, eq-eqb _ _ c.if-z-ne0.false)
 
-pub is-zero-spec : {M : Type 1} → statement M
-is-zero-spec = tie.close (tie.spec returns returns-2 returns-3 returns-4)
+pub is_zero_spec : {M : Type 1} → statement M
+is_zero_spec = tie.close (tie.spec returns returns-2 returns-3 returns-4)

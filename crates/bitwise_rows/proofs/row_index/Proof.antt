@@ -7,16 +7,16 @@ use Rattle.bitwise.specs.Row.{index_refusal}
 use Rattle.bitwise_rows.proofs.row_index.Statement.{statement}
 use Rattle.bitwise_rows.proofs.row_index.Tie as tie
 
-returns : tie.Need-returns
+returns : tie.Need-returns-then-z-ge16
 unfolding index_refusal
-returns c = number-refused _ (refuse-yes _ _ (le-leb _ _ c.if1.true))
+returns c = number-refused _ (refuse-yes _ _ (le-leb _ _ c.if-z-ge16.true))
 
-row-of-requires : tie.Need-row-of-requires
+row-of-requires : tie.Need-row_of-index-requires
 row-of-requires c κs = search rules
 
-returns-2 : tie.Need-returns-2
+returns-2 : tie.Need-returns
 unfolding index_refusal
-returns-2 c = number_is (refuse-no _ (lt-leb _ _ c.before.if1.false) refl) c.row_of.ensures
+returns-2 c = number_is (refuse-no _ (lt-leb _ _ c.if-z-ge16.false) refl) c.row_of-index.ensures
 
-pub row-index-spec : {M : Type 1} → statement M
-row-index-spec = tie.close (tie.spec returns row-of-requires returns-2)
+pub row_index_spec : {M : Type 1} → statement M
+row_index_spec = tie.close (tie.spec returns row-of-requires returns-2)

@@ -5,11 +5,11 @@ use lib.Pow.{shl_exact}
 use Rattle.bitwise_rows.proofs.shifted.Statement.{statement}
 use Rattle.bitwise_rows.proofs.shifted.Tie as tie
 
-shl-result : tie.Need-overflow-shl-result
+shl-result : tie.Need-overflow_shl-result
 shl-result c = search rules
 
 returns : tie.Need-returns
 returns c = rw (shl_exact 16 c.args.z 64 c.requires.0 (omega arith))
 
-pub shifted-spec : {M : Type 1} → statement M
-shifted-spec = tie.close (tie.spec shl-result returns)
+pub shifted_spec : {M : Type 1} → statement M
+shifted_spec = tie.close (tie.spec shl-result returns)

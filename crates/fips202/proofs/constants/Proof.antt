@@ -9,5 +9,5 @@ returns : tie.Need-returns
 unfolding all_below rc_l
 returns c = constants-tested _ tt
 
-pub constants-spec : {M : Type 1} → statement M
-constants-spec = tie.close (tie.spec returns)
+pub constants_spec : {M : Type 1} → statement M
+constants_spec = tie.close (tie.spec returns)

@@ -3,14 +3,14 @@ use native.Mathlib.Omega.{arith}
 use Rattle.fips202.proofs.first_round.Statement.{statement}
 use Rattle.fips202.proofs.first_round.Tie as tie
 
-sub-result : tie.Need-overflow-sub-result
+sub-result : tie.Need-overflow_sub-result
 sub-result c = omega arith
 
-returns : tie.Need-returns
+returns : tie.Need-returns-then-nr-lt-ROUNDS
 returns c = omega arith
 
-returns-2 : tie.Need-returns-2
+returns-2 : tie.Need-returns
 returns-2 c = omega arith
 
-pub first-round-spec : {M : Type 1} → statement M
-first-round-spec = tie.close (tie.spec sub-result returns returns-2)
+pub first_round_spec : {M : Type 1} → statement M
+first_round_spec = tie.close (tie.spec sub-result returns returns-2)

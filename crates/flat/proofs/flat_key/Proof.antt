@@ -8,5 +8,5 @@ returns : tie.Need-returns
 unfolding flat_key
 returns c = refl
 
-pub flat-key-spec : {M : Type 1} → statement M
-flat-key-spec = tie.close (tie.spec returns)
+pub flat_key_spec : {M : Type 1} → statement M
+flat_key_spec = tie.close (tie.spec returns)

@@ -5,50 +5,50 @@ use borrow.Author.Rules.{rules}
 use Rattle.is_wh.proofs.is_whh.Statement.{statement}
 use Rattle.is_wh.proofs.is_whh.Tie as tie
 
-add-pair : tie.Need-overflow-add-pair
+add-pair : tie.Need-overflow_add-start
 add-pair c = search rules
 
-mul-pair : tie.Need-overflow-mul-pair
+mul-pair : tie.Need-offset_bounds-row-start
 mul-pair c = search rules
 
-shared-slice-read-pair : tie.Need-shared-slice-read-pair
+shared-slice-read-pair : tie.Need-bounds-row-start
 shared-slice-read-pair c = search rules
 
-add-pair-2 : tie.Need-overflow-add-pair-2
+add-pair-2 : tie.Need-overflow_add-start-then-index-eq0
 add-pair-2 c = search rules
 
-mul-pair-2 : tie.Need-overflow-mul-pair-2
+mul-pair-2 : tie.Need-offset_bounds-row-start-then-index-eq0
 mul-pair-2 c = search rules
 
-shared-slice-read-pair-2 : tie.Need-shared-slice-read-pair-2
+shared-slice-read-pair-2 : tie.Need-bounds-row-start-then-index-eq0
 shared-slice-read-pair-2 c = search rules
 
 pair-requires : tie.Need-pair-requires
-pair-requires c κs = fits _ (pair-sent _ _ _ _ c.before.before.before.if1.true) c.before.before.before.before.before.before.requires.1
+pair-requires c κs = fits _ (pair-sent c.args.row.now c.args.start c.args.cond c.args.index c.if-index-eq0.true) c.requires.1
 
-mul-send-one : tie.Need-overflow-mul-send-one
+mul-send-one : tie.Need-offset_bounds-row-start-else-index-eq0
 mul-send-one c = search rules
 
-shared-slice-read-send-one : tie.Need-shared-slice-read-send-one
+shared-slice-read-send-one : tie.Need-bounds-row-start-else-index-eq0
 shared-slice-read-send-one c = search rules
 
-send-one-requires : tie.Need-send-one-requires
-send-one-requires c κs = fits _ (low-sent _ _ _ _ c.before.before.if1.false) c.before.before.before.before.before.requires.1
+send-one-requires : tie.Need-send_one-requires
+send-one-requires c κs = fits _ (low-sent c.args.row.now c.args.start c.args.cond c.args.index c.if-index-eq0.false) c.requires.1
 
-same_length : tie.Need-same-length
+same_length : tie.Need-shape_of-out-then-index-eq0
 same_length c = search rules
 
-returns : tie.Need-returns
-returns c = as-tuple _ (pair-sent _ _ _ _ c.before.before.before.before.before.before.if1.true) c.before.before.pair.ensures.0 c.before.before.pair.ensures.1
+returns : tie.Need-returns-then-index-eq0
+returns c = as-tuple _ (pair-sent c.args.row.now c.args.start c.args.cond c.args.index c.if-index-eq0.true) c.pair.ensures.0 c.pair.ensures.1
 
-same-length-2 : tie.Need-same-length-2
+same-length-2 : tie.Need-shape_of-out-else-index-eq0
 same-length-2 c = search rules
 
-returns-2 : tie.Need-returns-2
-returns-2 c = as-tuple _ (low-sent _ _ _ _ c.before.before.before.before.before.if1.false) c.before.before.send-one.ensures.0 c.before.before.send-one.ensures.1
+returns-2 : tie.Need-returns-else-index-eq0
+returns-2 c = as-tuple _ (low-sent c.args.row.now c.args.start c.args.cond c.args.index c.if-index-eq0.false) c.send_one.ensures.0 c.send_one.ensures.1
 
-pub is-whh-spec : {M : Type 1} → statement M
-is-whh-spec =
+pub is_whh_spec : {M : Type 1} → statement M
+is_whh_spec =
     tie.close
     (tie.spec
     add-pair

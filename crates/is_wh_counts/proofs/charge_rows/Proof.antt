@@ -5,84 +5,78 @@ use Rattle.is_wh_counts.proofs.Charging.{good-row, ListGrown, list-start, row_be
 use Rattle.is_wh_counts.proofs.charge_rows.Statement.{statement}
 use Rattle.is_wh_counts.proofs.charge_rows.Tie as tie
 
-abbrev invariant-loop : tie.invariant-loop
+abbrev invariant-loop : tie.invariant-loop-i
 invariant-loop rows n counters₀ i₀ counters i = ListGrown rows counters₀ counters i
 
-abbrev decreases-loop : tie.decreases-loop
+abbrev decreases-loop : tie.decreases-loop-i
 decreases-loop rows n counters₀ i₀ counters i = n - i
 
-loop-holds : tie.Need-loop-init invariant-loop decreases-loop
+loop-holds : tie.Need-loop-i-init invariant-loop decreases-loop
 loop-holds c = list-start _ _
 
-mul-charge-row : tie.Need-overflow-mul-charge-row invariant-loop decreases-loop
+mul-charge-row : tie.Need-overflow_mul-i invariant-loop decreases-loop
 mul-charge-row c = omega arith
 
-mul-charge-row-2 : tie.Need-overflow-mul-charge-row-2 invariant-loop decreases-loop
+mul-charge-row-2 : tie.Need-offset_bounds-rows-i invariant-loop decreases-loop
 mul-charge-row-2 c = omega arith
 
-shared-slice-read-charge-row : tie.Need-shared-slice-read-charge-row invariant-loop decreases-loop
+shared-slice-read-charge-row : tie.Need-bounds-rows-i invariant-loop decreases-loop
 shared-slice-read-charge-row c = omega arith
 
-mul-charge-row-3 : tie.Need-overflow-mul-charge-row-3 invariant-loop decreases-loop
+mul-charge-row-3 : tie.Need-overflow_mul-i-in-loop-i invariant-loop decreases-loop
 mul-charge-row-3 c = omega arith
 
-add-charge-row : tie.Need-overflow-add-charge-row invariant-loop decreases-loop
+add-charge-row : tie.Need-overflow_add-i invariant-loop decreases-loop
 add-charge-row c = omega arith
 
-mul-charge-row-4 : tie.Need-overflow-mul-charge-row-4 invariant-loop decreases-loop
+mul-charge-row-4 : tie.Need-offset_bounds-rows-i-in-loop-i invariant-loop decreases-loop
 mul-charge-row-4 c = omega arith
 
-shared-slice-read-charge-row-2 : tie.Need-shared-slice-read-charge-row-2 invariant-loop decreases-loop
+shared-slice-read-charge-row-2 : tie.Need-bounds-rows-i-in-loop-i invariant-loop decreases-loop
 shared-slice-read-charge-row-2 c = omega arith
 
-mul-charge-row-5 : tie.Need-overflow-mul-charge-row-5 invariant-loop decreases-loop
+mul-charge-row-5 : tie.Need-overflow_mul-i-in-loop-i-2 invariant-loop decreases-loop
 mul-charge-row-5 c = omega arith
 
-add-charge-row-2 : tie.Need-overflow-add-charge-row-2 invariant-loop decreases-loop
+add-charge-row-2 : tie.Need-overflow_add-i-in-loop-i invariant-loop decreases-loop
 add-charge-row-2 c = omega arith
 
-mul-charge-row-6 : tie.Need-overflow-mul-charge-row-6 invariant-loop decreases-loop
+mul-charge-row-6 : tie.Need-offset_bounds-rows-i-in-loop-i-2 invariant-loop decreases-loop
 mul-charge-row-6 c = omega arith
 
-shared-slice-read-charge-row-3 : tie.Need-shared-slice-read-charge-row-3 invariant-loop decreases-loop
+shared-slice-read-charge-row-3 : tie.Need-bounds-rows-i-in-loop-i-2 invariant-loop decreases-loop
 shared-slice-read-charge-row-3 c = omega arith
 
-charge-row-requires : tie.Need-charge-row-requires invariant-loop decreases-loop
+charge-row-requires : tie.Need-charge_row-requires invariant-loop decreases-loop
 charge-row-requires c κs =
-    let l = c.before.before.before.before in
-    let s = l.before.before.before.before in
-    let v = l.before.loop.invariant in
-    let g = good-row s.args.rows.now s.requires.2 l.before.loop.i (omega (arith, s.requires.3)) in (
-      omega (arith, v.grown.long, s.requires.0),
-      row_below s.args.rows.now s.args.counters.now s.requires.0 s.requires.2 s.args.n s.requires.3 s.requires.1 l.before.loop.i v l.loop-test.true,
+    let v = c.loop-i.invariant in
+    let g = good-row c.args.rows.now c.requires.2 c.loop-i.i (omega (arith, c.requires.3)) in (
+      omega (arith, v.grown.long, c.requires.0),
+      row_below c.args.rows.now c.args.counters.now c.requires.0 c.requires.2 c.args.n c.requires.3 c.requires.1 c.loop-i.i v c.loop-i-test.true,
       g.0,
       g.1,
       g.2,
     )
 
-add-i : tie.Need-overflow-add-i invariant-loop decreases-loop
+add-i : tie.Need-overflow_add-i-in-loop-i-2 invariant-loop decreases-loop
 add-i c = omega arith
 
-loop-less : tie.Need-loop-smaller invariant-loop decreases-loop
+loop-less : tie.Need-loop-i-smaller invariant-loop decreases-loop
 loop-less c = omega arith
 
-loop-again : tie.Need-loop-preserved invariant-loop decreases-loop
+loop-again : tie.Need-loop-i-preserved invariant-loop decreases-loop
 loop-again c =
-    let r = c.before.before in
-    let l = r.before.before.before.before.before in
-    let s = l.before.before.before.before in
-    list-more s.args.rows.now s.args.counters.now s.requires.0 s.requires.2 s.args.n s.requires.3 s.requires.1 l.before.loop.i l.before.loop.invariant l.loop-test.true r.charge-row.ensures
+    list-more c.args.rows.now c.args.counters.now c.requires.0 c.requires.2 c.args.n c.requires.3 c.requires.1 c.loop-i.i c.loop-i.invariant c.loop-i-test.true c.charge_row.ensures
 
-same_length : tie.Need-same-length invariant-loop decreases-loop
+same_length : tie.Need-shape_of-counters invariant-loop decreases-loop
 same_length c = omega arith
 
 returns : tie.Need-returns invariant-loop decreases-loop
 returns c =
-    let s = c.before.before.before.before in
-    list_all s.args.rows.now s.args.counters.now s.requires.0 s.requires.2 s.args.n s.requires.3 s.requires.1 c.before.loop.i c.before.loop.invariant c.loop-test.false
+    list_all c.args.rows.now c.args.counters.now c.requires.0 c.requires.2 c.args.n c.requires.3 c.requires.1 c.loop-i.i c.loop-i.invariant c.loop-i-test.false
 
-pub charge-rows-spec : {M : Type 1} → statement M
-charge-rows-spec =
+pub charge_rows_spec : {M : Type 1} → statement M
+charge_rows_spec =
     tie.close
     (tie.spec
     invariant-loop

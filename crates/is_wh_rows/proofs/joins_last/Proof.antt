@@ -5,24 +5,24 @@ use borrow.Author.Rules.{rules}
 use Rattle.is_wh_rows.proofs.joins_last.Statement.{statement}
 use Rattle.is_wh_rows.proofs.joins_last.Tie as tie
 
-returns : tie.Need-returns
-returns c = let s = c.before in no_last s.args.loads.now s.args.m s.args.code s.requires c.if1.true
+returns : tie.Need-returns-then-m-eq0
+returns c = no_last c.args.loads.now c.args.m c.args.code c.requires c.if-m-eq0.true
 
-sub-last : tie.Need-overflow-sub-last
+sub-last : tie.Need-overflow_sub-last
 sub-last c = search rules
 
-mul-last : tie.Need-overflow-mul-last
+mul-last : tie.Need-offset_bounds-loads-m
 mul-last c = search rules
 
-shared-slice-read-last : tie.Need-shared-slice-read-last
+shared-slice-read-last : tie.Need-bounds-loads-m
 shared-slice-read-last c = search rules
 
-returns-2 : tie.Need-returns-2
-returns-2 c = let s = c.before.before.before in other-code s.args.loads.now s.args.m s.args.code s.requires (pos_of_ne-zero c.before.before.if1.false) c.if2.true
+returns-2 : tie.Need-returns-then-last-code
+returns-2 c = other-code c.args.loads.now c.args.m c.args.code c.requires (pos_of_ne-zero c.if-m-eq0.false) c.if-last-code.true
 
-returns-3 : tie.Need-returns-3
-returns-3 c = let s = c.before.before.before in same_code s.args.loads.now s.args.m s.args.code s.requires (pos_of_ne-zero c.before.before.if1.false) c.if2.false
+returns-3 : tie.Need-returns
+returns-3 c = same_code c.args.loads.now c.args.m c.args.code c.requires (pos_of_ne-zero c.if-m-eq0.false) c.if-last-code.false
 
-pub joins-last-spec : {M : Type 1} → statement M
-joins-last-spec =
+pub joins_last_spec : {M : Type 1} → statement M
+joins_last_spec =
     tie.close (tie.spec returns sub-last mul-last shared-slice-read-last returns-2 returns-3)

@@ -5,56 +5,54 @@ use native.Mathlib.Omega.{arith}
 use Rattle.is_wh_rows.proofs.put_key_rows.Statement.{statement}
 use Rattle.is_wh_rows.proofs.put_key_rows.Tie as tie
 
-abbrev invariant-loop : tie.invariant-loop
+abbrev invariant-loop : tie.invariant-loop-j
 invariant-loop rows₀ at code n needed j₀ rows j = KeyStored rows₀ at code n rows j
 
-abbrev decreases-loop : tie.decreases-loop
+abbrev decreases-loop : tie.decreases-loop-j
 decreases-loop rows₀ at code n needed j₀ rows j = needed - j
 
-rows-needed-requires : tie.Need-rows-needed-requires invariant-loop decreases-loop
+rows-needed-requires : tie.Need-rows_needed-needed-requires invariant-loop decreases-loop
 rows-needed-requires c κs = omega arith
 
-loop-holds : tie.Need-loop-init invariant-loop decreases-loop
+loop-holds : tie.Need-loop-j-init invariant-loop decreases-loop
 loop-holds c = key-none _ _ _ _
 
-mul-row-count : tie.Need-overflow-mul-row-count invariant-loop decreases-loop
+mul-row-count : tie.Need-overflow_mul-j invariant-loop decreases-loop
 mul-row-count c = omega arith
 
-sub-row-count : tie.Need-overflow-sub-row-count invariant-loop decreases-loop
+sub-row-count : tie.Need-overflow_sub-n invariant-loop decreases-loop
 sub-row-count c = omega arith
 
-row-count-requires : tie.Need-row-count-requires invariant-loop decreases-loop
+row-count-requires : tie.Need-row_count-count-requires invariant-loop decreases-loop
 row-count-requires c κs = tt
 
-mul-put-row : tie.Need-overflow-mul-put-row invariant-loop decreases-loop
+mul-put-row : tie.Need-overflow_mul-j-in-loop-j invariant-loop decreases-loop
 mul-put-row c = omega arith
 
-add-put-row : tie.Need-overflow-add-put-row invariant-loop decreases-loop
+add-put-row : tie.Need-overflow_add-at invariant-loop decreases-loop
 add-put-row c = omega arith
 
-put-row-requires : tie.Need-put-row-requires invariant-loop decreases-loop
+put-row-requires : tie.Need-put_row-requires invariant-loop decreases-loop
 put-row-requires c κs = omega arith
 
-add-j : tie.Need-overflow-add-j invariant-loop decreases-loop
+add-j : tie.Need-overflow_add-j invariant-loop decreases-loop
 add-j c = omega arith
 
-loop-less : tie.Need-loop-smaller invariant-loop decreases-loop
+loop-less : tie.Need-loop-j-smaller invariant-loop decreases-loop
 loop-less c = omega arith
 
-loop-again : tie.Need-loop-preserved invariant-loop decreases-loop
+loop-again : tie.Need-loop-j-preserved invariant-loop decreases-loop
 loop-again c =
-    let p = c.before.before in
-    let r = p.before.before in
-    key_more r.before.before.loop.invariant (omega arith) r.row_count.ensures p.put-row.ensures
+    key_more c.loop-j.invariant (omega arith) c.row_count-count.ensures c.put_row.ensures
 
-same_length : tie.Need-same-length invariant-loop decreases-loop
+same_length : tie.Need-shape_of-rows invariant-loop decreases-loop
 same_length c = omega arith
 
 returns : tie.Need-returns invariant-loop decreases-loop
-returns c = (c.before.before.rows-needed.ensures, key-all c.before.loop.invariant (omega arith))
+returns c = (c.rows_needed-needed.ensures, key-all c.loop-j.invariant (omega arith))
 
-pub put-key-rows-spec : {M : Type 1} → statement M
-put-key-rows-spec =
+pub put_key_rows_spec : {M : Type 1} → statement M
+put_key_rows_spec =
     tie.close
     (tie.spec
     invariant-loop

@@ -8,75 +8,70 @@ use native.Mathlib.Omega.{arith}
 use Rattle.is_wh_rows.proofs.put_loads.Statement.{statement}
 use Rattle.is_wh_rows.proofs.put_loads.Tie as tie
 
-abbrev invariant-loop : tie.invariant-loop
+abbrev invariant-loop : tie.invariant-loop-i
 invariant-loop keys out₀ n m₀ i₀ out m i = Loaded keys out₀ out n i m
 
-abbrev decreases-loop : tie.decreases-loop
+abbrev decreases-loop : tie.decreases-loop-i
 decreases-loop keys out₀ n m₀ i₀ out m i = n - i
 
-loop-holds : tie.Need-loop-init invariant-loop decreases-loop
+loop-holds : tie.Need-loop-i-init invariant-loop decreases-loop
 loop-holds c = loaded-none _ _ _
 
-mul-put-load : tie.Need-overflow-mul-put-load invariant-loop decreases-loop
+mul-put-load : tie.Need-overflow_mul-i invariant-loop decreases-loop
 mul-put-load c = omega arith
 
-mul-put-load-2 : tie.Need-overflow-mul-put-load-2 invariant-loop decreases-loop
+mul-put-load-2 : tie.Need-offset_bounds-keys-i invariant-loop decreases-loop
 mul-put-load-2 c = omega arith
 
-shared-slice-read-put-load : tie.Need-shared-slice-read-put-load invariant-loop decreases-loop
+shared-slice-read-put-load : tie.Need-bounds-keys-i invariant-loop decreases-loop
 shared-slice-read-put-load c = omega arith
 
-mul-put-load-3 : tie.Need-overflow-mul-put-load-3 invariant-loop decreases-loop
+mul-put-load-3 : tie.Need-overflow_mul-keys invariant-loop decreases-loop
 mul-put-load-3 c =
-    let s = c.before.before.before.before.before.before in
-    let i = c.before.before.before.loop.i in
-    omega (arith, word_small s.args.keys.now s.requires.1 i (omega arith))
+    let i = c.loop-i.i in
+    omega (arith, word_small c.args.keys.now c.requires.1 i (omega arith))
 
-mul-put-load-4 : tie.Need-overflow-mul-put-load-4 invariant-loop decreases-loop
+mul-put-load-4 : tie.Need-overflow_mul-i-in-loop-i invariant-loop decreases-loop
 mul-put-load-4 c = omega arith
 
-add-put-load : tie.Need-overflow-add-put-load invariant-loop decreases-loop
+add-put-load : tie.Need-overflow_add-i invariant-loop decreases-loop
 add-put-load c = omega arith
 
-mul-put-load-5 : tie.Need-overflow-mul-put-load-5 invariant-loop decreases-loop
+mul-put-load-5 : tie.Need-offset_bounds-keys-i-in-loop-i invariant-loop decreases-loop
 mul-put-load-5 c = omega arith
 
-shared-slice-read-put-load-2 : tie.Need-shared-slice-read-put-load-2 invariant-loop decreases-loop
+shared-slice-read-put-load-2 : tie.Need-bounds-keys-i-in-loop-i invariant-loop decreases-loop
 shared-slice-read-put-load-2 c = omega arith
 
-add-put-load-2 : tie.Need-overflow-add-put-load-2 invariant-loop decreases-loop
+add-put-load-2 : tie.Need-overflow_add-keys invariant-loop decreases-loop
 add-put-load-2 c =
-    let s = c.before.before.before.before.before.before.before in
-    let i = c.before.before.before.before.loop.i in
-    omega (arith, word_small s.args.keys.now s.requires.1 i (omega arith), half-small s.args.keys.now s.requires.1 i (omega arith))
+    let i = c.loop-i.i in
+    omega (arith, word_small c.args.keys.now c.requires.1 i (omega arith), half-small c.args.keys.now c.requires.1 i (omega arith))
 
-put-load-requires : tie.Need-put-load-requires invariant-loop decreases-loop
+put-load-requires : tie.Need-put_load-m-requires invariant-loop decreases-loop
 put-load-requires c κs =
-    let s = c.before.before.before.before.before.before.before in
-    let i = c.before.before.before.before.loop.i in
-    (omega arith, omega (arith, word_small s.args.keys.now s.requires.1 i (omega arith), half-small s.args.keys.now s.requires.1 i (omega arith)))
+    let i = c.loop-i.i in
+    (omega arith, omega (arith, word_small c.args.keys.now c.requires.1 i (omega arith), half-small c.args.keys.now c.requires.1 i (omega arith)))
 
-add-i : tie.Need-overflow-add-i invariant-loop decreases-loop
+add-i : tie.Need-overflow_add-i-in-loop-i invariant-loop decreases-loop
 add-i c = omega arith
 
-loop-less : tie.Need-loop-smaller invariant-loop decreases-loop
+loop-less : tie.Need-loop-i-smaller invariant-loop decreases-loop
 loop-less c = omega arith
 
-loop-again : tie.Need-loop-preserved invariant-loop decreases-loop
+loop-again : tie.Need-loop-i-preserved invariant-loop decreases-loop
 unfolding key_code
 loop-again c =
-    let p = c.before.before in
-    let t = c.before.before.before.before.before.before.before in
-    loaded-more _ t.loop.invariant t.before.before.before.requires.0 c.before.before.before.before.before.before.loop-test.true refl p.put-load.ensures.0 p.put-load.ensures.1
+    loaded-more _ c.loop-i.invariant c.requires.0 c.loop-i-test.true refl c.put_load-m.ensures.0 c.put_load-m.ensures.1
 
-same_length : tie.Need-same-length invariant-loop decreases-loop
+same_length : tie.Need-shape_of-out invariant-loop decreases-loop
 same_length c = omega arith
 
 returns : tie.Need-returns invariant-loop decreases-loop
-returns c = loaded-all c.before.loop.invariant c.loop-test.false
+returns c = loaded-all c.loop-i.invariant c.loop-i-test.false
 
-pub put-loads-spec : {M : Type 1} → statement M
-put-loads-spec =
+pub put_loads_spec : {M : Type 1} → statement M
+put_loads_spec =
     tie.close
     (tie.spec
     invariant-loop

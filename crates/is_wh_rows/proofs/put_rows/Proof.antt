@@ -6,63 +6,53 @@ use Rattle.is_wh_rows.proofs.Scan.{ascends-drop, turn-less, turn_in, turn_small,
 use Rattle.is_wh_rows.proofs.put_rows.Statement.{statement}
 use Rattle.is_wh_rows.proofs.put_rows.Tie as tie
 
-abbrev invariant-loop : tie.invariant-loop
+abbrev invariant-loop : tie.invariant-loop-i
 invariant-loop words rows₀ i₀ count₀ rows i count = Stored words rows₀ rows i count
 
-abbrev decreases-loop : tie.decreases-loop
+abbrev decreases-loop : tie.decreases-loop-i
 decreases-loop words rows₀ i₀ count₀ rows i count = length words - i
 
-loop-holds : tie.Need-loop-init invariant-loop decreases-loop
+loop-holds : tie.Need-loop-i-init invariant-loop decreases-loop
 loop-holds c = stored-none _ _
 
-run-from-requires : tie.Need-run-from-requires invariant-loop decreases-loop
-run-from-requires c κs = let s = c.before.before.before.before in (c.loop-test.true, ascends-drop _ c.before.loop.i s.requires.0, s.requires.1)
+run-from-requires : tie.Need-run_from-run-requires invariant-loop decreases-loop
+run-from-requires c κs = (c.loop-i-test.true, ascends-drop _ c.loop-i.i c.requires.0, c.requires.1)
 
-mul-put-key-rows : tie.Need-overflow-mul-put-key-rows invariant-loop decreases-loop
+mul-put-key-rows : tie.Need-overflow_mul-count invariant-loop decreases-loop
 mul-put-key-rows c =
-    let r = c.before in
-    let s = r.before.before.before.before.before in
-    omega (arith, turn-room r.before.before.loop.invariant s.requires.0 r.before.loop-test.true r.run-from.ensures s.requires.2)
+    omega (arith, turn-room c.loop-i.invariant c.requires.0 c.loop-i-test.true c.run_from-run.ensures c.requires.2)
 
-mul-put-key-rows-2 : tie.Need-overflow-mul-put-key-rows-2 invariant-loop decreases-loop
+mul-put-key-rows-2 : tie.Need-offset_bounds-words-i invariant-loop decreases-loop
 mul-put-key-rows-2 c = omega arith
 
-shared-slice-read-put-key-rows : tie.Need-shared-slice-read-put-key-rows invariant-loop decreases-loop
+shared-slice-read-put-key-rows : tie.Need-bounds-words-i invariant-loop decreases-loop
 shared-slice-read-put-key-rows c = omega arith
 
-put-key-rows-requires : tie.Need-put-key-rows-requires invariant-loop decreases-loop
+put-key-rows-requires : tie.Need-put_key_rows-added-requires invariant-loop decreases-loop
 put-key-rows-requires c κs =
-    let r = c.before.before in
-    let s = r.before.before.before.before.before in
-    (turn_small s.args.words.now r.before.before.loop.i r.run-from.result.end r.run-from.result.count s.requires.0 r.before.loop-test.true r.run-from.ensures s.requires.1, turn-room r.before.before.loop.invariant s.requires.0 r.before.loop-test.true r.run-from.ensures s.requires.2)
+    (turn_small c.args.words.now c.loop-i.i c.run_from-run.result.end c.run_from-run.result.count c.requires.0 c.loop-i-test.true c.run_from-run.ensures c.requires.1, turn-room c.loop-i.invariant c.requires.0 c.loop-i-test.true c.run_from-run.ensures c.requires.2)
 
-add-count : tie.Need-overflow-add-count invariant-loop decreases-loop
+add-count : tie.Need-overflow_add-count invariant-loop decreases-loop
 add-count c =
-    let r = c.before.before.before.before.before in
-    let s = r.before.before.before.before.before in
-    omega (arith, turn-room r.before.before.loop.invariant s.requires.0 r.before.loop-test.true r.run-from.ensures s.requires.2, c.before.before.put-key-rows.ensures.0)
+    omega (arith, turn-room c.loop-i.invariant c.requires.0 c.loop-i-test.true c.run_from-run.ensures c.requires.2, c.put_key_rows-added.ensures.0)
 
-loop-less : tie.Need-loop-smaller invariant-loop decreases-loop
+loop-less : tie.Need-loop-i-smaller invariant-loop decreases-loop
 loop-less c =
-    let r = c.before.before.before.before.before in
-    let s = r.before.before.before.before.before in
-    omega (arith, turn-less s.args.words.now r.before.before.loop.i r.run-from.result.end r.run-from.result.count s.requires.0 r.before.loop-test.true r.run-from.ensures, turn_in s.args.words.now r.before.before.loop.i r.run-from.result.end r.run-from.result.count s.requires.0 r.before.loop-test.true r.run-from.ensures)
+    omega (arith, turn-less c.args.words.now c.loop-i.i c.run_from-run.result.end c.run_from-run.result.count c.requires.0 c.loop-i-test.true c.run_from-run.ensures, turn_in c.args.words.now c.loop-i.i c.run_from-run.result.end c.run_from-run.result.count c.requires.0 c.loop-i-test.true c.run_from-run.ensures)
 
-loop-again : tie.Need-loop-preserved invariant-loop decreases-loop
+loop-again : tie.Need-loop-i-preserved invariant-loop decreases-loop
 loop-again c =
-    let r = c.before.before.before.before.before in
-    let s = r.before.before.before.before.before in
-    let k = c.before.before.put-key-rows.ensures in
-    stored-turn r.before.before.loop.invariant s.requires.0 r.before.loop-test.true r.run-from.ensures k.1 k.0
+    let k = c.put_key_rows-added.ensures in
+    stored-turn c.loop-i.invariant c.requires.0 c.loop-i-test.true c.run_from-run.ensures k.1 k.0
 
-same_length : tie.Need-same-length invariant-loop decreases-loop
+same_length : tie.Need-shape_of-rows invariant-loop decreases-loop
 same_length c = omega arith
 
 returns : tie.Need-returns invariant-loop decreases-loop
-returns c = stored-all c.before.loop.invariant c.loop-test.false
+returns c = stored-all c.loop-i.invariant c.loop-i-test.false
 
-pub put-rows-spec : {M : Type 1} → statement M
-put-rows-spec =
+pub put_rows_spec : {M : Type 1} → statement M
+put_rows_spec =
     tie.close
     (tie.spec
     invariant-loop

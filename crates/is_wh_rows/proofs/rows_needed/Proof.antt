@@ -3,11 +3,11 @@ use native.Mathlib.Omega.{arith}
 use Rattle.is_wh_rows.proofs.rows_needed.Statement.{statement}
 use Rattle.is_wh_rows.proofs.rows_needed.Tie as tie
 
-add-result : tie.Need-overflow-add-result
+add-result : tie.Need-overflow_add-result
 add-result c = omega arith
 
 returns : tie.Need-returns
 returns c = omega arith
 
-pub rows-needed-spec : {M : Type 1} → statement M
-rows-needed-spec = tie.close (tie.spec add-result returns)
+pub rows_needed_spec : {M : Type 1} → statement M
+rows_needed_spec = tie.close (tie.spec add-result returns)

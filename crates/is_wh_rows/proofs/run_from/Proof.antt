@@ -7,56 +7,56 @@ use lib.ListN.{length}
 use Rattle.is_wh_rows.proofs.run_from.Statement.{statement}
 use Rattle.is_wh_rows.proofs.run_from.Tie as tie
 
-abbrev invariant-loop : tie.invariant-loop
+abbrev invariant-loop : tie.invariant-loop-k
 invariant-loop words from x count₀ k₀ count k = Run words from x k count
 
-abbrev decreases-loop : tie.decreases-loop
+abbrev decreases-loop : tie.decreases-loop-k
 decreases-loop words from x count₀ k₀ count k = length words - k
 
-mul-x : tie.Need-overflow-mul-x invariant-loop decreases-loop
+mul-x : tie.Need-offset_bounds-words-from invariant-loop decreases-loop
 mul-x c = omega arith
 
-shared-slice-read-x : tie.Need-shared-slice-read-x invariant-loop decreases-loop
+shared-slice-read-x : tie.Need-bounds-words-from invariant-loop decreases-loop
 shared-slice-read-x c = omega arith
 
-loop-holds : tie.Need-loop-init invariant-loop decreases-loop
-loop-holds c = run-start _ _ c.before.requires.0 c.before.requires.1
+loop-holds : tie.Need-loop-k-init invariant-loop decreases-loop
+loop-holds c = run-start _ _ c.requires.0 c.requires.1
 
-mul-if1 : tie.Need-overflow-mul-if1 invariant-loop decreases-loop
+mul-if1 : tie.Need-offset_bounds-words-k invariant-loop decreases-loop
 mul-if1 c = omega arith
 
-shared-slice-read-if1 : tie.Need-shared-slice-read-if1 invariant-loop decreases-loop
+shared-slice-read-if1 : tie.Need-bounds-words-k invariant-loop decreases-loop
 shared-slice-read-if1 c = omega arith
 
-returns : tie.Need-returns invariant-loop decreases-loop
-returns c = run-stop c.before.before.before.loop.invariant c.before.before.loop-test.true c.if1.true
+returns : tie.Need-returns-then-words-k invariant-loop decreases-loop
+returns c = run-stop c.loop-k.invariant c.loop-k-test.true c.if-words-k.true
 
-mul-count : tie.Need-overflow-mul-count invariant-loop decreases-loop
+mul-count : tie.Need-offset_bounds-words-k-in-loop-k invariant-loop decreases-loop
 mul-count c = omega arith
 
-shared-slice-read-count : tie.Need-shared-slice-read-count invariant-loop decreases-loop
+shared-slice-read-count : tie.Need-bounds-words-k-in-loop-k invariant-loop decreases-loop
 shared-slice-read-count c = omega arith
 
-add-count : tie.Need-overflow-add-count invariant-loop decreases-loop
+add-count : tie.Need-overflow_add-count invariant-loop decreases-loop
 add-count c = omega arith
 
-add-count-2 : tie.Need-overflow-add-count-2 invariant-loop decreases-loop
-add-count-2 c = omega (arith, run_small c.before.before.before.before.loop.invariant c.before.before.before.loop-test.true c.before.if1.false c.before.before.before.before.before.before.requires.2)
+add-count-2 : tie.Need-overflow_add-count-in-loop-k invariant-loop decreases-loop
+add-count-2 c = omega (arith, run_small c.loop-k.invariant c.loop-k-test.true c.if-words-k.false c.requires.2)
 
-add-k : tie.Need-overflow-add-k invariant-loop decreases-loop
+add-k : tie.Need-overflow_add-k invariant-loop decreases-loop
 add-k c = omega arith
 
-loop-less : tie.Need-loop-smaller invariant-loop decreases-loop
+loop-less : tie.Need-loop-k-smaller invariant-loop decreases-loop
 loop-less c = omega arith
 
-loop-again : tie.Need-loop-preserved invariant-loop decreases-loop
-loop-again c = run_more c.before.before.before.before.loop.invariant c.before.before.before.loop-test.true c.before.if1.false refl
+loop-again : tie.Need-loop-k-preserved invariant-loop decreases-loop
+loop-again c = run_more c.loop-k.invariant c.loop-k-test.true c.if-words-k.false refl
 
-returns-2 : tie.Need-returns-2 invariant-loop decreases-loop
-returns-2 c = run-over c.before.loop.invariant c.loop-test.false
+returns-2 : tie.Need-returns invariant-loop decreases-loop
+returns-2 c = run-over c.loop-k.invariant c.loop-k-test.false
 
-pub run-from-spec : {M : Type 1} → statement M
-run-from-spec =
+pub run_from_spec : {M : Type 1} → statement M
+run_from_spec =
     tie.close
     (tie.spec
     invariant-loop

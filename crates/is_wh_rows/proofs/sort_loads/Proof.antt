@@ -10,42 +10,33 @@ use borrow.Author.Rules.{rules}
 use Rattle.is_wh_rows.proofs.sort_loads.Statement.{statement}
 use Rattle.is_wh_rows.proofs.sort_loads.Tie as tie
 
-put-loads-requires : tie.Need-put-loads-requires
+put-loads-requires : tie.Need-put_loads-m-requires
 put-loads-requires c κs = search rules
 
-slice-relend-prefix-sort : tie.Need-slice-relend-prefix-sort
+slice-relend-prefix-sort : tie.Need-slice_bounds-sort-end
 slice-relend-prefix-sort c =
-    let p = c.before.before in
-    let s = p.before.before.before.before.before in
-    omega (arith, loads-few s.args.keys.now s.args.out.now p.put-loads.new.1.0 p.put-loads.result s.requires.0 p.put-loads.ensures.0 p.put-loads.ensures.1, s.requires.0, p.put-loads.auto.1.0)
+    omega (arith, loads-few c.args.keys.now c.args.out.now c.put_loads-m.new.out c.put_loads-m.result c.requires.0 c.put_loads-m.ensures.0 c.put_loads-m.ensures.1, c.requires.0, c.put_loads-m.auto.out)
 
-slice-aggregate-sort : tie.Need-slice-aggregate-sort
+slice-aggregate-sort : tie.Need-slice_bounds-sort-end-2
 slice-aggregate-sort c =
-    let p = c.before.before.before in
-    let s = p.before.before.before.before.before in
-    front_long s.args.keys.now s.args.out.now p.put-loads.new.1.0 p.put-loads.result s.requires.0 p.put-loads.ensures.0 p.put-loads.ensures.1
+    front_long c.args.keys.now c.args.out.now c.put_loads-m.new.out c.put_loads-m.result c.requires.0 c.put_loads-m.ensures.0 c.put_loads-m.ensures.1
 
 sort-requires : tie.Need-sort-requires
 sort-requires c κs =
-    let p = c.before.before.before.before in
-    let s = p.before.before.before.before.before in
-    omega (arith, front_long s.args.keys.now s.args.out.now p.put-loads.new.1.0 p.put-loads.result s.requires.0 p.put-loads.ensures.0 p.put-loads.ensures.1, loads-few s.args.keys.now s.args.out.now p.put-loads.new.1.0 p.put-loads.result s.requires.0 p.put-loads.ensures.0 p.put-loads.ensures.1, s.requires.1)
+    omega (arith, front_long c.args.keys.now c.args.out.now c.put_loads-m.new.out c.put_loads-m.result c.requires.0 c.put_loads-m.ensures.0 c.put_loads-m.ensures.1, loads-few c.args.keys.now c.args.out.now c.put_loads-m.new.out c.put_loads-m.result c.requires.0 c.put_loads-m.ensures.0 c.put_loads-m.ensures.1, c.requires.1)
 
-same_length : tie.Need-same-length
+same_length : tie.Need-shape_of-out
 same_length c = search rules
 
-same-length-2 : tie.Need-same-length-2
+same-length-2 : tie.Need-shape_of-spare
 same-length-2 c = search rules
 
 returns : tie.Need-returns
 returns c =
-    let q = c.before.before.before.before in
-    let p = q.before.before.before.before.before in
-    let s = p.before.before.before.before.before in
-    (p.put-loads.ensures.0, (loads-sorted s.args.keys.now s.args.out.now p.put-loads.new.1.0 p.put-loads.result s.requires.0 p.put-loads.ensures.0 p.put-loads.ensures.1 q.sort.ensures.0, q.sort.ensures.1 ∙ ap (λ (r : List ℕ). sets s.args.spare.now 0 (sorted r)) (loads-front s.args.keys.now s.args.out.now p.put-loads.new.1.0 p.put-loads.result s.requires.0 p.put-loads.ensures.0 p.put-loads.ensures.1)))
+    (c.put_loads-m.ensures.0, (loads-sorted c.args.keys.now c.args.out.now c.put_loads-m.new.out c.put_loads-m.result c.requires.0 c.put_loads-m.ensures.0 c.put_loads-m.ensures.1 c.sort.ensures.0, c.sort.ensures.1 ∙ ap (λ (r : List ℕ). sets c.args.spare.now 0 (sorted r)) (loads-front c.args.keys.now c.args.out.now c.put_loads-m.new.out c.put_loads-m.result c.requires.0 c.put_loads-m.ensures.0 c.put_loads-m.ensures.1)))
 
-pub sort-loads-spec : {M : Type 1} → statement M
-sort-loads-spec =
+pub sort_loads_spec : {M : Type 1} → statement M
+sort_loads_spec =
     tie.close
     (tie.spec
     put-loads-requires

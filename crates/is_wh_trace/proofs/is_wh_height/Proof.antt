@@ -8,19 +8,19 @@ use Rattle.is_wh_trace.specs.Trace.{height_refusal}
 use Rattle.is_wh_trace.proofs.is_wh_height.Statement.{statement}
 use Rattle.is_wh_trace.proofs.is_wh_height.Tie as tie
 
-add-t5 : tie.Need-overflow-add-t5
+add-t5 : tie.Need-overflow_add-result
 add-t5 c = search rules
 
-returns : tie.Need-returns
+returns : tie.Need-returns-then-n-gt-MAX_KEYS
 unfolding height_refusal
-returns c = number-refused _ (refuse-yes _ _ (le-leb _ _ c.if1.true))
+returns c = number-refused _ (refuse-yes _ _ (le-leb _ _ c.if-n-gt-MAX_KEYS.true))
 
-table-height-requires : tie.Need-table-height-requires
+table-height-requires : tie.Need-table_height-h-requires
 table-height-requires c κs = search rules
 
-returns-2 : tie.Need-returns-2
+returns-2 : tie.Need-returns
 unfolding height_refusal
-returns-2 c = number_is (refuse-no _ (lt-leb _ _ (most-lt c.before.if1.false)) refl) c.table-height.ensures
+returns-2 c = number_is (refuse-no _ (lt-leb _ _ (most-lt c.if-n-gt-MAX_KEYS.false)) refl) c.table_height-h.ensures
 
-pub is-wh-height-spec : {M : Type 1} → statement M
-is-wh-height-spec = tie.close (tie.spec add-t5 returns table-height-requires returns-2)
+pub is_wh_height_spec : {M : Type 1} → statement M
+is_wh_height_spec = tie.close (tie.spec add-t5 returns table-height-requires returns-2)

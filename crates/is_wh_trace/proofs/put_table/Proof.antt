@@ -5,33 +5,30 @@ use borrow.Author.Rules.{rules}
 use Rattle.is_wh_trace.proofs.put_table.Statement.{statement}
 use Rattle.is_wh_trace.proofs.put_table.Tie as tie
 
-put-rows-requires : tie.Need-put-rows-requires
+put-rows-requires : tie.Need-put_rows-requires
 put-rows-requires c κs = search rules
 
-mul-put-zeros : tie.Need-overflow-mul-put-zeros
+mul-put-zeros : tie.Need-overflow_mul-n
 mul-put-zeros c = search rules
 
-sub-put-zeros : tie.Need-overflow-sub-put-zeros
+sub-put-zeros : tie.Need-overflow_sub-h
 sub-put-zeros c = search rules
 
-mul-put-zeros-2 : tie.Need-overflow-mul-put-zeros-2
+mul-put-zeros-2 : tie.Need-overflow_mul-h
 mul-put-zeros-2 c = search rules
 
-put-zeros-requires : tie.Need-put-zeros-requires
+put-zeros-requires : tie.Need-put_zeros-requires
 put-zeros-requires c κs = search rules
 
-same_length : tie.Need-same-length
+same_length : tie.Need-shape_of-table
 same_length c = search rules
 
 returns : tie.Need-returns
 returns c =
-    let pads = c.before.before in
-    let ops = pads.before.before.before.before in
-    let start = ops.before.before.before.before in
-    padded start.args.table.now _ _ start.args.rows.now start.args.n start.args.h (omega arith) ops.put-rows.ensures pads.put-zeros.ensures
+    padded c.args.table.now _ _ c.args.rows.now c.args.n c.args.h (omega arith) c.put_rows.ensures c.put_zeros.ensures
 
-pub put-table-spec : {M : Type 1} → statement M
-put-table-spec =
+pub put_table_spec : {M : Type 1} → statement M
+put_table_spec =
     tie.close
     (tie.spec
     put-rows-requires

@@ -13,35 +13,35 @@ use Rattle.job.proofs.Within.{within-accepted, report-kept, report-written, scra
 use Rattle.job.proofs.job_within.Statement.{statement}
 use Rattle.job.proofs.job_within.Tie as tie
 
-abbrev start : tie.After-enum-told → tie.Start
-start t = t.before.before.before.before.before.before.before.before.before
+abbrev start : tie.In_default → tie.Start
+start t = t.before.before.before.before.before.before.before.before
 
 -- nothing was refused
-none-refused : (t : tie.After-enum-told) →
+none-refused : (t : tie.In_default) →
     job_within_refusal (start t).args.nr (start t).args.core.now (start t).args.round.now (start t).args.counts.now (length (start t).args.report.now) (length (start t).args.scratch.now) (length (start t).args.spare.now) ≡ none
-none-refused t = is-done _ (sym t.enum_told.given.1 ∙ t.before.before.check-job-within.ensures)
+none-refused t = is-done _ (sym t.in_default.is ∙ t.check_job_within.ensures)
 
-known : (t : tie.After-enum-told) →
+known : (t : tie.In_default) →
     AcceptableWithin (start t).args.nr (start t).args.core.now (start t).args.round.now (start t).args.counts.now (length (start t).args.report.now) (length (start t).args.scratch.now) (length (start t).args.spare.now)
 known t = (within-accepted _ _ _ _ _ _ _).0 (none-refused t)
 
 -- both slices have room for so many places
-room : (k : tie.After-place-count) → k.place-count.result ≤ length (start k.before).args.scratch.now
-room k = let h = (known k.before).scratch-long in omega (arith, k.place-count.ensures)
+room : (k : tie.After-place_count-n) → k.place_count-n.result ≤ length (start k.before).args.scratch.now
+room k = let h = (known k.before).scratch-long in omega (arith, k.place_count-n.ensures)
 
-spare-room : (k : tie.After-place-count) → k.place-count.result ≤ length (start k.before).args.spare.now
-spare-room k = let h = (known k.before).spare-long in omega (arith, k.place-count.ensures)
+spare-room : (k : tie.After-place_count-n) → k.place_count-n.result ≤ length (start k.before).args.spare.now
+spare-room k = let h = (known k.before).spare-long in omega (arith, k.place_count-n.ensures)
 
-check-job-within-requires : tie.Need-check-job-within-requires
+check-job-within-requires : tie.Need-check_job_within-requires
 check-job-within-requires c κs = search rules
 
-enum-known-refusal : tie.Need-enum-known-refusal
+enum-known-refusal : tie.Need-enum_known-refusal
 enum-known-refusal c = search rules
 
-returns : tie.Need-returns
+returns : tie.Need-returns-in-Refused
 returns c =
-    let a = c.before.before.before.before.before.before.before.before.before.before.args in
-    let e = is-refused _ (sym c.before.refusal.given.1 ∙ c.before.before.before.check-job-within.ensures) in (
+    let a = c.args in
+    let e = is-refused _ (sym c.in-Refused.is ∙ c.check_job_within.ensures) in (
       answers e,
       (
         report-kept a.nr a.core.now a.round.now a.counts.now _ _ a.report.now e,
@@ -52,65 +52,65 @@ returns c =
       ),
     )
 
-enum_told : tie.Need-enum-told
+enum_told : tie.Need-enum_told-1
 enum_told c = search rules
 
-place-count-requires : tie.Need-place-count-requires
+place-count-requires : tie.Need-place_count-n-requires
 place-count-requires c κs = search rules
 
-slice-relend-prefix-put-report : tie.Need-slice-relend-prefix-put-report
+slice-relend-prefix-put-report : tie.Need-slice_bounds-put_report-end
 slice-relend-prefix-put-report c = room c.before
 
-slice-aggregate-put-report : tie.Need-slice-aggregate-put-report
+slice-aggregate-put-report : tie.Need-slice_bounds-put_report-end-2
 slice-aggregate-put-report c = sym (length-take-le _ _ (room c.before.before))
 
-slice-relend-prefix-put-report-2 : tie.Need-slice-relend-prefix-put-report-2
+slice-relend-prefix-put-report-2 : tie.Need-slice_bounds-put_report-end-3
 slice-relend-prefix-put-report-2 c = spare-room c.before.before
 
-slice-aggregate-put-report-2 : tie.Need-slice-aggregate-put-report-2
+slice-aggregate-put-report-2 : tie.Need-slice_bounds-put_report-end-4
 slice-aggregate-put-report-2 c = sym (length-take-le _ _ (spare-room c.before.before.before))
 
-put-report-requires : tie.Need-put-report-requires
+put-report-requires : tie.Need-put_report-requires
 put-report-requires c κs = let h = (known c.before.before.before.before).job in (h.most, h.tables, h.split, h.long)
 
-put-zeros-requires : tie.Need-put-zeros-requires
+put-zeros-requires : tie.Need-put_zeros-requires
 put-zeros-requires c κs =
     let v = c.before.before.before.before.before.before.before in
-    let h = front-room _ v.put-report.new.1.1.1.1.1.0 _ (room v.before.before.before.before) v.put-report.auto.1.1.1.1.1.0 in
+    let h = front-room _ c.put_report.new.scratch _ (room c.before.before.before.before.before.before.before.before.before.before.before) c.put_report.auto.scratch in
     omega (arith, h)
 
-put-zeros-requires-2 : tie.Need-put-zeros-requires-2
+put-zeros-requires-2 : tie.Need-put_zeros-requires-2
 put-zeros-requires-2 c κs =
     let v = c.before.before.before.before.before.before.before.before.before.before.before in
-    front-room _ v.put-report.new.1.1.1.1.1.1.0 _ (spare-room v.before.before.before.before) v.put-report.auto.1.1.1.1.1.1.0
+    front-room _ c.put_report.new.spare _ (spare-room c.before.before.before.before.before.before.before.before.before.before.before.before.before.before.before) c.put_report.auto.spare
 
-same_length : tie.Need-same-length
+same_length : tie.Need-shape_of-report
 same_length c = search rules
 
-same-length-2 : tie.Need-same-length-2
+same-length-2 : tie.Need-shape_of-scratch
 same-length-2 c = search rules
 
-same-length-3 : tie.Need-same-length-3
+same-length-3 : tie.Need-shape_of-spare
 same-length-3 c = search rules
 
-returns-2 : tie.Need-returns-2
+returns-2 : tie.Need-returns
 returns-2 c =
     let v = c.before.before.before.before.before.before.before.before.before.before.before.before.before.before in
-    let k = v.before.before.before.before in
+    let k = c.before.before.before.before.before.before.before.before.before.before.before.before.before.before.before.before.before.before in
     let e = none-refused k.before in
-    let q = k.place-count.ensures in (
+    let q = c.place_count-n.ensures in (
       accepts e,
       (
-        report-written _ _ _ _ _ _ _ e v.put-report.ensures,
+        report-written _ _ _ _ _ _ _ e c.put_report.ensures,
         (
-          scratch-zeros _ _ _ _ _ _ _ _ v.put-report.new.1.1.1.1.1.0 _ e q (room k) v.put-report.auto.1.1.1.1.1.0 c.before.before.before.before.before.before.put-zeros.ensures,
-          scratch-zeros _ _ _ _ _ _ _ _ v.put-report.new.1.1.1.1.1.1.0 _ e q (spare-room k) v.put-report.auto.1.1.1.1.1.1.0 c.before.before.put-zeros2.ensures,
+          scratch-zeros _ _ _ _ _ _ _ _ c.put_report.new.scratch _ e q (room k) c.put_report.auto.scratch c.put_zeros.ensures,
+          scratch-zeros _ _ _ _ _ _ _ _ c.put_report.new.spare _ e q (spare-room k) c.put_report.auto.spare c.put_zeros-2.ensures,
         ),
       ),
     )
 
-pub job-within-spec : {M : Type 1} → statement M
-job-within-spec =
+pub job_within_spec : {M : Type 1} → statement M
+job_within_spec =
     tie.close
     (tie.spec
     check-job-within-requires

@@ -9,28 +9,28 @@ use Rattle.judge_scan.proofs.Scan.{spot-at, spot-nowhere}
 use Rattle.judge.proofs.from_round_balance.Statement.{statement}
 use Rattle.judge.proofs.from_round_balance.Tie as tie
 
-first-unbalanced-requires : tie.Need-first-unbalanced-requires
+first-unbalanced-requires : tie.Need-first_unbalanced-requires
 first-unbalanced-requires c κs = search rules
 
-enum-known-row : tie.Need-enum-known-row
+enum-known-row : tie.Need-enum_known-row
 enum-known-row c = search rules
 
-returns : tie.Need-returns
+returns : tie.Need-returns-in-At
 unfolding from_round_balance kind_of layout_of
-returns c = sym (answers _ _ _ _ (spot-at _ (sym c.before.row.given.1 ∙ c.before.before.before.first-unbalanced.ensures)))
+returns c = sym (answers _ _ _ _ (spot-at _ (sym c.in-At.is ∙ c.first_unbalanced.ensures)))
 
-enum_told : tie.Need-enum-told
+enum_told : tie.Need-enum_told-1
 enum_told c = search rules
 
-active-rows-requires : tie.Need-active-rows-requires
+active-rows-requires : tie.Need-active_rows-requires
 active-rows-requires c κs = search rules
 
-returns-2 : tie.Need-returns-2
+returns-2 : tie.Need-returns
 unfolding from_round_balance kind_of layout_of
-returns-2 c = ap Holds c.active-rows.ensures ∙ sym (passes _ _ _ (spot-nowhere _ (sym c.before.enum_told.given.1 ∙ c.before.before.before.first-unbalanced.ensures)))
+returns-2 c = ap Holds c.active_rows.ensures ∙ sym (passes _ _ _ (spot-nowhere _ (sym c.in_default.is ∙ c.first_unbalanced.ensures)))
 
-pub from-round-balance-spec : {M : Type 1} → statement M
-from-round-balance-spec =
+pub from_round_balance_spec : {M : Type 1} → statement M
+from_round_balance_spec =
     tie.close
     (tie.spec
     first-unbalanced-requires

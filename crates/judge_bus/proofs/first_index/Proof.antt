@@ -5,19 +5,19 @@ use Rattle.judge_bus.proofs.Bus.{told-index}
 use Rattle.judge_bus.proofs.first_index.Statement.{statement}
 use Rattle.judge_bus.proofs.first_index.Tie as tie
 
-enum_told : tie.Need-enum-told
+enum_told : tie.Need-enum_told-1
 enum_told c = search rules
 
-enum-told-2 : tie.Need-enum-told-2
+enum-told-2 : tie.Need-enum_told-in-Round
 enum-told-2 c = search rules
 
-returns : tie.Need-returns
+returns : tie.Need-returns-in-Core
 unfolding first_index
-returns c = told-index c.enum_told.given.1
+returns c = told-index c.in-Core.is
 
-returns-2 : tie.Need-returns-2
+returns-2 : tie.Need-returns-in-Round
 unfolding first_index
-returns-2 c = told-index c.enum-told2.given.1
+returns-2 c = told-index c.in-Round.is
 
-pub first-index-spec : {M : Type 1} → statement M
-first-index-spec = tie.close (tie.spec enum_told enum-told-2 returns returns-2)
+pub first_index_spec : {M : Type 1} → statement M
+first_index_spec = tie.close (tie.spec enum_told enum-told-2 returns returns-2)

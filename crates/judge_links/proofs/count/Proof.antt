@@ -9,89 +9,84 @@ use Rattle.judge_links.proofs.Counting.{CountedRows, counts_start, sends-fit, re
 use Rattle.judge_links.proofs.count.Statement.{statement}
 use Rattle.judge_links.proofs.count.Tie as tie
 
-abbrev invariant-loop : tie.invariant-loop
+abbrev invariant-loop : tie.invariant-loop-row
 invariant-loop nr words table from x s q send receive rows first₀ second₀ row₀ first second row =
     (row ≤ rows) × CountedRows nr table words (tuple_of s x) from row first × CountedRows nr table words (tuple_of q x) from row second
 
-abbrev decreases-loop : tie.decreases-loop
+abbrev decreases-loop : tie.decreases-loop-row
 decreases-loop nr words table from x s q send receive rows first₀ second₀ row₀ first second row = rows - row
 
-sent-by-requires : tie.Need-sent-by-requires invariant-loop decreases-loop
+sent-by-requires : tie.Need-sent_by-send-requires invariant-loop decreases-loop
 sent-by-requires c κs = tt
 
-received-by-requires : tie.Need-received-by-requires invariant-loop decreases-loop
+received-by-requires : tie.Need-received_by-receive-requires invariant-loop decreases-loop
 received-by-requires c κs = tt
 
-width-of-requires : tie.Need-width-of-requires invariant-loop decreases-loop
+width-of-requires : tie.Need-width_of-requires invariant-loop decreases-loop
 width-of-requires c κs = tt
 
-div-rows : tie.Need-nonzero-div-rows invariant-loop decreases-loop
-div-rows c = let g = wide c.before.before.before.before.before.args.table in omega (arith, c.width_of_lem.ensures)
+div-rows : tie.Need-nonzero_div-rows invariant-loop decreases-loop
+div-rows c = let g = wide c.args.table in omega (arith, c.width_of.ensures)
 
-loop-holds : tie.Need-loop-init invariant-loop decreases-loop
-loop-holds c = (omega (arith, c.before.before.before.before.before.requires.0, rows_as _ _ c.width_of_lem.ensures c.before.before.before.before.before.args.words.now), counts_start _ _ _, counts_start _ _ _)
+loop-holds : tie.Need-loop-row-init invariant-loop decreases-loop
+loop-holds c = (omega (arith, c.requires.0, rows_as _ _ c.width_of.ensures c.args.words.now), counts_start _ _ _, counts_start _ _ _)
 
-of-call-requires : tie.Need-of-call-requires invariant-loop decreases-loop
+of-call-requires : tie.Need-of_call-requires invariant-loop decreases-loop
 of-call-requires c κs =
-    let h = front_fits _ _ c.before.before.before.before.before.before.before.requires.1 in
-    (omega arith, omega (arith, c.loop-test.true, rows_as _ _ c.before.before.width_of_lem.ensures c.before.before.before.before.before.before.before.args.words.now))
+    let h = front_fits _ _ c.requires.1 in
+    (omega arith, omega (arith, c.loop-row-test.true, rows_as _ _ c.width_of.ensures c.args.words.now))
 
-row-at-requires : tie.Need-row-at-requires invariant-loop decreases-loop
-row-at-requires c κs = omega (arith, c.before.before.loop-test.true, rows_as _ _ c.before.before.before.before.width_of_lem.ensures c.before.before.before.before.before.before.before.before.before.args.words.now)
+row-at-requires : tie.Need-row_at-y-requires invariant-loop decreases-loop
+row-at-requires c κs = omega (arith, c.loop-row-test.true, rows_as _ _ c.width_of.ensures c.args.words.now)
 
-add-requires : tie.Need-add-requires invariant-loop decreases-loop
+add-requires : tie.Need-add-first-requires invariant-loop decreases-loop
 add-requires c κs =
-    let w = c.before.before.before.before.before in
-    let y = c.row-at.ensures in
-    let h = w.before.before.before.before.before.requires in
-    let l = rows_as _ _ w.width_of_lem.ensures w.before.before.before.before.before.args.words.now in
-    let n = counts-small _ _ _ _ _ _ _ c.before.before.before.before.loop.invariant.1 (omega (arith, c.before.before.before.loop-test.true)) (omega arith) in
-    (sends-fit _ _ _ _ y _ _ w.before.before.sent-by.ensures, receives-fit _ _ _ _ y _ w.before.received-by.ensures, h.1, n.0, n.1)
+    let y = c.row_at-y.ensures in
+    let h = c.requires in
+    let l = rows_as _ _ c.width_of.ensures c.args.words.now in
+    let n = counts-small _ _ _ _ _ _ _ c.loop-row.invariant.1 (omega (arith, c.loop-row-test.true)) (omega arith) in
+    (sends-fit _ _ _ _ y _ _ c.sent_by-send.ensures, receives-fit _ _ _ _ y _ c.received_by-receive.ensures, h.1, n.0, n.1)
 
-add-requires-2 : tie.Need-add-requires-2 invariant-loop decreases-loop
+add-requires-2 : tie.Need-add-second-requires invariant-loop decreases-loop
 add-requires-2 c κs =
-    let w = c.before.before.before.before.before.before in
-    let y = c.before.row-at.ensures in
-    let h = w.before.before.before.before.before.requires in
-    let l = rows_as _ _ w.width_of_lem.ensures w.before.before.before.before.before.args.words.now in
-    let n = counts-small _ _ _ _ _ _ _ c.before.before.before.before.before.loop.invariant.2 (omega (arith, c.before.before.before.before.loop-test.true)) (omega arith) in
-    (sends-fit _ _ _ _ y _ _ w.before.before.sent-by.ensures, receives-fit _ _ _ _ y _ w.before.received-by.ensures, h.2, n.0, n.1)
+    let y = c.row_at-y.ensures in
+    let h = c.requires in
+    let l = rows_as _ _ c.width_of.ensures c.args.words.now in
+    let n = counts-small _ _ _ _ _ _ _ c.loop-row.invariant.2 (omega (arith, c.loop-row-test.true)) (omega arith) in
+    (sends-fit _ _ _ _ y _ _ c.sent_by-send.ensures, receives-fit _ _ _ _ y _ c.received_by-receive.ensures, h.2, n.0, n.1)
 
-add_row : tie.Need-overflow-add-row invariant-loop decreases-loop
+add_row : tie.Need-overflow_add-row invariant-loop decreases-loop
 add_row c =
-    let w = c.before.before.before.before in
-    let ws = w.before.before.before.before.before.args.words.now in
-    let g = rows-small _ _ w.width_of_lem.ensures ws in let h = rows_as _ _ w.width_of_lem.ensures ws in omega arith
+    let ws = c.args.words.now in
+    let g = rows-small _ _ c.width_of.ensures ws in let h = rows_as _ _ c.width_of.ensures ws in omega arith
 
-loop-less : tie.Need-loop-smaller invariant-loop decreases-loop
+loop-less : tie.Need-loop-row-smaller invariant-loop decreases-loop
 loop-less c = omega arith
 
-loop-again : tie.Need-loop-preserved invariant-loop decreases-loop
+loop-again : tie.Need-loop-row-preserved invariant-loop decreases-loop
 loop-again c =
-    let v = c.before.before.before.loop.invariant in
-    let w = c.before.before.before.before in
-    let b = c.before.of-call.ensures in
-    let s = w.before.before.sent-by.ensures in
-    let r = w.before.received-by.ensures in
-    elim c.if1.branch [
+    let v = c.loop-row.invariant in
+    let b = c.of_call.ensures in
+    let s = c.sent_by-send.ensures in
+    let r = c.received_by-receive.ensures in
+    elim c.if-of_call.branch-raw [
       | inl z ↦ (
         omega arith,
-        row-added _ _ _ _ _ _ b _ _ _ _ v.1 _ z.1.ensures _ _ s r _ z.0.taken z.4 z.2.ensures,
-        row-added _ _ _ _ _ _ b _ _ _ _ v.2 _ z.1.ensures _ _ s r _ z.0.taken z.5 z.3.ensures,
+        row-added _ _ _ _ _ _ b _ _ _ _ v.1 _ z.row_at-y.ensures _ _ s r _ z.if-of_call.true z.first-is z.add-first.ensures,
+        row-added _ _ _ _ _ _ b _ _ _ _ v.2 _ z.row_at-y.ensures _ _ s r _ z.if-of_call.true z.second-is z.add-second.ensures,
       )
       | inr z ↦ (
         omega arith,
-        row-passed _ _ _ _ _ _ b _ _ _ _ v.1 z.0.left z.1,
-        row-passed _ _ _ _ _ _ b _ _ _ _ v.2 z.0.left z.2,
+        row-passed _ _ _ _ _ _ b _ _ _ _ v.1 z.if-of_call.false z.first-is,
+        row-passed _ _ _ _ _ _ b _ _ _ _ v.2 z.if-of_call.false z.second-is,
       )
     ]
 
 returns : tie.Need-returns invariant-loop decreases-loop
 returns c =
-    let v = c.before.loop.invariant in
-    let w = c.before.before in
-    let h = w.before.before.before.before.before.requires in
-    let e = rows_as _ _ w.width_of_lem.ensures w.before.before.before.before.before.args.words.now in
+    let v = c.loop-row.invariant in
+    let h = c.requires in
+    let e = rows_as _ _ c.width_of.ensures c.args.words.now in
     (counted_is _ _ _ _ _ _ _ _ h.0 (omega arith) (omega arith) v.1, counted_is _ _ _ _ _ _ _ _ h.0 (omega arith) (omega arith) v.2)
 
 pub count_spec : {M : Type 1} → statement M

@@ -7,78 +7,78 @@ use Rattle.judge_rows.proofs.Rows.{row_of, told-words, tells-values, tells-marke
 use Rattle.judge_rows.proofs.put_words.Statement.{statement}
 use Rattle.judge_rows.proofs.put_words.Tie as tie
 
-enum_told : tie.Need-enum-told
+enum_told : tie.Need-enum_told-1
 enum_told c = search rules
 
-enum-told-2 : tie.Need-enum-told-2
+enum-told-2 : tie.Need-enum_told-in-Core
 enum-told-2 c = search rules
 
-put-core-values-requires : tie.Need-put-core-values-requires
+put-core-values-requires : tie.Need-put_core_values-requires
 unfolding layout_of
-put-core-values-requires c κs = (row_of c.before.enum-told2.given.1 _ c.before.before.before.before.before.before.before.requires.0, omega (arith, c.before.before.before.before.before.before.before.requires.1))
+put-core-values-requires c κs = (row_of c.in-Core.is _ c.requires.0, omega (arith, c.requires.1))
 
-enum-told-3 : tie.Need-enum-told-3
+enum-told-3 : tie.Need-enum_told-in-Round
 enum-told-3 c = search rules
 
-put-round-values-requires : tie.Need-put-round-values-requires
+put-round-values-requires : tie.Need-put_round_values-requires
 unfolding layout_of
-put-round-values-requires c κs = (row_of c.before.enum-told3.given.1 _ c.before.before.before.before.before.before.before.requires.0, omega (arith, c.before.before.before.before.before.before.before.requires.1))
+put-round-values-requires c κs = (row_of c.in-Round.is _ c.requires.0, omega (arith, c.requires.1))
 
-enum-told-4 : tie.Need-enum-told-4
+enum-told-4 : tie.Need-enum_told-in-Lookups
 enum-told-4 c = search rules
 
-enum-told-5 : tie.Need-enum-told-5
+enum-told-5 : tie.Need-enum_told-in-Core-table
 enum-told-5 c = search rules
 
-put-core-lookups-requires : tie.Need-put-core-lookups-requires
+put-core-lookups-requires : tie.Need-put_core_lookups-requires
 unfolding layout_of
-put-core-lookups-requires c κs = ((row_of c.before.enum-told5.given.1 _ c.before.before.before.before.before.before.before.requires.0).long, omega (arith, c.before.before.before.before.before.before.before.requires.1))
+put-core-lookups-requires c κs = ((row_of c.in-Core-table.is _ c.requires.0).long, omega (arith, c.requires.1))
 
-enum-told-6 : tie.Need-enum-told-6
+enum-told-6 : tie.Need-enum_told-in-Round-table
 enum-told-6 c = search rules
 
-put-round-lookups-requires : tie.Need-put-round-lookups-requires
+put-round-lookups-requires : tie.Need-put_round_lookups-requires
 unfolding layout_of
-put-round-lookups-requires c κs = (row_of c.before.enum-told6.given.1 _ c.before.before.before.before.before.before.before.requires.0, omega (arith, c.before.before.before.before.before.before.before.requires.1))
+put-round-lookups-requires c κs = (row_of c.in-Round-table.is _ c.requires.0, omega (arith, c.requires.1))
 
-same_length : tie.Need-same-length
+same_length : tie.Need-shape_of-out-in-Core
 same_length c = search rules
 
-returns : tie.Need-returns
+returns : tie.Need-returns-in-Core
 unfolding kind_of
 returns c =
-    told-words c.before.before.before.before.enum-told2.given.1 c.before.before.before.before.before.before.enum_told.given.1 _ _ _
-    (λ nr. tells-values (core_kind nr) _ _ _ (omega (arith, c.before.before.before.before.before.before.before.before.before.before.requires.1)) c.before.before.put-core-values.ensures)
+    told-words c.in-Core.is c.in-Values.is _ _ _
+    (λ nr. tells-values (core_kind nr) _ _ _ (omega (arith, c.requires.1)) c.put_core_values.ensures)
 
-same-length-2 : tie.Need-same-length-2
+same-length-2 : tie.Need-shape_of-out-in-Round
 same-length-2 c = search rules
 
-returns-2 : tie.Need-returns-2
+returns-2 : tie.Need-returns-in-Round
 unfolding kind_of
 returns-2 c =
-    told-words c.before.before.before.before.enum-told3.given.1 c.before.before.before.before.before.before.enum_told.given.1 _ _ _
-    (λ nr. tells-values round_kind _ _ _ (omega (arith, c.before.before.before.before.before.before.before.before.before.before.requires.1)) c.before.before.put-round-values.ensures)
+    told-words c.in-Round.is c.in-Values.is _ _ _
+    (λ nr. tells-values round_kind _ _ _ (omega (arith, c.requires.1)) c.put_round_values.ensures)
 
-same-length-3 : tie.Need-same-length-3
+same-length-3 : tie.Need-shape_of-out-in-Core-table
 same-length-3 c = search rules
 
-returns-3 : tie.Need-returns-3
+returns-3 : tie.Need-returns-in-Core-table
 unfolding kind_of
 returns-3 c =
-    told-words c.before.before.before.before.enum-told5.given.1 c.before.before.before.before.before.before.enum-told4.given.1 _ _ _
-    (λ nr. tells-marked (core_kind nr) _ _ _ (c.before.before.put-core-lookups.ensures nr))
+    told-words c.in-Core-table.is c.in-Lookups.is _ _ _
+    (λ nr. tells-marked (core_kind nr) _ _ _ (c.put_core_lookups.ensures nr))
 
-same-length-4 : tie.Need-same-length-4
+same-length-4 : tie.Need-shape_of-out-in-Round-table
 same-length-4 c = search rules
 
-returns-4 : tie.Need-returns-4
+returns-4 : tie.Need-returns-in-Round-table
 unfolding kind_of
 returns-4 c =
-    told-words c.before.before.before.before.enum-told6.given.1 c.before.before.before.before.before.before.enum-told4.given.1 _ _ _
-    (λ nr. tells-marked round_kind _ _ _ c.before.before.put-round-lookups.ensures)
+    told-words c.in-Round-table.is c.in-Lookups.is _ _ _
+    (λ nr. tells-marked round_kind _ _ _ c.put_round_lookups.ensures)
 
-pub put-words-spec : {M : Type 1} → statement M
-put-words-spec =
+pub put_words_spec : {M : Type 1} → statement M
+put_words_spec =
     tie.close
     (tie.spec
     enum_told

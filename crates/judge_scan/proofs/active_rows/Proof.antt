@@ -11,52 +11,52 @@ use Rattle.judge_scan.proofs.Scan.{wide, rows_as, rows-small}
 use Rattle.judge_scan.proofs.active_rows.Statement.{statement}
 use Rattle.judge_scan.proofs.active_rows.Tie as tie
 
-abbrev invariant-loop : tie.invariant-loop
+abbrev invariant-loop : tie.invariant-loop-row
 invariant-loop words table width rows n₀ row₀ n row = (row ≤ rows) × (n ≡ count_below (active (layout_of table) words) row)
 
-abbrev decreases-loop : tie.decreases-loop
+abbrev decreases-loop : tie.decreases-loop-row
 decreases-loop words table width rows n₀ row₀ n row = rows - row
 
-width-of-requires : tie.Need-width-of-requires invariant-loop decreases-loop
+width-of-requires : tie.Need-width_of-width-requires invariant-loop decreases-loop
 width-of-requires c κs = tt
 
-div-rows : tie.Need-nonzero-div-rows invariant-loop decreases-loop
-div-rows c = let g = wide c.before.before.args.table in omega (arith, c.width_of_lem.ensures)
+div-rows : tie.Need-nonzero_div-rows invariant-loop decreases-loop
+div-rows c = let g = wide c.args.table in omega (arith, c.width_of-width.ensures)
 
-loop-holds : tie.Need-loop-init invariant-loop decreases-loop
+loop-holds : tie.Need-loop-row-init invariant-loop decreases-loop
 loop-holds c = (omega arith, sym (count-start _))
 
-is-active-requires : tie.Need-is-active-requires invariant-loop decreases-loop
-is-active-requires c κs = omega (arith, c.loop-test.true, rows_as _ _ c.before.before.width_of_lem.ensures c.before.before.before.before.args.words.now)
+is-active-requires : tie.Need-is_active-requires invariant-loop decreases-loop
+is-active-requires c κs = omega (arith, c.loop-row-test.true, rows_as _ _ c.width_of-width.ensures c.args.words.now)
 
-add-n : tie.Need-overflow-add-n invariant-loop decreases-loop
+add-n : tie.Need-overflow_add-n invariant-loop decreases-loop
 add-n c =
-    let e = c.before.before.before.before.width_of_lem.ensures in
-    let ws = c.before.before.before.before.before.before.args.words.now in
-    let g = rows-small _ _ e ws in let h = rows_as _ _ e ws in omega (arith, counted-le _ c.before.before.before.loop.invariant.1)
+    let e = c.width_of-width.ensures in
+    let ws = c.args.words.now in
+    let g = rows-small _ _ e ws in let h = rows_as _ _ e ws in omega (arith, counted-le _ c.loop-row.invariant.1)
 
-add_row : tie.Need-overflow-add-row invariant-loop decreases-loop
+add_row : tie.Need-overflow_add-row invariant-loop decreases-loop
 add_row c =
-    let e = c.before.before.before.before.width_of_lem.ensures in
-    let ws = c.before.before.before.before.before.before.args.words.now in
+    let e = c.width_of-width.ensures in
+    let ws = c.args.words.now in
     let g = rows-small _ _ e ws in let h = rows_as _ _ e ws in omega arith
 
-loop-less : tie.Need-loop-smaller invariant-loop decreases-loop
+loop-less : tie.Need-loop-row-smaller invariant-loop decreases-loop
 loop-less c = omega arith
 
-loop-again : tie.Need-loop-preserved invariant-loop decreases-loop
+loop-again : tie.Need-loop-row-preserved invariant-loop decreases-loop
 loop-again c =
-    let h = c.before.before.before.loop.invariant.1 in
-    let e = sym c.before.is-active.ensures in
-    (omega arith, ⊎_elim (λ w. counted-more _ w.1 h (e ∙ w.0.taken)) (λ w. counted_skip _ w.1 h (e ∙ w.0.left)) c.if1.branch)
+    let h = c.loop-row.invariant.1 in
+    let e = sym c.is_active.ensures in
+    (omega arith, ⊎_elim (λ w. counted-more _ w.n-is h (e ∙ w.if-is_active.true)) (λ w. counted_skip _ w.n-is h (e ∙ w.if-is_active.false)) c.if-is_active.branch-raw)
 
 returns : tie.Need-returns invariant-loop decreases-loop
 returns c =
-    let e = rows_as _ _ c.before.before.width_of_lem.ensures c.before.before.before.before.args.words.now in
-    c.before.loop.invariant.1 ∙ count-end _ _ _ (omega arith) (omega arith)
+    let e = rows_as _ _ c.width_of-width.ensures c.args.words.now in
+    c.loop-row.invariant.1 ∙ count-end _ _ _ (omega arith) (omega arith)
 
-pub active-rows-spec : {M : Type 1} → statement M
-active-rows-spec =
+pub active_rows_spec : {M : Type 1} → statement M
+active_rows_spec =
     tie.close
     (tie.spec
     invariant-loop

@@ -5,32 +5,32 @@ use Rattle.judge_scan.proofs.Scan.{ends_as, row_as}
 use Rattle.judge_scan.proofs.row_at.Statement.{statement}
 use Rattle.judge_scan.proofs.row_at.Tie as tie
 
-width-of-requires : tie.Need-width-of-requires
+width-of-requires : tie.Need-width_of-width-requires
 width-of-requires c κs = tt
 
-mul-start : tie.Need-overflow-mul-start
-mul-start c = let h = ends_as _ _ c.width_of_lem.ensures c.before.before.args.words.now c.before.before.args.row c.before.before.requires in omega arith
+mul-start : tie.Need-overflow_mul-start
+mul-start c = let h = ends_as _ _ c.width_of-width.ensures c.args.words.now c.args.row c.requires in omega arith
 
-add-end : tie.Need-overflow-add-end
-add-end c = let h = ends_as _ _ c.width_of_lem.ensures c.before.before.args.words.now c.before.before.args.row c.before.before.requires in omega arith
+add-end : tie.Need-overflow_add-end
+add-end c = let h = ends_as _ _ c.width_of-width.ensures c.args.words.now c.args.row c.requires in omega arith
 
-mul-result : tie.Need-overflow-mul-result
-mul-result c = let h = ends_as _ _ c.width_of_lem.ensures c.before.before.args.words.now c.before.before.args.row c.before.before.requires in omega arith
+mul-result : tie.Need-offset_bounds-words-start
+mul-result c = let h = ends_as _ _ c.width_of-width.ensures c.args.words.now c.args.row c.requires in omega arith
 
-sub-result : tie.Need-overflow-sub-result
+sub-result : tie.Need-slice_bounds-result-count
 sub-result c = search rules
 
-part-result-start : tie.Need-slice-bounds-result-start
+part-result-start : tie.Need-slice_bounds-result-start
 part-result-start c = search rules
 
-part-result-end : tie.Need-slice-bounds-result-end
-part-result-end c = ends_as _ _ c.width_of_lem.ensures c.before.before.args.words.now c.before.before.args.row c.before.before.requires
+part-result-end : tie.Need-slice_bounds-result-end
+part-result-end c = ends_as _ _ c.width_of-width.ensures c.args.words.now c.args.row c.requires
 
 returns : tie.Need-returns
-returns c = row_as _ _ c.before.width_of_lem.ensures _ _ c.before.before.before.requires
+returns c = row_as _ _ c.width_of-width.ensures _ _ c.requires
 
-pub row-at-spec : {M : Type 1} → statement M
-row-at-spec =
+pub row_at_spec : {M : Type 1} → statement M
+row_at_spec =
     tie.close
     (tie.spec
     width-of-requires

@@ -4,26 +4,26 @@ use Rattle.judge_scan.proofs.Stamps.{low-apart, by_high}
 use Rattle.judge_scan.proofs.same_stamp.Statement.{statement}
 use Rattle.judge_scan.proofs.same_stamp.Tie as tie
 
-shared-slice-read-if1 : tie.Need-shared-slice-read-if1
+shared-slice-read-if1 : tie.Need-bounds-x-0
 shared-slice-read-if1 c = omega arith
 
-shared-slice-read-if1-2 : tie.Need-shared-slice-read-if1-2
+shared-slice-read-if1-2 : tie.Need-bounds-y-0
 shared-slice-read-if1-2 c = omega arith
 
-returns : tie.Need-returns
-returns c = low-apart _ _ c.if1.true
+returns : tie.Need-returns-then-x-y
+returns c = low-apart _ _ c.if-x-y.true
 
-shared-slice-read-result : tie.Need-shared-slice-read-result
+shared-slice-read-result : tie.Need-bounds-x-1
 shared-slice-read-result c = omega arith
 
-shared-slice-read-result-2 : tie.Need-shared-slice-read-result-2
+shared-slice-read-result-2 : tie.Need-bounds-y-1
 shared-slice-read-result-2 c = omega arith
 
-returns-2 : tie.Need-returns-2
-returns-2 c = by_high _ _ c.before.before.if1.false
+returns-2 : tie.Need-returns
+returns-2 c = by_high _ _ c.if-x-y.false
 
-pub same-stamp-spec : {M : Type 1} → statement M
-same-stamp-spec =
+pub same_stamp_spec : {M : Type 1} → statement M
+same_stamp_spec =
     tie.close
     (tie.spec
     shared-slice-read-if1

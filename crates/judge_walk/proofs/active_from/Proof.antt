@@ -8,42 +8,40 @@ use Rattle.judge_walk.proofs.Turns.{active-out, active-here, active_on}
 use Rattle.judge_walk.proofs.active_from.Statement.{statement}
 use Rattle.judge_walk.proofs.active_from.Tie as tie
 
-abbrev invariant-loop : tie.invariant-loop
+abbrev invariant-loop : tie.invariant-loop-q
 invariant-loop round b rows q₀ q = (q ≤ rows) × (active_to round q (rows - q) ≡ active_from round b)
 
-abbrev decreases-loop : tie.decreases-loop
+abbrev decreases-loop : tie.decreases-loop-q
 decreases-loop round b rows q₀ q = rows - q
 
-loop-holds : tie.Need-loop-init invariant-loop decreases-loop
-loop-holds c = (c.before.requires, refl)
+loop-holds : tie.Need-loop-q-init invariant-loop decreases-loop
+loop-holds c = (c.requires, refl)
 
-is-active-requires : tie.Need-is-active-requires invariant-loop decreases-loop
+is-active-requires : tie.Need-is_active-requires invariant-loop decreases-loop
 unfolding layout_of
-is-active-requires c κs = c.loop-test.true
+is-active-requires c κs = c.loop-q-test.true
 
-returns : tie.Need-returns invariant-loop decreases-loop
+returns : tie.Need-returns-then-is_active invariant-loop decreases-loop
 unfolding layout_of
 returns c =
-    let t = c.before.before in
-    sym (active-here _ _ _ t.loop-test.true (sym c.before.is-active.ensures ∙ c.if1.true)) ∙ t.before.loop.invariant.1
+    sym (active-here _ _ _ c.loop-q-test.true (sym c.is_active.ensures ∙ c.if-is_active.true)) ∙ c.loop-q.invariant.1
 
-add-q : tie.Need-overflow-add-q invariant-loop decreases-loop
+add-q : tie.Need-overflow_add-q invariant-loop decreases-loop
 add-q c = omega arith
 
-loop-less : tie.Need-loop-smaller invariant-loop decreases-loop
+loop-less : tie.Need-loop-q-smaller invariant-loop decreases-loop
 loop-less c = omega arith
 
-loop-again : tie.Need-loop-preserved invariant-loop decreases-loop
+loop-again : tie.Need-loop-q-preserved invariant-loop decreases-loop
 unfolding layout_of
 loop-again c =
-    let t = c.before.before in
-    (omega arith, sym (active_on _ _ _ t.loop-test.true (sym c.before.is-active.ensures ∙ c.if1.false)) ∙ t.before.loop.invariant.1)
+    (omega arith, sym (active_on _ _ _ c.loop-q-test.true (sym c.is_active.ensures ∙ c.if-is_active.false)) ∙ c.loop-q.invariant.1)
 
-returns-2 : tie.Need-returns-2 invariant-loop decreases-loop
-returns-2 c = sym (active-out _ _ _ c.loop-test.false) ∙ c.before.loop.invariant.1
+returns-2 : tie.Need-returns invariant-loop decreases-loop
+returns-2 c = sym (active-out _ _ _ c.loop-q-test.false) ∙ c.loop-q.invariant.1
 
-pub active-from-spec : {M : Type 1} → statement M
-active-from-spec =
+pub active_from_spec : {M : Type 1} → statement M
+active_from_spec =
     tie.close
     (tie.spec
     invariant-loop

@@ -22,20 +22,20 @@ decreases-calls nr core round rows a₀ b₀ a b = rows - a
 calls-holds : tie.Need-calls-init invariant-calls decreases-calls
 calls-holds c = (omega arith, omega arith, walk-begin _ _ _ _)
 
-is-active-requires : tie.Need-is-active-requires invariant-calls decreases-calls
+is-active-requires : tie.Need-is_active-requires invariant-calls decreases-calls
 unfolding layout_of
 is-active-requires c κs = c.calls-test.true
 
 chain-requires : tie.Need-chain-requires invariant-calls decreases-calls
-chain-requires c κs = (c.before.before.calls-test.true, c.before.before.before.calls.invariant.1)
+chain-requires c κs = (c.calls-test.true, c.calls.invariant.1)
 
-enum-known-next : tie.Need-enum-known-next invariant-calls decreases-calls
+enum-known-next : tie.Need-enum_known-next invariant-calls decreases-calls
 enum-known-next c = search rules
 
-enum_told : tie.Need-enum-told invariant-calls decreases-calls
+enum_told : tie.Need-enum_told-1 invariant-calls decreases-calls
 enum_told c = search rules
 
-add_a : tie.Need-overflow-add-a invariant-calls decreases-calls
+add_a : tie.Need-overflow_add-a invariant-calls decreases-calls
 add_a c = omega arith
 
 calls-less : tie.Need-calls-smaller invariant-calls decreases-calls
@@ -44,30 +44,30 @@ calls-less c = omega arith
 calls-again : tie.Need-calls-preserved invariant-calls decreases-calls
 unfolding layout_of
 calls-again c =
-    let h = c.before.before.before.calls.invariant in
-    let l = c.before.before.calls-test.true in
-    let e = sym c.before.is-active.ensures in
+    let h = c.calls.invariant in
+    let l = c.calls-test.true in
+    let e = sym c.is_active.ensures in
     ⊎_elim
-    (λ w. (omega arith, chain-in _ _ _ _ _ (e ∙ w.0.taken) h.1 _ _ _ w.1.ensures w.3.given.1 w.5, sym (walk-on _ _ _ _ _ _ l (e ∙ w.0.taken) _ w.1.ensures _ _ w.3.given.1 w.5) ∙ h.2))
-    (λ w. (omega arith, omega (arith, w.1), sym (walk-off _ _ _ _ _ _ l _ w.1 (e ∙ w.0.left)) ∙ h.2))
-    c.if1.branch
+    (λ w. (omega arith, chain-in _ _ _ _ _ (e ∙ w.if-is_active.true) h.1 _ _ _ w.chain.ensures w.in-At.is w.b-is, sym (walk-on _ _ _ _ _ _ l (e ∙ w.if-is_active.true) _ w.chain.ensures _ _ w.in-At.is w.b-is) ∙ h.2))
+    (λ w. (omega arith, omega (arith, w.b-is), sym (walk-off _ _ _ _ _ _ l _ w.b-is (e ∙ w.if-is_active.false)) ∙ h.2))
+    c.if-is_active.branch-raw
 
-active-from-requires : tie.Need-active-from-requires invariant-calls decreases-calls
-active-from-requires c κs = c.before.calls.invariant.1
+active-from-requires : tie.Need-active_from-requires invariant-calls decreases-calls
+active-from-requires c κs = c.calls.invariant.1
 
 returns : tie.Need-returns invariant-calls decreases-calls
 unfolding layout_of
 returns c =
-    let h = c.before.before.calls.invariant in
+    let h = c.calls.invariant in
     walk-told _ _ _ _ _ _
     (⊎_elim
-    (λ w. sym (walk-out _ _ _ _ _ _ w.left) ∙ h.2)
-    (λ w. sym (walk-stop _ _ _ _ _ _ w.0.taken (sym w.1.ensures ∙ w.2.taken) _ w.3.ensures w.5.given.1) ∙ h.2)
-    c.before.calls-test.branch)
-    c.active-from.ensures
+    (λ w. sym (walk-out _ _ _ _ _ _ w.calls-test.false) ∙ h.2)
+    (λ w. sym (walk-stop _ _ _ _ _ _ w.calls-test.true (sym w.is_active.ensures ∙ w.if-is_active.true) _ w.chain.ensures w.in-Nowhere.is) ∙ h.2)
+    c.calls-test.branch-raw)
+    c.active_from.ensures
 
-pub walk-spec : {M : Type 1} → statement M
-walk-spec =
+pub walk_spec : {M : Type 1} → statement M
+walk_spec =
     tie.close
     (tie.spec
     invariant-calls

@@ -10,40 +10,40 @@ use Rattle.judge_within.proofs.Wanted.{arranged-few, front-is, front_long, front
 use Rattle.judge_within.proofs.first_repeat.Statement.{statement}
 use Rattle.judge_within.proofs.first_repeat.Tie as tie
 
-abbrev start : tie.After-arrange → tie.Start
+abbrev start : tie.After-arrange-m → tie.Start
 start p = p.before.before.before.before.before.before.before
 
-abbrev places : tie.After-arrange → List ℕ
+abbrev places : tie.After-arrange-m → List ℕ
 places p = arranged false (start p).args.nr (start p).args.core.now (start p).args.round.now
 
-fits : (p : tie.After-arrange) → length (places p) ≤ length (start p).args.scratch.now
+fits : (p : tie.After-arrange-m) → length (places p) ≤ length (start p).args.scratch.now
 fits p =
     let a = (start p).args in
     omega (arith, arranged-few false a.nr a.core.now a.round.now, (start p).requires.0)
 
-arrange-requires : tie.Need-arrange-requires
+arrange-requires : tie.Need-arrange-m-requires
 arrange-requires c κs = search rules
 
-slice-reshare-prefix-first-repeated : tie.Need-slice-reshare-prefix-first-repeated
-slice-reshare-prefix-first-repeated c = let p = c.before.before.before.before in front-in (start p).args.scratch.now _ (places p) _ (fits p) p.arrange.ensures.0 p.arrange.ensures.1.0
+slice-reshare-prefix-first-repeated : tie.Need-slice_bounds-first_repeated-end
+slice-reshare-prefix-first-repeated c = let p = c.before.before.before.before in front-in (start p).args.scratch.now _ (places p) _ (fits p) c.arrange-m.ensures.0 c.arrange-m.ensures.1.0
 
-slice-aggregate-first-repeated : tie.Need-slice-aggregate-first-repeated
-slice-aggregate-first-repeated c = let p = c.before.before.before.before.before in front_long (start p).args.scratch.now _ (places p) _ (fits p) p.arrange.ensures.0 p.arrange.ensures.1.0
+slice-aggregate-first-repeated : tie.Need-slice_bounds-first_repeated-end-2
+slice-aggregate-first-repeated c = let p = c.before.before.before.before in front_long (start p).args.scratch.now _ (places p) _ (fits p) c.arrange-m.ensures.0 c.arrange-m.ensures.1.0
 
-first-repeated-requires : tie.Need-first-repeated-requires
-first-repeated-requires c κs = let p = c.before.before.before.before.before in ((start p).args.nr, (start p).args.round.now, front-is (start p).args.scratch.now _ (places p) _ (fits p) p.arrange.ensures.0 p.arrange.ensures.1.0)
+first-repeated-requires : tie.Need-first_repeated-requires
+first-repeated-requires c κs = let p = c.before.before.before.before in ((start p).args.nr, (start p).args.round.now, front-is (start p).args.scratch.now _ (places p) _ (fits p) c.arrange-m.ensures.0 c.arrange-m.ensures.1.0)
 
-same_length : tie.Need-same-length
+same_length : tie.Need-shape_of-scratch
 same_length c = search rules
 
-same-length-2 : tie.Need-same-length-2
+same-length-2 : tie.Need-shape_of-spare
 same-length-2 c = search rules
 
 returns : tie.Need-returns
 returns c = search rules
 
-pub first-repeat-spec : {M : Type 1} → statement M
-first-repeat-spec =
+pub first_repeat_spec : {M : Type 1} → statement M
+first_repeat_spec =
     tie.close
     (tie.spec
     arrange-requires

@@ -16,69 +16,69 @@ use Rattle.judge_within.proofs.Balance.{balance-is}
 use Rattle.judge_within.proofs.from_core_balance.Statement.{statement}
 use Rattle.judge_within.proofs.from_core_balance.Tie as tie
 
-abbrev start : tie.After-arrange → tie.Start
+abbrev start : tie.After-arrange-m → tie.Start
 start p = p.before.before.before.before.before.before.before
 
-abbrev places : tie.After-arrange → List ℕ
+abbrev places : tie.After-arrange-m → List ℕ
 places p = arranged true (start p).args.nr (start p).args.core.now (start p).args.round.now
 
-fits : (p : tie.After-arrange) → length (places p) ≤ length (start p).args.scratch.now
+fits : (p : tie.After-arrange-m) → length (places p) ≤ length (start p).args.scratch.now
 fits p =
     let a = (start p).args in
     omega (arith, arranged-few true a.nr a.core.now a.round.now, (start p).requires.0)
 
-arrange-requires : tie.Need-arrange-requires
+arrange-requires : tie.Need-arrange-m-requires
 arrange-requires c κs = search rules
 
-slice-reshare-prefix-first-unbalanced : tie.Need-slice-reshare-prefix-first-unbalanced
-slice-reshare-prefix-first-unbalanced c = let p = c.before.before.before.before in front-in (start p).args.scratch.now _ (places p) _ (fits p) p.arrange.ensures.0 p.arrange.ensures.1.0
+slice-reshare-prefix-first-unbalanced : tie.Need-slice_bounds-first_unbalanced-end
+slice-reshare-prefix-first-unbalanced c = let p = c.before.before.before.before in front-in (start p).args.scratch.now _ (places p) _ (fits p) c.arrange-m.ensures.0 c.arrange-m.ensures.1.0
 
-slice-aggregate-first-unbalanced : tie.Need-slice-aggregate-first-unbalanced
-slice-aggregate-first-unbalanced c = let p = c.before.before.before.before.before in front_long (start p).args.scratch.now _ (places p) _ (fits p) p.arrange.ensures.0 p.arrange.ensures.1.0
+slice-aggregate-first-unbalanced : tie.Need-slice_bounds-first_unbalanced-end-2
+slice-aggregate-first-unbalanced c = let p = c.before.before.before.before in front_long (start p).args.scratch.now _ (places p) _ (fits p) c.arrange-m.ensures.0 c.arrange-m.ensures.1.0
 
-first-unbalanced-requires : tie.Need-first-unbalanced-requires
-first-unbalanced-requires c κs = let p = c.before.before.before.before.before in front-is (start p).args.scratch.now _ (places p) _ (fits p) p.arrange.ensures.0 p.arrange.ensures.1.0
+first-unbalanced-requires : tie.Need-first_unbalanced-requires
+first-unbalanced-requires c κs = let p = c.before.before.before.before in front-is (start p).args.scratch.now _ (places p) _ (fits p) c.arrange-m.ensures.0 c.arrange-m.ensures.1.0
 
-enum-known-p : tie.Need-enum-known-p
+enum-known-p : tie.Need-enum_known-p
 enum-known-p c = search rules
 
-unbalanced-at-requires : tie.Need-unbalanced-at-requires
+unbalanced-at-requires : tie.Need-unbalanced_at-requires
 unbalanced-at-requires c κs = search rules
 
-same_length : tie.Need-same-length
+same_length : tie.Need-shape_of-scratch-in-At
 same_length c = search rules
 
-same-length-2 : tie.Need-same-length-2
+same-length-2 : tie.Need-shape_of-spare-in-At
 same-length-2 c = search rules
 
-returns : tie.Need-returns
+returns : tie.Need-returns-in-At
 unfolding balance_of
 returns c =
-    let a = c.before.before.before.before.before.before.before.before.before.before.before.before.before.before.before.before.before.args in
-    c.unbalanced-at.ensures
-    ∙ sym (balance-is a.nr a.core.now a.round.now ∙ answers _ _ _ _ (place_at _ (sym c.before.before.p.given.1 ∙ c.before.before.before.before.first-unbalanced.ensures)))
+    let a = c.args in
+    c.unbalanced_at.ensures
+    ∙ sym (balance-is a.nr a.core.now a.round.now ∙ answers _ _ _ _ (place_at _ (sym c.in-At.is ∙ c.first_unbalanced.ensures)))
 
-enum_told : tie.Need-enum-told
+enum_told : tie.Need-enum_told-1
 enum_told c = search rules
 
-active-rows-requires : tie.Need-active-rows-requires
+active-rows-requires : tie.Need-active_rows-requires
 active-rows-requires c κs = search rules
 
-same-length-3 : tie.Need-same-length-3
+same-length-3 : tie.Need-shape_of-scratch
 same-length-3 c = search rules
 
-same-length-4 : tie.Need-same-length-4
+same-length-4 : tie.Need-shape_of-spare
 same-length-4 c = search rules
 
-returns-2 : tie.Need-returns-2
+returns-2 : tie.Need-returns
 unfolding balance_of layout_of
 returns-2 c =
-    let a = c.before.before.before.before.before.before.before.before.before.before.before.before.before.before.before.before.args in
-    ap Holds c.active-rows.ensures
-    ∙ sym (balance-is a.nr a.core.now a.round.now ∙ passes _ _ _ (place-nowhere _ (sym c.before.enum_told.given.1 ∙ c.before.before.before.first-unbalanced.ensures)))
+    let a = c.args in
+    ap Holds c.active_rows.ensures
+    ∙ sym (balance-is a.nr a.core.now a.round.now ∙ passes _ _ _ (place-nowhere _ (sym c.in_default.is ∙ c.first_unbalanced.ensures)))
 
-pub from-core-balance-spec : {M : Type 1} → statement M
-from-core-balance-spec =
+pub from_core_balance_spec : {M : Type 1} → statement M
+from_core_balance_spec =
     tie.close
     (tie.spec
     arrange-requires

@@ -10,75 +10,75 @@ use Rattle.judge_scan.proofs.Scan.{spot-at, spot-nowhere}
 use Rattle.judge_within.proofs.from_core_value.Statement.{statement}
 use Rattle.judge_within.proofs.from_core_value.Tie as tie
 
-first-failure-requires : tie.Need-first-failure-requires
+first-failure-requires : tie.Need-first_failure-requires
 first-failure-requires c κs = search rules
 
-enum-known-row : tie.Need-enum-known-row
+enum-known-row : tie.Need-enum_known-row
 enum-known-row c = search rules
 
-returns : tie.Need-returns
+returns : tie.Need-returns-in-At
 unfolding from_core_value kind_of first_failure
-returns c = sym (answers _ _ _ _ (spot-at _ (sym c.before.row.given.1 ∙ c.before.before.before.first-failure.ensures _)))
+returns c = sym (answers _ _ _ _ (spot-at _ (sym c.in-At.is ∙ c.first_failure.ensures _)))
 
-enum_told : tie.Need-enum-told
+enum_told : tie.Need-enum_told-1
 enum_told c = search rules
 
-first-failure-requires-2 : tie.Need-first-failure-requires-2
+first-failure-requires-2 : tie.Need-first_failure-requires-2
 first-failure-requires-2 c κs = search rules
 
-enum-known-row-2 : tie.Need-enum-known-row-2
+enum-known-row-2 : tie.Need-enum_known-row-in-At-first_failure-2
 enum-known-row-2 c = search rules
 
-returns-2 : tie.Need-returns-2
+returns-2 : tie.Need-returns-in-At-first_failure
 unfolding from_core_value from_core_lookup kind_of first_failure
 returns-2 c =
-    sym (passes _ _ _ (spot-nowhere _ (sym c.before.before.before.before.enum_told.given.1 ∙ c.before.before.before.before.before.before.first-failure.ensures _))
-    ∙ answers _ _ _ _ (spot-at _ (sym c.before.row2.given.1 ∙ c.before.before.before.first-failure2.ensures _)))
+    sym (passes _ _ _ (spot-nowhere _ (sym c.in_default.is ∙ c.first_failure.ensures _))
+    ∙ answers _ _ _ _ (spot-at _ (sym c.in-At-first_failure.is ∙ c.first_failure-2.ensures _)))
 
-enum-told-2 : tie.Need-enum-told-2
+enum-told-2 : tie.Need-enum_told-in_default-first_failure
 enum-told-2 c = search rules
 
-first-repeat-requires : tie.Need-first-repeat-requires
+first-repeat-requires : tie.Need-first_repeat-requires
 first-repeat-requires c κs = search rules
 
-enum-known-row-3 : tie.Need-enum-known-row-3
+enum-known-row-3 : tie.Need-enum_known-row-in-At-first_repeat
 enum-known-row-3 c = search rules
 
-same_length : tie.Need-same-length
+same_length : tie.Need-shape_of-scratch-in-At-first_repeat
 same_length c = search rules
 
-same-length-2 : tie.Need-same-length-2
+same-length-2 : tie.Need-shape_of-spare-in-At-first_repeat
 same-length-2 c = search rules
 
-returns-3 : tie.Need-returns-3
+returns-3 : tie.Need-returns-in-At-first_repeat
 unfolding from_core_value from_core_lookup from_repeat kind_of first_failure
 returns-3 c =
-    sym (passes _ _ _ (spot-nowhere _ (sym c.before.before.before.before.before.before.before.before.before.before.before.before.before.enum_told.given.1 ∙ c.before.before.before.before.before.before.before.before.before.before.before.before.before.before.before.first-failure.ensures _))
-    ∙ passes _ _ _ (spot-nowhere _ (sym c.before.before.before.before.before.before.before.before.before.before.enum-told2.given.1 ∙ c.before.before.before.before.before.before.before.before.before.before.before.before.first-failure2.ensures _))
-    ∙ answers _ _ _ _ (place_at _ (sym c.before.row3.given.1 ∙ c.before.before.before.before.before.before.before.first-repeat.ensures)))
+    sym (passes _ _ _ (spot-nowhere _ (sym c.in_default.is ∙ c.first_failure.ensures _))
+    ∙ passes _ _ _ (spot-nowhere _ (sym c.in_default-first_failure.is ∙ c.first_failure-2.ensures _))
+    ∙ answers _ _ _ _ (place_at _ (sym c.in-At-first_repeat.is ∙ c.first_repeat.ensures)))
 
-enum-told-3 : tie.Need-enum-told-3
+enum-told-3 : tie.Need-enum_told-in_default-first_repeat
 enum-told-3 c = search rules
 
-from-round-value-requires : tie.Need-from-round-value-requires
+from-round-value-requires : tie.Need-from_round_value-requires
 from-round-value-requires c κs = search rules
 
-same-length-3 : tie.Need-same-length-3
+same-length-3 : tie.Need-shape_of-scratch
 same-length-3 c = search rules
 
-same-length-4 : tie.Need-same-length-4
+same-length-4 : tie.Need-shape_of-spare
 same-length-4 c = search rules
 
-returns-4 : tie.Need-returns-4
+returns-4 : tie.Need-returns
 unfolding from_core_value from_core_lookup from_repeat kind_of first_failure
 returns-4 c =
-    c.before.before.before.before.from-round-value.ensures
-    ∙ sym (passes _ _ _ (spot-nowhere _ (sym c.before.before.before.before.before.before.before.before.before.before.before.before.before.before.before.before.before.before.before.enum_told.given.1 ∙ c.before.before.before.before.before.before.before.before.before.before.before.before.before.before.before.before.before.before.before.before.before.first-failure.ensures _))
-    ∙ passes _ _ _ (spot-nowhere _ (sym c.before.before.before.before.before.before.before.before.before.before.before.before.before.before.before.before.enum-told2.given.1 ∙ c.before.before.before.before.before.before.before.before.before.before.before.before.before.before.before.before.before.before.first-failure2.ensures _))
-    ∙ passes _ _ _ (place-nowhere _ (sym c.before.before.before.before.before.before.before.enum-told3.given.1 ∙ c.before.before.before.before.before.before.before.before.before.before.before.before.before.first-repeat.ensures)))
+    c.from_round_value.ensures
+    ∙ sym (passes _ _ _ (spot-nowhere _ (sym c.in_default.is ∙ c.first_failure.ensures _))
+    ∙ passes _ _ _ (spot-nowhere _ (sym c.in_default-first_failure.is ∙ c.first_failure-2.ensures _))
+    ∙ passes _ _ _ (place-nowhere _ (sym c.in_default-first_repeat.is ∙ c.first_repeat.ensures)))
 
-pub from-core-value-spec : {M : Type 1} → statement M
-from-core-value-spec =
+pub from_core_value_spec : {M : Type 1} → statement M
+from_core_value_spec =
     tie.close
     (tie.spec
     first-failure-requires

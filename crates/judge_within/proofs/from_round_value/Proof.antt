@@ -9,52 +9,52 @@ use Rattle.judge_scan.proofs.Scan.{spot-at, spot-nowhere}
 use Rattle.judge_within.proofs.from_round_value.Statement.{statement}
 use Rattle.judge_within.proofs.from_round_value.Tie as tie
 
-first-failure-requires : tie.Need-first-failure-requires
+first-failure-requires : tie.Need-first_failure-requires
 first-failure-requires c κs = search rules
 
-enum-known-row : tie.Need-enum-known-row
+enum-known-row : tie.Need-enum_known-row
 enum-known-row c = search rules
 
-returns : tie.Need-returns
+returns : tie.Need-returns-in-At
 unfolding from_round_value kind_of first_failure
-returns c = sym (answers _ _ _ _ (spot-at _ (sym c.before.row.given.1 ∙ c.before.before.before.first-failure.ensures 24)))
+returns c = sym (answers _ _ _ _ (spot-at _ (sym c.in-At.is ∙ c.first_failure.ensures 24)))
 
-enum_told : tie.Need-enum-told
+enum_told : tie.Need-enum_told-1
 enum_told c = search rules
 
-first-failure-requires-2 : tie.Need-first-failure-requires-2
+first-failure-requires-2 : tie.Need-first_failure-requires-2
 first-failure-requires-2 c κs = search rules
 
-enum-known-row-2 : tie.Need-enum-known-row-2
+enum-known-row-2 : tie.Need-enum_known-row-in-At-first_failure-2
 enum-known-row-2 c = search rules
 
-returns-2 : tie.Need-returns-2
+returns-2 : tie.Need-returns-in-At-first_failure
 unfolding from_round_value from_round_lookup kind_of first_failure
 returns-2 c =
-    sym (passes _ _ _ (spot-nowhere _ (sym c.before.before.before.before.enum_told.given.1 ∙ c.before.before.before.before.before.before.first-failure.ensures 24))
-    ∙ answers _ _ _ _ (spot-at _ (sym c.before.row2.given.1 ∙ c.before.before.before.first-failure2.ensures 24)))
+    sym (passes _ _ _ (spot-nowhere _ (sym c.in_default.is ∙ c.first_failure.ensures 24))
+    ∙ answers _ _ _ _ (spot-at _ (sym c.in-At-first_failure.is ∙ c.first_failure-2.ensures 24)))
 
-enum-told-2 : tie.Need-enum-told-2
+enum-told-2 : tie.Need-enum_told-in_default-first_failure
 enum-told-2 c = search rules
 
-from-core-balance-requires : tie.Need-from-core-balance-requires
+from-core-balance-requires : tie.Need-from_core_balance-requires
 from-core-balance-requires c κs = search rules
 
-same_length : tie.Need-same-length
+same_length : tie.Need-shape_of-scratch
 same_length c = search rules
 
-same-length-2 : tie.Need-same-length-2
+same-length-2 : tie.Need-shape_of-spare
 same-length-2 c = search rules
 
-returns-3 : tie.Need-returns-3
+returns-3 : tie.Need-returns
 unfolding from_round_value from_round_lookup kind_of first_failure
 returns-3 c =
-    c.before.before.before.before.from-core-balance.ensures
-    ∙ sym (passes _ _ _ (spot-nowhere _ (sym c.before.before.before.before.before.before.before.before.before.before.enum_told.given.1 ∙ c.before.before.before.before.before.before.before.before.before.before.before.before.first-failure.ensures 24))
-    ∙ passes _ _ _ (spot-nowhere _ (sym c.before.before.before.before.before.before.before.enum-told2.given.1 ∙ c.before.before.before.before.before.before.before.before.before.first-failure2.ensures 24)))
+    c.from_core_balance.ensures
+    ∙ sym (passes _ _ _ (spot-nowhere _ (sym c.in_default.is ∙ c.first_failure.ensures 24))
+    ∙ passes _ _ _ (spot-nowhere _ (sym c.in_default-first_failure.is ∙ c.first_failure-2.ensures 24)))
 
-pub from-round-value-spec : {M : Type 1} → statement M
-from-round-value-spec =
+pub from_round_value_spec : {M : Type 1} → statement M
+from_round_value_spec =
     tie.close
     (tie.spec
     first-failure-requires

@@ -16,49 +16,44 @@ shifted a r i e = ap (λ (x : ℕ). x / 65536) e ∙ shr-shr a (16 * i) 16 ∙ a
     next : (i : ℕ) → 16 * i + 16 ≡ 16 * (i + 1)
     next i = omega arith
 
-abbrev invariant-loop : tie.invariant-loop
+abbrev invariant-loop : tie.invariant-loop-i
 invariant-loop address counters₀ rest₀ i₀ counters rest i = Hit (pair_place address) counters₀ counters 4 i × (rest ≡ address / 2 ^ (16 * i))
 
-abbrev decreases-loop : tie.decreases-loop
+abbrev decreases-loop : tie.decreases-loop-i
 decreases-loop address counters₀ rest₀ i₀ counters rest i = 4 - i
 
-loop-holds : tie.Need-loop-init invariant-loop decreases-loop
-loop-holds c = (hit-none _ 4 c.before.requires, omega arith)
+loop-holds : tie.Need-loop-i-init invariant-loop decreases-loop
+loop-holds c = (hit-none _ 4 c.requires, omega arith)
 
-mul-charge-word : tie.Need-overflow-mul-charge-word invariant-loop decreases-loop
+mul-charge-word : tie.Need-overflow_mul-pair invariant-loop decreases-loop
 mul-charge-word c = omega arith
 
-add-charge-word : tie.Need-overflow-add-charge-word invariant-loop decreases-loop
+add-charge-word : tie.Need-overflow_add-pair invariant-loop decreases-loop
 add-charge-word c = omega arith
 
-charge-word-requires : tie.Need-charge-word-requires invariant-loop decreases-loop
+charge-word-requires : tie.Need-charge_word-requires invariant-loop decreases-loop
 charge-word-requires c κs =
-    let l = c.before.before in
-    let s = l.before.before in
-    may_add _ (still-elements l.loop.invariant.0.added s.requires.long) (omega arith)
+    may_add _ (still-elements c.loop-i.invariant.0.added c.requires.long) (omega arith)
 
-add-i : tie.Need-overflow-add-i invariant-loop decreases-loop
+add-i : tie.Need-overflow_add-i invariant-loop decreases-loop
 add-i c = omega arith
 
-loop-less : tie.Need-loop-smaller invariant-loop decreases-loop
+loop-less : tie.Need-loop-i-smaller invariant-loop decreases-loop
 loop-less c = omega arith
 
-loop-again : tie.Need-loop-preserved invariant-loop decreases-loop
+loop-again : tie.Need-loop-i-preserved invariant-loop decreases-loop
 loop-again c =
-    let a = c.before.before in
-    let l = a.before.before.before in
-    let s = l.before.before in
-    let e = l.loop.invariant.1 in
-    (hit-more _ l.loop.invariant.0 s.requires.long (omega arith) (omega arith) (a.charge-word.ensures ∙ ap (λ (x : ℕ). charge l.loop.counters (x % 65536 * 10 + 3) 1) e), shifted s.args.address l.loop.rest l.loop.i e)
+    let e = c.loop-i.invariant.1 in
+    (hit-more _ c.loop-i.invariant.0 c.requires.long (omega arith) (omega arith) (c.charge_word.ensures ∙ ap (λ (x : ℕ). charge c.loop-i.counters (x % 65536 * 10 + 3) 1) e), shifted c.args.address c.loop-i.rest c.loop-i.i e)
 
-same_length : tie.Need-same-length invariant-loop decreases-loop
+same_length : tie.Need-shape_of-counters invariant-loop decreases-loop
 same_length c = omega arith
 
 returns : tie.Need-returns invariant-loop decreases-loop
-returns c = hit-all _ c.before.loop.invariant.0 c.before.before.before.requires.long c.loop-test.false
+returns c = hit-all _ c.loop-i.invariant.0 c.requires.long c.loop-i-test.false
 
-pub charge-pairs-spec : {M : Type 1} → statement M
-charge-pairs-spec =
+pub charge_pairs_spec : {M : Type 1} → statement M
+charge_pairs_spec =
     tie.close
     (tie.spec
     invariant-loop

@@ -7,54 +7,49 @@ use Rattle.keccak_counts.proofs.Rows.{Hit, hit-none, hit-more, hit-all, still-el
 use Rattle.keccak_counts.proofs.charge_pointers.Statement.{statement}
 use Rattle.keccak_counts.proofs.charge_pointers.Tie as tie
 
-abbrev invariant-loop : tie.invariant-loop
+abbrev invariant-loop : tie.invariant-loop-i
 invariant-loop address counters₀ i₀ counters i = Hit (pointer_place address) counters₀ counters 25 i
 
-abbrev decreases-loop : tie.decreases-loop
+abbrev decreases-loop : tie.decreases-loop-i
 decreases-loop address counters₀ i₀ counters i = 25 - i
 
-loop-holds : tie.Need-loop-init invariant-loop decreases-loop
-loop-holds c = hit-none _ 25 c.before.requires.0
+loop-holds : tie.Need-loop-i-init invariant-loop decreases-loop
+loop-holds c = hit-none _ 25 c.requires.0
 
-mul_low : tie.Need-overflow-mul-low invariant-loop decreases-loop
+mul_low : tie.Need-overflow_mul-low invariant-loop decreases-loop
 mul_low c = omega arith
 
-add_low : tie.Need-overflow-add-low invariant-loop decreases-loop
+add_low : tie.Need-overflow_add-low invariant-loop decreases-loop
 add_low c = omega arith
 
-mul-charge-word : tie.Need-overflow-mul-charge-word invariant-loop decreases-loop
+mul-charge-word : tie.Need-overflow_mul-low-in-loop-i invariant-loop decreases-loop
 mul-charge-word c = omega arith
 
-add-charge-word : tie.Need-overflow-add-charge-word invariant-loop decreases-loop
+add-charge-word : tie.Need-overflow_add-low-in-loop-i invariant-loop decreases-loop
 add-charge-word c = omega arith
 
-charge-word-requires : tie.Need-charge-word-requires invariant-loop decreases-loop
+charge-word-requires : tie.Need-charge_word-requires invariant-loop decreases-loop
 charge-word-requires c κs =
-    let l = c.before.before in
-    let s = l.before.before in
-    may_add _ (still-elements l.loop.invariant.added s.requires.0.long) (omega arith)
+    may_add _ (still-elements c.loop-i.invariant.added c.requires.0.long) (omega arith)
 
-add-i : tie.Need-overflow-add-i invariant-loop decreases-loop
+add-i : tie.Need-overflow_add-i invariant-loop decreases-loop
 add-i c = omega arith
 
-loop-less : tie.Need-loop-smaller invariant-loop decreases-loop
+loop-less : tie.Need-loop-i-smaller invariant-loop decreases-loop
 loop-less c = omega arith
 
-loop-again : tie.Need-loop-preserved invariant-loop decreases-loop
+loop-again : tie.Need-loop-i-preserved invariant-loop decreases-loop
 loop-again c =
-    let a = c.before.before in
-    let l = a.before.before.before in
-    let s = l.before.before in
-    hit-more _ l.loop.invariant s.requires.0.long (omega arith) (omega arith) a.charge-word.ensures
+    hit-more _ c.loop-i.invariant c.requires.0.long (omega arith) (omega arith) c.charge_word.ensures
 
-same_length : tie.Need-same-length invariant-loop decreases-loop
+same_length : tie.Need-shape_of-counters invariant-loop decreases-loop
 same_length c = omega arith
 
 returns : tie.Need-returns invariant-loop decreases-loop
-returns c = hit-all _ c.before.loop.invariant c.before.before.before.requires.0.long c.loop-test.false
+returns c = hit-all _ c.loop-i.invariant c.requires.0.long c.loop-i-test.false
 
-pub charge-pointers-spec : {M : Type 1} → statement M
-charge-pointers-spec =
+pub charge_pointers_spec : {M : Type 1} → statement M
+charge_pointers_spec =
     tie.close
     (tie.spec
     invariant-loop

@@ -11,66 +11,61 @@ use Rattle.keccak.specs.Tuples.{core_tuple}
 use Rattle.keccak_interactions.proofs.put_tuple.Statement.{statement}
 use Rattle.keccak_interactions.proofs.put_tuple.Tie as tie
 
-add-from : tie.Need-overflow-add-from
+add-from : tie.Need-overflow_add-from
 add-from c =
-    let a = c.before.before.args in
+    let a = c.args in
     omega (arith, tuple-length (core_tuple a.nr a.syscall a.row.now a.index))
 
-mul-row-tuple : tie.Need-overflow-mul-row-tuple
+mul-row-tuple : tie.Need-offset_bounds-out-from
 mul-row-tuple c = search rules
 
-sub-row-tuple : tie.Need-overflow-sub-row-tuple
+sub-row-tuple : tie.Need-slice_bounds-row_tuple-count
 sub-row-tuple c =
-    let a = c.before.before.args in
+    let a = c.args in
     omega (arith, tuple-length (core_tuple a.nr a.syscall a.row.now a.index))
 
-part-row-tuple-start : tie.Need-slice-bounds-row-tuple-start
+part-row-tuple-start : tie.Need-slice_bounds-row_tuple-start
 part-row-tuple-start c =
-    let a = c.before.before.args in
+    let a = c.args in
     omega (arith, tuple-length (core_tuple a.nr a.syscall a.row.now a.index))
 
-part-row-tuple-end : tie.Need-slice-bounds-row-tuple-end
+part-row-tuple-end : tie.Need-slice_bounds-row_tuple-end
 part-row-tuple-end c = search rules
 
-row-tuple-requires : tie.Need-row-tuple-requires
+row-tuple-requires : tie.Need-row_tuple-tuple-requires
 row-tuple-requires c κs =
-    let start = c.before.before.before in
-    let a = start.args in
-    let r = start.requires in
+    let a = c.args in
+    let r = c.requires in
     (r.0, r.1, part_room a.out.now a.at (core_tuple a.nr a.syscall a.row.now a.index) r.2)
 
-put-header-requires : tie.Need-put-header-requires
+put-header-requires : tie.Need-put_header-requires
 put-header-requires c κs =
-    let start = c.before.before.before.before.before.before.before in
-    let a = start.args in
+    let a = c.args in
     let t = core_tuple a.nr a.syscall a.row.now a.index in
-    let back = part-back a.out.now a.at t start.requires.2 _ c.before.before.before.row-tuple.ensures.1 in
+    let back = part-back a.out.now a.at t c.requires.2 _ c.row_tuple-tuple.ensures.1 in
     omega (arith, tuple-length t, ap length back, length-sets a.out.now (a.at + 4) t.values)
 
-add-result : tie.Need-overflow-add-result
+add-result : tie.Need-overflow_add-result
 add-result c =
-    let start = c.before.before.before.before.before.before.before.before.before.before.before in
-    let a = start.args in
+    let a = c.args in
     let t = core_tuple a.nr a.syscall a.row.now a.index in
-    omega (arith, tuple-length t, start.requires.2, ap (λ (b : BusInteraction). b.length) c.before.before.before.before.before.before.before.row-tuple.ensures.0)
+    omega (arith, tuple-length t, c.requires.2, ap (λ (b : BusInteraction). b.length) c.row_tuple-tuple.ensures.0)
 
-same_length : tie.Need-same-length
+same_length : tie.Need-shape_of-out
 same_length c = search rules
 
 returns : tie.Need-returns
 returns c =
-    let given = c.before.before.before.before.before.before.before in
-    let start = given.before.before.before.before in
-    let a = start.args in
+    let a = c.args in
     let t = core_tuple a.nr a.syscall a.row.now a.index in
-    let r = given.row-tuple in (
+    let r = c.row_tuple-tuple in (
       omega (arith, tuple-length t, ap (λ (b : BusInteraction). b.length) r.ensures.0),
-      c.before.before.before.put-header.ensures
-          ∙ header-after a.out.now a.at t start.requires.2 _ r.result r.ensures.0 (part-back a.out.now a.at t start.requires.2 _ r.ensures.1),
+      c.put_header.ensures
+          ∙ header-after a.out.now a.at t c.requires.2 _ r.result r.ensures.0 (part-back a.out.now a.at t c.requires.2 _ r.ensures.1),
     )
 
-pub put-tuple-spec : {M : Type 1} → statement M
-put-tuple-spec =
+pub put_tuple_spec : {M : Type 1} → statement M
+put_tuple_spec =
     tie.close
     (tie.spec
     add-from

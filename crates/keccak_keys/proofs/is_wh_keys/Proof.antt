@@ -15,59 +15,59 @@ use Rattle.keccak_keys.proofs.is_wh_keys.Statement.{statement}
 use Rattle.keccak_keys.proofs.is_wh_keys.Tie as tie
 
 -- the arguments, from the place after the checks
-abbrev Ops : tie.After-check-operations → List ℕ
-Ops k = k.before.before.before.before.args.ops.now
+abbrev Ops : tie.After-check_operations → List ℕ
+Ops k = k.args.ops.now
 
-abbrev Out : tie.After-check-operations → List ℕ
-Out k = k.before.before.before.before.args.out.now
+abbrev Out : tie.After-check_operations → List ℕ
+Out k = k.args.out.now
 
 -- what an accepted call knows
-known : (c : tie.After-enum-told) → let k = c.before.before in (operations_refusal (length (Out k)) (op_count (Ops k) * 50) (Ops k) ≡ none) × Passed (length (Out k)) (op_count (Ops k) * 50) (Ops k)
-known c = let k = c.before.before in told-done _ _ _ k.before.if1.false refl k.check-operations.ensures c.enum_told.given.1
+known : (c : tie.In_default) → let k = c.before in (operations_refusal (length (Out k)) (op_count (Ops k) * 50) (Ops k) ≡ none) × Passed (length (Out k)) (op_count (Ops k) * 50) (Ops k)
+known c = let k = c.before in told-done _ _ _ k.if-n-gt-MAX_OPS.false refl k.check_operations.ensures c.in_default.is
 
-add-t9 : tie.Need-overflow-add-t9
+add-t9 : tie.Need-overflow_add-result
 add-t9 c = search rules
 
-returns : tie.Need-returns
+returns : tie.Need-returns-then-n-gt-MAX_OPS
 unfolding keys_refusal
-returns c = refused _ _ (too_many_lem _ _ _ c.if1.true)
+returns c = refused _ _ (too_many_lem _ _ _ c.if-n-gt-MAX_OPS.true)
 
-mul-check-operations : tie.Need-overflow-mul-check-operations
+mul-check-operations : tie.Need-overflow_mul-n
 mul-check-operations c = omega arith
 
-check-operations-requires : tie.Need-check-operations-requires
+check-operations-requires : tie.Need-check_operations-requires
 check-operations-requires c κs = search rules
 
-enum-known-refusal : tie.Need-enum-known-refusal
+enum-known-refusal : tie.Need-enum_known-refusal
 enum-known-refusal c = search rules
 
-returns-2 : tie.Need-returns-2
+returns-2 : tie.Need-returns-in-Refused
 unfolding keys_refusal
-returns-2 c = let k = c.before.before.before in refused _ _ (told-refused _ _ _ k.before.if1.false refl k.check-operations.ensures c.before.refusal.given.1)
+returns-2 c = refused _ _ (told-refused _ _ _ c.if-n-gt-MAX_OPS.false refl c.check_operations.ensures c.in-Refused.is)
 
-enum_told : tie.Need-enum-told
+enum_told : tie.Need-enum_told-1
 enum_told c = search rules
 
-put-op-keys-requires : tie.Need-put-op-keys-requires
+put-op-keys-requires : tie.Need-put_op_keys-requires
 put-op-keys-requires c κs = (omega arith, (known c.before).1.fits, (known c.before).1.low, (known c.before).1.segments)
 
-same_length : tie.Need-same-length
+same_length : tie.Need-shape_of-out
 same_length c = search rules
 
-returns-3 : tie.Need-returns-3
+returns-3 : tie.Need-returns
 unfolding keys_refusal
 returns-3 c =
     let put = c.before.before in
-    let told = put.before.before in
-    let k = told.before.before in
+    let told = c.before.before.before.before in
+    let k = c.before.before.before.before.before in
     let n = op_count (Ops k) in
     done _
     (known told).0
-    (put.put-op-keys.ensures
+    (c.put_op_keys.ensures
     ∙ sets-overwrite (Out k) (key_words n (op_at (Ops k))) (omega (arith, (known told).1.fits, length-keys n (op_at (Ops k)))))
 
-pub is-wh-keys-spec : {M : Type 1} → statement M
-is-wh-keys-spec =
+pub is_wh_keys_spec : {M : Type 1} → statement M
+is_wh_keys_spec =
     tie.close
     (tie.spec
     add-t9

@@ -19,29 +19,29 @@ two : (l : List ℕ) (at pointer : ℕ) (key : IsWhKey) → key ≡ of-dword poi
 two l at pointer key e =
     ap (λ (k : IsWhKey). set (set l at k.word) (at + 1) k.half) e ∙ sets-two l at (key_word (of-dword pointer))
 
-of-dword-requires : tie.Need-of-dword-requires
+of-dword-requires : tie.Need-of_dword-key-requires
 of-dword-requires c κs = search rules
 
-mul-out : tie.Need-overflow-mul-out
+mul-out : tie.Need-offset_bounds-out-at
 mul-out c = omega arith
 
-slice-write-out : tie.Need-slice-write-out
+slice-write-out : tie.Need-bounds-out-at
 slice-write-out c = omega arith
 
-add-out : tie.Need-overflow-add-out
+add-out : tie.Need-overflow_add-out
 add-out c = omega arith
 
-mul-out-2 : tie.Need-overflow-mul-out-2
+mul-out-2 : tie.Need-offset_bounds-out-at-2
 mul-out-2 c = omega arith
 
-slice-write-out-2 : tie.Need-slice-write-out-2
+slice-write-out-2 : tie.Need-bounds-out-at-2
 slice-write-out-2 c = simp length-set (omega arith)
 
-same_length : tie.Need-same-length
+same_length : tie.Need-shape_of-out
 same_length c = simp length-set
 
 returns : tie.Need-returns
-returns c = two c.before.before.args.out.now c.before.before.args.at _ _ c.of-dword.ensures
+returns c = two c.args.out.now c.args.at _ _ c.of_dword-key.ensures
 
-pub put-key-spec : {M : Type 1} → statement M
-put-key-spec = tie.close (tie.spec of-dword-requires mul-out slice-write-out add-out mul-out-2 slice-write-out-2 same_length returns)
+pub put_key_spec : {M : Type 1} → statement M
+put_key_spec = tie.close (tie.spec of-dword-requires mul-out slice-write-out add-out mul-out-2 slice-write-out-2 same_length returns)

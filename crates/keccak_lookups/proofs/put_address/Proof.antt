@@ -7,75 +7,75 @@ use Rattle.keccak.specs.Tuples.{addr_bytes_tuple}
 use Rattle.keccak_lookups.proofs.put_address.Statement.{statement}
 use Rattle.keccak_lookups.proofs.put_address.Tie as tie
 
-abbrev invariant-loop : tie.invariant-loop
+abbrev invariant-loop : tie.invariant-loop-i
 invariant-loop row out₀ i₀ out i = Filled out₀ 55 4 (residues (addr_bytes_tuple row)) out i
 
-abbrev decreases-loop : tie.decreases-loop
+abbrev decreases-loop : tie.decreases-loop-i
 decreases-loop row out₀ i₀ out i = 4 - i
 
-loop-holds : tie.Need-loop-init invariant-loop decreases-loop
+loop-holds : tie.Need-loop-i-init invariant-loop decreases-loop
 loop-holds c = filled_none _ _ _ _
 
-shared-slice-read-bytes-residue : tie.Need-shared-slice-read-bytes-residue invariant-loop decreases-loop
+shared-slice-read-bytes-residue : tie.Need-bounds-row-485 invariant-loop decreases-loop
 shared-slice-read-bytes-residue c = omega arith
 
-mul-bytes-residue : tie.Need-overflow-mul-bytes-residue invariant-loop decreases-loop
+mul-bytes-residue : tie.Need-overflow_mul-i invariant-loop decreases-loop
 mul-bytes-residue c = omega arith
 
-add-bytes-residue : tie.Need-overflow-add-bytes-residue invariant-loop decreases-loop
+add-bytes-residue : tie.Need-overflow_add-i invariant-loop decreases-loop
 add-bytes-residue c = omega arith
 
-mul-bytes-residue-2 : tie.Need-overflow-mul-bytes-residue-2 invariant-loop decreases-loop
+mul-bytes-residue-2 : tie.Need-offset_bounds-row-i invariant-loop decreases-loop
 mul-bytes-residue-2 c = omega arith
 
-shared-slice-read-bytes-residue-2 : tie.Need-shared-slice-read-bytes-residue-2 invariant-loop decreases-loop
+shared-slice-read-bytes-residue-2 : tie.Need-bounds-row-i invariant-loop decreases-loop
 shared-slice-read-bytes-residue-2 c = omega arith
 
-mul-bytes-residue-3 : tie.Need-overflow-mul-bytes-residue-3 invariant-loop decreases-loop
+mul-bytes-residue-3 : tie.Need-overflow_mul-i-in-loop-i invariant-loop decreases-loop
 mul-bytes-residue-3 c = omega arith
 
-add-bytes-residue-2 : tie.Need-overflow-add-bytes-residue-2 invariant-loop decreases-loop
+add-bytes-residue-2 : tie.Need-overflow_add-i-in-loop-i invariant-loop decreases-loop
 add-bytes-residue-2 c = omega arith
 
-add-bytes-residue-3 : tie.Need-overflow-add-bytes-residue-3 invariant-loop decreases-loop
+add-bytes-residue-3 : tie.Need-overflow_add-i-in-loop-i-2 invariant-loop decreases-loop
 add-bytes-residue-3 c = omega arith
 
-mul-bytes-residue-4 : tie.Need-overflow-mul-bytes-residue-4 invariant-loop decreases-loop
+mul-bytes-residue-4 : tie.Need-offset_bounds-row-i-in-loop-i invariant-loop decreases-loop
 mul-bytes-residue-4 c = omega arith
 
-shared-slice-read-bytes-residue-3 : tie.Need-shared-slice-read-bytes-residue-3 invariant-loop decreases-loop
+shared-slice-read-bytes-residue-3 : tie.Need-bounds-row-i-in-loop-i invariant-loop decreases-loop
 shared-slice-read-bytes-residue-3 c = omega arith
 
-bytes-residue-requires : tie.Need-bytes-residue-requires invariant-loop decreases-loop
+bytes-residue-requires : tie.Need-bytes_residue-requires invariant-loop decreases-loop
 bytes-residue-requires c κs = omega arith
 
-add-out : tie.Need-overflow-add-out invariant-loop decreases-loop
+add-out : tie.Need-overflow_add-out invariant-loop decreases-loop
 add-out c = omega arith
 
-mul-out : tie.Need-overflow-mul-out invariant-loop decreases-loop
+mul-out : tie.Need-offset_bounds-out-i invariant-loop decreases-loop
 mul-out c = omega arith
 
-slice-write-out : tie.Need-slice-write-out invariant-loop decreases-loop
+slice-write-out : tie.Need-bounds-out-i invariant-loop decreases-loop
 slice-write-out c = omega arith
 
-add-i : tie.Need-overflow-add-i invariant-loop decreases-loop
+add-i : tie.Need-overflow_add-i-in-loop-i-3 invariant-loop decreases-loop
 add-i c = omega arith
 
-loop-less : tie.Need-loop-smaller invariant-loop decreases-loop
+loop-less : tie.Need-loop-i-smaller invariant-loop decreases-loop
 loop-less c = omega arith
 
-loop-again : tie.Need-loop-preserved invariant-loop decreases-loop
+loop-again : tie.Need-loop-i-preserved invariant-loop decreases-loop
 unfolding residues addr_bytes_tuple
-loop-again c = filled_more _ c.before.before.before.before.before.loop.invariant c.before.before.before.before.loop-test.true c.bytes-residue.ensures
+loop-again c = filled_more _ c.loop-i.invariant c.loop-i-test.true c.bytes_residue.ensures
 
-same_length : tie.Need-same-length invariant-loop decreases-loop
+same_length : tie.Need-shape_of-out invariant-loop decreases-loop
 same_length c = omega arith
 
 returns : tie.Need-returns invariant-loop decreases-loop
-returns c = filled-all c.before.loop.invariant c.loop-test.false
+returns c = filled-all c.loop-i.invariant c.loop-i-test.false
 
-pub put-address-spec : {M : Type 1} → statement M
-put-address-spec =
+pub put_address_spec : {M : Type 1} → statement M
+put_address_spec =
     tie.close
     (tie.spec
     invariant-loop

@@ -9,28 +9,26 @@ use Rattle.keccak_rc.proofs.Found.{rc-length}
 use Rattle.keccak_rc_trace.proofs.generate_row.Statement.{statement}
 use Rattle.keccak_rc_trace.proofs.generate_row.Tie as tie
 
-returns : tie.Need-returns
+returns : tie.Need-returns-then-round-ge-NUM_ROWS
 unfolding rc_row_refusal
-returns c = refused _ _ (refuse-yes _ _ (le-leb _ _ c.if1.true))
+returns c = refused _ _ (refuse-yes _ _ (le-leb _ _ c.if-round-ge-NUM_ROWS.true))
 
-returns-2 : tie.Need-returns-2
+returns-2 : tie.Need-returns-then-out-lt-NUM_PRECOMPUTED_COLS
 unfolding rc_row_refusal
-returns-2 c = refused _ _ (refuse-no _ (lt-leb _ _ c.before.if1.false) (refuse-yes _ _ (lt-ltb _ _ c.if2.true)))
+returns-2 c = refused _ _ (refuse-no _ (lt-leb _ _ c.if-round-ge-NUM_ROWS.false) (refuse-yes _ _ (lt-ltb _ _ c.if-out-lt-NUM_PRECOMPUTED_COLS.true)))
 
-put-row-requires : tie.Need-put-row-requires
+put-row-requires : tie.Need-put_row-requires
 put-row-requires c κs = search rules
 
-same_length : tie.Need-same-length
+same_length : tie.Need-shape_of-out
 same_length c = search rules
 
-returns-3 : tie.Need-returns-3
+returns-3 : tie.Need-returns
 unfolding rc_row_refusal
 returns-3 c =
-    let e = c.before.before.before.before in
-    let start = e.before.before.before in
     done _
-    (refuse-no _ (lt-leb _ _ e.before.if1.false) (refuse-no _ (le-ltb _ _ e.if2.false) refl))
-    (c.before.before.put-row.ensures ∙ sets-overwrite _ _ (omega (arith, rc-length start.args.round, e.if2.false)))
+    (refuse-no _ (lt-leb _ _ c.if-round-ge-NUM_ROWS.false) (refuse-no _ (le-ltb _ _ c.if-out-lt-NUM_PRECOMPUTED_COLS.false) refl))
+    (c.put_row.ensures ∙ sets-overwrite _ _ (omega (arith, rc-length c.args.round, c.if-out-lt-NUM_PRECOMPUTED_COLS.false)))
 
-pub generate-row-spec : {M : Type 1} → statement M
-generate-row-spec = tie.close (tie.spec returns returns-2 put-row-requires same_length returns-3)
+pub generate_row_spec : {M : Type 1} → statement M
+generate_row_spec = tie.close (tie.spec returns returns-2 put-row-requires same_length returns-3)

@@ -13,37 +13,35 @@ use Rattle.keccak_rc.specs.Row.{rc_row}
 use Rattle.keccak_rc_trace.proofs.put_row.Statement.{statement}
 use Rattle.keccak_rc_trace.proofs.put_row.Tie as tie
 
-round-constant-requires : tie.Need-round-constant-requires
+round-constant-requires : tie.Need-round_constant-constant-requires
 round-constant-requires c κs = search rules
 
-mul-row : tie.Need-overflow-mul-row
+mul-row : tie.Need-offset_bounds-row-at
 mul-row c = search rules
 
-slice-write-row : tie.Need-slice-write-row
+slice-write-row : tie.Need-bounds-row-at
 slice-write-row c = search rules
 
-add-put-dword-bl : tie.Need-overflow-add-put-dword-bl
+add-put-dword-bl : tie.Need-overflow_add-at
 add-put-dword-bl c = search rules
 
-put-dword-bl-requires : tie.Need-put-dword-bl-requires
+put-dword-bl-requires : tie.Need-put_dword_bl-requires
 put-dword-bl-requires c κs = simp length-set (omega arith)
 
-same_length : tie.Need-same-length
-same_length c = c.before.before.put-dword-bl.auto.0 ∙ simp length-set
+same_length : tie.Need-shape_of-row
+same_length c = c.put_dword_bl.auto.row ∙ simp length-set
 
 returns : tie.Need-returns
 unfolding rc_row
 returns c =
-    let called = c.before.before in
-    let asked = called.before.before in
-    let a = asked.before.before.args in
+    let a = c.args in
     let first = set a.row.now a.at a.round in
-    called.put-dword-bl.ensures
-    ∙ ap (λ (n : ℕ). sets first (a.at + 1) (tab 8 (byte_at n))) asked.round-constant.ensures
+    c.put_dword_bl.ensures
+    ∙ ap (λ (n : ℕ). sets first (a.at + 1) (tab 8 (byte_at n))) c.round_constant-constant.ensures
     ∙ ap (λ (k : ℕ). sets first k (tab 8 (byte_at (round_constant a.round)))) (add-one a.at)
 
-pub put-row-spec : {M : Type 1} → statement M
-put-row-spec =
+pub put_row_spec : {M : Type 1} → statement M
+put_row_spec =
     tie.close
     (tie.spec
     round-constant-requires

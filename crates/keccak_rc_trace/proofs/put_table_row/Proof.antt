@@ -11,28 +11,28 @@ use Rattle.keccak_rc.proofs.Found.{rc-length}
 use Rattle.keccak_rc_trace.proofs.put_table_row.Statement.{statement}
 use Rattle.keccak_rc_trace.proofs.put_table_row.Tie as tie
 
-put-row-requires : tie.Need-put-row-requires
+put-row-requires : tie.Need-put_row-requires
 put-row-requires c κs = search rules
 
-add-table : tie.Need-overflow-add-table
+add-table : tie.Need-overflow_add-table
 add-table c = search rules
 
-mul-table : tie.Need-overflow-mul-table
+mul-table : tie.Need-offset_bounds-table-at
 mul-table c = search rules
 
-slice-write-table : tie.Need-slice-write-table
+slice-write-table : tie.Need-bounds-table-at
 slice-write-table c = search rules
 
-same_length : tie.Need-same-length
+same_length : tie.Need-shape_of-table
 same_length c = search rules
 
 returns : tie.Need-returns
 returns c =
-    let a = c.before.before.before.before.before.args in
-    ap (λ (t : List ℕ). set t (a.at + 9) 0) c.before.before.put-row.ensures
+    let a = c.args in
+    ap (λ (t : List ℕ). set t (a.at + 9) 0) c.put_row.ensures
     ∙ ap (λ (k : ℕ). set (sets a.table.now a.at (rc_row a.round)) (a.at + k) 0) (sym (rc-length a.round))
     ∙ sets-append a.table.now a.at (rc_row a.round) (0 ∷ [])
 
-pub put-table-row-spec : {M : Type 1} → statement M
-put-table-row-spec =
+pub put_table_row_spec : {M : Type 1} → statement M
+put_table_row_spec =
     tie.close (tie.spec put-row-requires add-table mul-table slice-write-table same_length returns)

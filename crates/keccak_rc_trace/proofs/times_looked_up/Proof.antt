@@ -4,14 +4,14 @@ use Rattle.keccak_rc.proofs.Table.{looked-up-never, looked-up-each}
 use Rattle.keccak_rc_trace.proofs.times_looked_up.Statement.{statement}
 use Rattle.keccak_rc_trace.proofs.times_looked_up.Tie as tie
 
-sub-if1 : tie.Need-overflow-sub-if1
+sub-if1 : tie.Need-overflow_sub-nr
 sub-if1 c = search rules
 
-returns : tie.Need-returns
-returns c = looked-up-never _ _ _ c.if1.true
+returns : tie.Need-returns-then-round-nr
+returns c = looked-up-never _ _ _ c.if-round-nr.true
 
-returns-2 : tie.Need-returns-2
-returns-2 c = looked-up-each _ _ _ c.if1.false
+returns-2 : tie.Need-returns
+returns-2 c = looked-up-each _ _ _ c.if-round-nr.false
 
-pub times-looked-up-spec : {M : Type 1} → statement M
-times-looked-up-spec = tie.close (tie.spec sub-if1 returns returns-2)
+pub times_looked_up_spec : {M : Type 1} → statement M
+times_looked_up_spec = tie.close (tie.spec sub-if1 returns returns-2)

@@ -11,55 +11,54 @@ use Rattle.keccak_rc_trace.proofs.update_multiplicities.Statement.{statement}
 use Rattle.keccak_rc_trace.proofs.update_multiplicities.Tie as tie
 
 -- what the first check says where it passes
-rounds : (c : tie.After-enum-told) → let nr = c.before.before.before.before.args.nr in (1 ≤ nr) × (nr ≤ 24)
-rounds c = (rounds-accepted _).0 (is-done _ (sym c.enum_told.given.1 ∙ c.before.before.check-rounds.ensures))
+rounds : (c : tie.In_default) → let nr = c.args.nr in (1 ≤ nr) × (nr ≤ 24)
+rounds c = (rounds-accepted _).0 (is-done _ (sym c.in_default.is ∙ c.check_rounds.ensures))
 
-check-rounds-requires : tie.Need-check-rounds-requires
+check-rounds-requires : tie.Need-check_rounds-requires
 check-rounds-requires c κs = tt
 
-enum-known-refusal : tie.Need-enum-known-refusal
+enum-known-refusal : tie.Need-enum_known-refusal
 enum-known-refusal c = search rules
 
-returns : tie.Need-returns
+returns : tie.Need-returns-in-Refused
 unfolding update_refusal
 returns c =
-    let checked = c.before.before.before in
-    let nr = checked.before.before.args.nr in
-    refused _ _ (rounds-still nr _ (is-refused (not_rounds nr accepted) (sym c.before.refusal.given.1 ∙ checked.check-rounds.ensures)))
+    let nr = c.args.nr in
+    refused _ _ (rounds-still nr _ (is-refused (not_rounds nr accepted) (sym c.in-Refused.is ∙ c.check_rounds.ensures)))
 
-enum_told : tie.Need-enum-told
+enum_told : tie.Need-enum_told-1
 enum_told c = search rules
 
-add-t7 : tie.Need-overflow-add-t7
+add-t7 : tie.Need-overflow_add-result
 add-t7 c = search rules
 
-returns-2 : tie.Need-returns-2
+returns-2 : tie.Need-returns-then-n-gt-MAX_OPS
 unfolding update_refusal
 returns-2 c =
     let n = rounds c.before in
-    refused _ _ (rounds-later _ _ n.0 n.1 ∙ refuse-yes _ _ (lt-ltb _ _ c.if1.true))
+    refused _ _ (rounds-later _ _ n.0 n.1 ∙ refuse-yes _ _ (lt-ltb _ _ c.if-n-gt-MAX_OPS.true))
 
-returns-3 : tie.Need-returns-3
+returns-3 : tie.Need-returns-then-table-lt-TABLE_WORDS
 unfolding update_refusal
 returns-3 c =
     let n = rounds c.before.before in
-    refused _ _ (rounds-later _ _ n.0 n.1 ∙ refuse-no _ (le-ltb _ _ c.before.if1.false) (refuse-yes _ _ (lt-ltb _ _ c.if2.true)))
+    refused _ _ (rounds-later _ _ n.0 n.1 ∙ refuse-no _ (le-ltb _ _ c.if-n-gt-MAX_OPS.false) (refuse-yes _ _ (lt-ltb _ _ c.if-table-lt-TABLE_WORDS.true)))
 
-put-multiplicities-requires : tie.Need-put-multiplicities-requires
-put-multiplicities-requires c κs = ((rounds c.before.before.before).1, c.before.if2.false)
+put-multiplicities-requires : tie.Need-put_multiplicities-requires
+put-multiplicities-requires c κs = ((rounds c.before.before.before).1, c.if-table-lt-TABLE_WORDS.false)
 
-same_length : tie.Need-same-length
+same_length : tie.Need-shape_of-table
 same_length c = search rules
 
-returns-4 : tie.Need-returns-4
+returns-4 : tie.Need-returns
 unfolding update_refusal
 returns-4 c =
     let e = c.before.before.before.before in
-    let n = rounds e.before.before in
+    let n = rounds c.before.before.before.before.before.before in
     done _
-    (rounds-later _ _ n.0 n.1 ∙ refuse-no _ (le-ltb _ _ e.before.if1.false) (refuse-no _ (le-ltb _ _ e.if2.false) refl))
-    c.before.before.put-multiplicities.ensures
+    (rounds-later _ _ n.0 n.1 ∙ refuse-no _ (le-ltb _ _ c.if-n-gt-MAX_OPS.false) (refuse-no _ (le-ltb _ _ c.if-table-lt-TABLE_WORDS.false) refl))
+    c.put_multiplicities.ensures
 
-pub update-multiplicities-spec : {M : Type 1} → statement M
-update-multiplicities-spec =
+pub update_multiplicities_spec : {M : Type 1} → statement M
+update_multiplicities_spec =
     tie.close (tie.spec check-rounds-requires enum-known-refusal returns enum_told add-t7 returns-2 returns-3 put-multiplicities-requires same_length returns-4)

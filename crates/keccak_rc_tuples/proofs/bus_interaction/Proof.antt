@@ -21,14 +21,14 @@ use Rattle.keccak_rc_tuples.proofs.bus_interaction.Statement.{statement}
 use Rattle.keccak_rc_tuples.proofs.bus_interaction.Tie as tie
 
 -- the arguments, from the place after the checks
-abbrev Row : tie.After-check-tuple → List ℕ
-Row c = c.before.before.before.args.row.now
+abbrev Row : tie.After-check_tuple → List ℕ
+Row c = c.args.row.now
 
-abbrev Out : tie.After-check-tuple → List ℕ
-Out c = c.before.before.before.args.out.now
+abbrev Out : tie.After-check_tuple → List ℕ
+Out c = c.args.out.now
 
-abbrev Index : tie.After-check-tuple → ℕ
-Index c = c.before.before.before.args.index
+abbrev Index : tie.After-check_tuple → ℕ
+Index c = c.args.index
 
 -- nine values
 nine : (row : List ℕ) (i : ℕ) → 9 ≡ length (rc_tuple row i).values
@@ -36,55 +36,55 @@ unfolding rc_tuple
 nine row i = sym (length-tab 9 (word row))
 
 -- what the checks answered
-checked : (c : tie.After-check-tuple) → c.check-tuple.result ≡ answer_of (tuple_refusal 10 1 rc_tuple (Row c) (Index c) (Out c))
+checked : (c : tie.After-check_tuple) → c.check_tuple.result ≡ answer_of (tuple_refusal 10 1 rc_tuple (Row c) (Index c) (Out c))
 unfolding tuple_refusal
-checked c = c.check-tuple.ensures ∙ ap (λ (n : ℕ). answer_of (sized_refusal 10 1 (Row c) (Index c) n (length (Out c)))) (nine (Row c) (Index c))
+checked c = c.check_tuple.ensures ∙ ap (λ (n : ℕ). answer_of (sized_refusal 10 1 (Row c) (Index c) n (length (Out c)))) (nine (Row c) (Index c))
 
-passed : (c : tie.After-enum-told) → tuple_refusal 10 1 rc_tuple (Row c.before.before) (Index c.before.before) (Out c.before.before) ≡ none
-passed c = is-done _ (sym c.enum_told.given.1 ∙ checked c.before.before)
+passed : (c : tie.In_default) → tuple_refusal 10 1 rc_tuple (Row c.before) (Index c.before) (Out c.before) ≡ none
+passed c = is-done _ (sym c.in_default.is ∙ checked c.before)
 
-known : (c : tie.After-enum-told)
-    → Accepted 10 1 (Row c.before.before) (Index c.before.before) (length (rc_tuple (Row c.before.before) (Index c.before.before)).values) (length (Out c.before.before))
+known : (c : tie.In_default)
+    → Accepted 10 1 (Row c.before) (Index c.before) (length (rc_tuple (Row c.before) (Index c.before)).values) (length (Out c.before))
 unfolding tuple_refusal
 known c = accepted _ _ _ _ _ _ (passed c)
 
-check-tuple-requires : tie.Need-check-tuple-requires
+check-tuple-requires : tie.Need-check_tuple-requires
 check-tuple-requires c κs = search rules
 
-enum-known-refusal : tie.Need-enum-known-refusal
+enum-known-refusal : tie.Need-enum_known-refusal
 enum-known-refusal c = search rules
 
-returns : tie.Need-returns
-returns c = tuple-refused _ _ _ (is-refused _ (sym c.before.refusal.given.1 ∙ checked c.before.before.before))
+returns : tie.Need-returns-in-Refused
+returns c = tuple-refused _ _ _ (is-refused _ (sym c.in-Refused.is ∙ checked c.before))
 
-enum_told : tie.Need-enum-told
+enum_told : tie.Need-enum_told-1
 enum_told c = search rules
 
-put-words-requires : tie.Need-put-words-requires
+put-words-requires : tie.Need-put_words-requires
 put-words-requires c κs =
     let k = known c.before in
-    (omega (arith, k.wide), omega (arith, nine (Row c.before.before.before) (Index c.before.before.before), k.fits))
+    (omega (arith, k.wide), omega (arith, nine (Row c.before.before) (Index c.before.before), k.fits))
 
-shared-slice-read-t13 : tie.Need-shared-slice-read-t13
+shared-slice-read-t13 : tie.Need-bounds-row-9
 shared-slice-read-t13 c = let k = known c.before.before.before.before.before in omega (arith, k.wide)
 
-same_length : tie.Need-same-length
+same_length : tie.Need-shape_of-out
 same_length c = search rules
 
-returns-2 : tie.Need-returns-2
+returns-2 : tie.Need-returns
 unfolding rc_tuple
 returns-2 c =
     let written = c.before.before.before in
-    let told = written.before.before in
-    let chosen = told.before.before in
+    let told = c.before.before.before.before.before in
+    let chosen = c.before.before.before.before.before.before in
     let row = Row chosen in
     let given =
     tuple-given (rc_tuple row (Index chosen)) (Out chosen) (passed told)
-    (written.put-words.ensures ∙ sets-overwrite (Out chosen) (tab 9 (word row)) (known told).ranges) in
+    (c.put_words.ensures ∙ sets-overwrite (Out chosen) (tab 9 (word row)) (known told).fits) in
     ((λ i. Is (record { bus = KeccakRc; side = Receiver; length = nine row (Index chosen) i; multiplicity = word row 9 })) ∙ given.0, given.1)
 
-pub bus-interaction-spec : {M : Type 1} → statement M
-bus-interaction-spec =
+pub bus_interaction_spec : {M : Type 1} → statement M
+bus_interaction_spec =
     tie.close
     (tie.spec
     check-tuple-requires

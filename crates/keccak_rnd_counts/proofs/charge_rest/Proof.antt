@@ -14,59 +14,52 @@ use Rattle.keccak_rnd_counts.proofs.charge_rest.Statement.{statement}
 use Rattle.keccak_rnd_counts.proofs.charge_rest.Tie as tie
 
 -- the counters after ρ
-one : (a : tie.After-charge-rho) → ElementRow NUM-COUNTERS a.charge-rho.new.0
-one a = still-elements _ a.before.before.before.requires.0 a.charge-rho.ensures
+one : (a : tie.After-charge_rho) → ElementRow NUM-COUNTERS a.charge_rho.new.counters
+one a = still-elements _ a.requires.0 a.charge_rho.ensures
 
-charge-rho-requires : tie.Need-charge-rho-requires
-charge-rho-requires c κs = c.before.before.requires.0
+charge-rho-requires : tie.Need-charge_rho-requires
+charge-rho-requires c κs = c.requires.0
 
-rho-pi-requires : tie.Need-rho-pi-requires
+rho-pi-requires : tie.Need-rho_pi-u-requires
 rho-pi-requires c κs = search rules
 
-charge-chi-requires : tie.Need-charge-chi-requires
+charge-chi-requires : tie.Need-charge_chi-requires
 charge-chi-requires c κs = one c.before.before.before.before
 
-chi-requires : tie.Need-chi-requires
+chi-requires : tie.Need-chi-v-requires
 chi-requires c κs = search rules
 
-round-constant-requires : tie.Need-round-constant-requires
+round-constant-requires : tie.Need-round_constant-rc-requires
 round-constant-requires c κs = search rules
 
-array-read-charge-lane : tie.Need-array-read-charge-lane
+array-read-charge-lane : tie.Need-bounds-v-0
 array-read-charge-lane c = omega arith
 
-charge-lane-requires : tie.Need-charge-lane-requires
+charge-lane-requires : tie.Need-charge_lane-requires
 charge-lane-requires c κs =
     let b = c.before.before.before.before.before in
-    (still-elements _ (one b.before.before.before.before.before) b.charge-chi.ensures, omega arith)
+    (still-elements _ (one c.before.before.before.before.before.before.before.before.before.before) c.charge_chi.ensures, omega arith)
 
-array-read-v : tie.Need-array-read-v
+array-read-v : tie.Need-bounds-v-0-2
 array-read-v c = omega arith
 
-array-write-v : tie.Need-array-write-v
+array-write-v : tie.Need-bounds-v-0-3
 array-write-v c = omega arith
 
-same_length : tie.Need-same-length
+same_length : tie.Need-shape_of-counters
 same_length c = search rules
 
 returns : tie.Need-returns
 returns c =
-    let d = c.before.before in
-    let rc = d.before.before in
-    let ch = rc.before in
-    let b = ch.before.before.before in
-    let pi = b.before.before in
-    let a = pi.before.before.before in
-    let s = a.before.before.before in
-    let r = s.args.r in
-    let v = ch.chi.result in (
-      rest-charged s.requires.0 r s.args.t a.charge-rho.ensures pi.rho-pi.ensures b.charge-chi.ensures ch.chi.ensures rc.round-constant.ensures d.charge-lane.ensures,
-      iota-set r v _ (search rules) (ap (bit_xor (get_or v 0 0)) (rc.round-constant.ensures ∙ constant-below r s.requires.1))
-          ∙ ap (iota_l r) (ch.chi.ensures ∙ ap chi_l pi.rho-pi.ensures),
+    let r = c.args.r in
+    let v = c.chi-v.result in (
+      rest-charged c.requires.0 r c.args.t c.charge_rho.ensures c.rho_pi-u.ensures c.charge_chi.ensures c.chi-v.ensures c.round_constant-rc.ensures c.charge_lane.ensures,
+      iota-set r v _ (search rules) (ap (bit_xor (get_or v 0 0)) (c.round_constant-rc.ensures ∙ constant-below r c.requires.1))
+          ∙ ap (iota_l r) (c.chi-v.ensures ∙ ap chi_l c.rho_pi-u.ensures),
     )
 
-pub charge-rest-spec : {M : Type 1} → statement M
-charge-rest-spec =
+pub charge_rest_spec : {M : Type 1} → statement M
+charge_rest_spec =
     tie.close
     (tie.spec
     charge-rho-requires

@@ -17,35 +17,31 @@ use Rattle.keccak_rnd_counts.proofs.Round.{row-adds}
 use Rattle.keccak_rnd_counts.proofs.charge_round.Statement.{statement}
 use Rattle.keccak_rnd_counts.proofs.charge_round.Tie as tie
 
-charge-front-requires : tie.Need-charge-front-requires
-charge-front-requires c κs = c.before.before.requires.0
+charge-front-requires : tie.Need-charge_front-t-requires
+charge-front-requires c κs = c.requires.0
 
-charge-rest-requires : tie.Need-charge-rest-requires
+charge-rest-requires : tie.Need-charge_rest-requires
 charge-rest-requires c κs =
-    let a = c.before.before.before in
-    (still-elements _ a.before.before.before.requires.0 a.charge-front.ensures.0, a.before.before.before.requires.1)
+    (still-elements _ c.requires.0 c.charge_front-t.ensures.0, c.requires.1)
 
-same_length : tie.Need-same-length
+same_length : tie.Need-shape_of-counters
 same_length c = search rules
 
 returns : tie.Need-returns
 unfolding rnd_l
 returns c =
-    let b = c.before.before in
-    let a = b.before.before.before.before in
-    let s = a.before.before.before in
-    let l = s.args.start in
-    let r = s.args.r in
+    let l = c.args.start in
+    let r = c.args.r in
     let fits : (i : ℕ) → Fits w64 (get_or l i 0) = λ i. search rules in (
       (λ stamp.
-          same-charged (both (front_adds l) (rest_adds r (theta_l l))) (charged_row 1031 (round_tuple (round_row stamp r l))) s.requires.0 (row-adds stamp r l (λ i h. (fits i).fits))
-          (both-charged (front_adds l) (rest_adds r (theta_l l)) s.requires.0 a.charge-front.ensures.0
-          (b.charge-rest.ensures.0 ∙ ap (λ (t : List ℕ). charged_counters a.charge-front.new.0 (rest_adds r t)) a.charge-front.ensures.1))),
-      b.charge-rest.ensures.1 ∙ ap (λ (t : List ℕ). iota_l r (chi_l (rho_pi_l t))) a.charge-front.ensures.1,
+          same-charged (both (front_adds l) (rest_adds r (theta_l l))) (charged_row 1031 (round_tuple (round_row stamp r l))) c.requires.0 (row-adds stamp r l (λ i h. (fits i).fits))
+          (both-charged (front_adds l) (rest_adds r (theta_l l)) c.requires.0 c.charge_front-t.ensures.0
+          (c.charge_rest.ensures.0 ∙ ap (λ (t : List ℕ). charged_counters c.charge_front-t.new.counters (rest_adds r t)) c.charge_front-t.ensures.1))),
+      c.charge_rest.ensures.1 ∙ ap (λ (t : List ℕ). iota_l r (chi_l (rho_pi_l t))) c.charge_front-t.ensures.1,
     )
 
-pub charge-round-spec : {M : Type 1} → statement M
-charge-round-spec =
+pub charge_round_spec : {M : Type 1} → statement M
+charge_round_spec =
     tie.close
     (tie.spec
     charge-front-requires

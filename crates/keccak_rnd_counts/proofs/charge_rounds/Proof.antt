@@ -18,56 +18,52 @@ use Rattle.keccak_rnd_counts.proofs.charge_rounds.Tie as tie
 abbrev row_adds : ℕ → (ℕ → ℕ) → List ℕ → ℕ → ℕ → ℕ
 row_adds nr stamp s j = charged_row 1031 (round_tuple (round_row stamp (24 - nr + j) (rounds_l (24 - nr) j s)))
 
-abbrev invariant-loop : tie.invariant-loop
+abbrev invariant-loop : tie.invariant-loop-j
 invariant-loop counters₀ nr lanes₀ j₀ counters lanes j =
     (lanes ≡ rounds_l (24 - nr) j lanes₀) × ((stamp : ℕ → ℕ) → Parts nr (row_adds nr stamp lanes₀) counters₀ counters j)
 
-abbrev decreases-loop : tie.decreases-loop
+abbrev decreases-loop : tie.decreases-loop-j
 decreases-loop counters₀ nr lanes₀ j₀ counters lanes j = nr - j
 
-loop-holds : tie.Need-loop-init invariant-loop decreases-loop
+loop-holds : tie.Need-loop-j-init invariant-loop decreases-loop
 unfolding rounds_l
-loop-holds c = (refl, λ stamp. parts_none c.before.requires.0)
+loop-holds c = (refl, λ stamp. parts_none c.requires.0)
 
-sub-r : tie.Need-overflow-sub-r invariant-loop decreases-loop
+sub-r : tie.Need-overflow_sub-r invariant-loop decreases-loop
 sub-r c = omega arith
 
-add_r : tie.Need-overflow-add-r invariant-loop decreases-loop
+add_r : tie.Need-overflow_add-r invariant-loop decreases-loop
 add_r c = omega arith
 
-charge-round-requires : tie.Need-charge-round-requires invariant-loop decreases-loop
+charge-round-requires : tie.Need-charge_round-next-requires invariant-loop decreases-loop
 charge-round-requires c κs =
-    let t = c.before in
-    (parts-elements (t.before.loop.invariant.1 (λ k. 0)), omega arith)
+    (parts-elements (c.loop-j.invariant.1 (λ k. 0)), omega arith)
 
-add-j : tie.Need-overflow-add-j invariant-loop decreases-loop
+add-j : tie.Need-overflow_add-j invariant-loop decreases-loop
 add-j c = omega arith
 
-loop-less : tie.Need-loop-smaller invariant-loop decreases-loop
+loop-less : tie.Need-loop-j-smaller invariant-loop decreases-loop
 loop-less c = omega arith
 
-loop-again : tie.Need-loop-preserved invariant-loop decreases-loop
+loop-again : tie.Need-loop-j-preserved invariant-loop decreases-loop
 loop-again c =
-    let q = c.before.before in
-    let t = q.before.before in
-    let l = t.before in
-    let s = l.before.before.args.first in
-    let low = 24 - l.before.before.args.nr in
-    let j = l.loop.j in (
-      q.charge-round.ensures.1 ∙ ap (λ (z : List ℕ). rnd_l z (low + j)) l.loop.invariant.0 ∙ one_more low s j,
-      λ stamp. parts_more (l.loop.invariant.1 stamp) t.loop-test.true
-          (q.charge-round.ensures.0 stamp ∙ ap (λ (z : List ℕ). charged_counters l.loop.counters (charged_row 1031 (round_tuple (round_row stamp (low + j) z)))) l.loop.invariant.0),
+    let s = c.args.first in
+    let low = 24 - c.args.nr in
+    let j = c.loop-j.j in (
+      c.charge_round-next.ensures.1 ∙ ap (λ (z : List ℕ). rnd_l z (low + j)) c.loop-j.invariant.0 ∙ one_more low s j,
+      λ stamp. parts_more (c.loop-j.invariant.1 stamp) c.loop-j-test.true
+          (c.charge_round-next.ensures.0 stamp ∙ ap (λ (z : List ℕ). charged_counters c.loop-j.counters (charged_row 1031 (round_tuple (round_row stamp (low + j) z)))) c.loop-j.invariant.0),
     )
 
-same_length : tie.Need-same-length invariant-loop decreases-loop
-same_length c = omega (arith, (c.before.loop.invariant.1 (λ k. 0)).added.long)
+same_length : tie.Need-shape_of-counters invariant-loop decreases-loop
+same_length c = omega (arith, (c.loop-j.invariant.1 (λ k. 0)).added.long)
 
 returns : tie.Need-returns invariant-loop decreases-loop
 unfolding parts charged
-returns c = λ stamp. parts_all (c.before.loop.invariant.1 stamp) c.loop-test.false
+returns c = λ stamp. parts_all (c.loop-j.invariant.1 stamp) c.loop-j-test.false
 
-pub charge-rounds-spec : {M : Type 1} → statement M
-charge-rounds-spec =
+pub charge_rounds_spec : {M : Type 1} → statement M
+charge_rounds_spec =
     tie.close
     (tie.spec
     invariant-loop

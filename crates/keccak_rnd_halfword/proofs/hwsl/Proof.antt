@@ -9,7 +9,7 @@ use Rattle.bits.proofs.Halves.{split-half, carry-half}
 use Rattle.keccak_rnd_halfword.proofs.hwsl.Statement.{statement}
 use Rattle.keccak_rnd_halfword.proofs.hwsl.Tie as tie
 
-shl_wide : tie.Need-overflow-shl-wide
+shl_wide : tie.Need-overflow_shl-wide
 shl_wide c = search rules
 
 returns : tie.Need-returns
@@ -17,5 +17,5 @@ returns c =
     let e = shl_exact 16 c.args.shift 64 c.requires.0 (omega arith) in
     ((ap (λ (n : ℕ). n % 65536) e, ap (λ (n : ℕ). n / 65536) e), (split-half _ ∙ e, subst (λ (n : ℕ). n / 65536 < 65536) (sym e) (carry-half c.args.half c.args.shift c.requires.0 c.requires.1)))
 
-pub hwsl-spec : {M : Type 1} → statement M
-hwsl-spec = tie.close (tie.spec shl_wide returns)
+pub hwsl_spec : {M : Type 1} → statement M
+hwsl_spec = tie.close (tie.spec shl_wide returns)

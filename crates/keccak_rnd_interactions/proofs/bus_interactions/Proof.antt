@@ -15,41 +15,40 @@ use Rattle.keccak_rnd_interactions.proofs.bus_interactions.Statement.{statement}
 use Rattle.keccak_rnd_interactions.proofs.bus_interactions.Tie as tie
 
 -- what an accepted call knows
-clear : (c : tie.After-enum-told) → values_refusal 1480 8211 c.before.before.before.before.before.args.row.now (length c.before.before.before.before.before.args.out.now) ≡ none
-clear c = is-done _ (sym c.enum_told.given.1 ∙ c.before.before.check-values.ensures)
+clear : (c : tie.In_default) → values_refusal 1480 8211 c.args.row.now (length c.args.out.now) ≡ none
+clear c = is-done _ (sym c.in_default.is ∙ c.check_values.ensures)
 
-known : (c : tie.After-enum-told) → Accepted 1480 8211 c.before.before.before.before.before.args.row.now (length c.before.before.before.before.before.args.out.now)
+known : (c : tie.In_default) → Accepted 1480 8211 c.args.row.now (length c.args.out.now)
 known c = passed _ _ _ _ (clear c)
 
-check-values-requires : tie.Need-check-values-requires
+check-values-requires : tie.Need-check_values-requires
 check-values-requires c κs = search rules
 
-enum-known-refusal : tie.Need-enum-known-refusal
+enum-known-refusal : tie.Need-enum_known-refusal
 enum-known-refusal c = search rules
 
-returns : tie.Need-returns
-returns c = refused _ _ (is-refused _ (sym c.before.refusal.given.1 ∙ c.before.before.before.check-values.ensures))
+returns : tie.Need-returns-in-Refused
+returns c = refused _ _ (is-refused _ (sym c.in-Refused.is ∙ c.check_values.ensures))
 
-enum_told : tie.Need-enum-told
+enum_told : tie.Need-enum_told-1
 enum_told c = search rules
 
-put-tuples-requires : tie.Need-put-tuples-requires
+put-tuples-requires : tie.Need-put_tuples-requires
 put-tuples-requires c κs = let k = known c.before in (record { long = k.wide; below = k.below }, k.fits)
 
-same_length : tie.Need-same-length
+same_length : tie.Need-shape_of-out
 same_length c = search rules
 
-returns-2 : tie.Need-returns-2
+returns-2 : tie.Need-returns
 returns-2 c =
     let put = c.before.before in
-    let told = put.before.before in
-    let start = told.before.before.before.before.before in
+    let told = c.before.before.before.before in
     done _ (clear told)
-    (put.put-tuples.ensures
-    ∙ sets-overwrite start.args.out.now (tuples_words (round_tuple start.args.row.now) 1031) (omega (arith, (known told).ranges, words-length start.args.row.now)))
+    (c.put_tuples.ensures
+    ∙ sets-overwrite c.args.out.now (tuples_words (round_tuple c.args.row.now) 1031) (omega (arith, (known told).fits, words-length c.args.row.now)))
 
-pub bus-interactions-spec : {M : Type 1} → statement M
-bus-interactions-spec =
+pub bus_interactions_spec : {M : Type 1} → statement M
+bus_interactions_spec =
     tie.close
     (tie.spec
     check-values-requires

@@ -9,56 +9,56 @@ use Rattle.tuple.proofs.Words.{Listed, listed-all, listed-lane}
 use Rattle.keccak_rnd_interactions.proofs.put_alu_lanes.Statement.{statement}
 use Rattle.keccak_rnd_interactions.proofs.put_alu_lanes.Tie as tie
 
-abbrev invariant-loop : tie.invariant-loop
+abbrev invariant-loop : tie.invariant-loop-l
 invariant-loop row terms from n out₀ at l₀ out l = Listed out₀ at (λ i. alu_tuple row (8 * from + i)) (8 * n) out (8 * l) (at + 64 * l)
 
-abbrev decreases-loop : tie.decreases-loop
+abbrev decreases-loop : tie.decreases-loop-l
 decreases-loop row terms from n out₀ at l₀ out l = n - l
 
-loop-holds : tie.Need-loop-init invariant-loop decreases-loop
+loop-holds : tie.Need-loop-l-init invariant-loop decreases-loop
 loop-holds c = listed_start _ _ _ _
 
-add-lane-operands : tie.Need-overflow-add-lane-operands invariant-loop decreases-loop
+add-lane-operands : tie.Need-overflow_add-from invariant-loop decreases-loop
 add-lane-operands c = omega arith
 
-lane-operands-requires : tie.Need-lane-operands-requires invariant-loop decreases-loop
+lane-operands-requires : tie.Need-lane_operands-op-requires invariant-loop decreases-loop
 lane-operands-requires c κs = omega arith
 
-operand-lane-requires : tie.Need-operand-lane-requires invariant-loop decreases-loop
-operand-lane-requires c κs = (c.before.before.before.before.before.before.requires.0, c.before.before.before.before.before.before.requires.1, c.lane-operands.ensures.a-within)
+operand-lane-requires : tie.Need-operand_lane-first-requires invariant-loop decreases-loop
+operand-lane-requires c κs = (c.requires.0, c.requires.1, c.lane_operands-op.ensures.a-within)
 
-operand-lane-requires-2 : tie.Need-operand-lane-requires-2 invariant-loop decreases-loop
-operand-lane-requires-2 c κs = (c.before.before.before.before.before.before.before.requires.0, c.before.before.before.before.before.before.before.requires.1, c.before.lane-operands.ensures.b-within)
+operand-lane-requires-2 : tie.Need-operand_lane-second-requires invariant-loop decreases-loop
+operand-lane-requires-2 c κs = (c.requires.0, c.requires.1, c.lane_operands-op.ensures.b-within)
 
-shared-slice-read-put-alu-lane : tie.Need-shared-slice-read-put-alu-lane invariant-loop decreases-loop
+shared-slice-read-put-alu-lane : tie.Need-bounds-row-1479 invariant-loop decreases-loop
 shared-slice-read-put-alu-lane c = omega arith
 
-mul-put-alu-lane : tie.Need-overflow-mul-put-alu-lane invariant-loop decreases-loop
+mul-put-alu-lane : tie.Need-overflow_mul-l invariant-loop decreases-loop
 mul-put-alu-lane c = omega arith
 
-add-put-alu-lane : tie.Need-overflow-add-put-alu-lane invariant-loop decreases-loop
+add-put-alu-lane : tie.Need-overflow_add-at invariant-loop decreases-loop
 add-put-alu-lane c = omega arith
 
-put-alu-lane-requires : tie.Need-put-alu-lane-requires invariant-loop decreases-loop
-put-alu-lane-requires c κs = (eight _ c.before.before.before.operand-lane.ensures, eight _ c.before.before.operand-lane2.ensures, omega (arith, c.before.before.before.before.lane-operands.ensures.c-within), omega arith)
+put-alu-lane-requires : tie.Need-put_alu_lane-requires invariant-loop decreases-loop
+put-alu-lane-requires c κs = (eight _ c.operand_lane-first.ensures, eight _ c.operand_lane-second.ensures, omega (arith, c.lane_operands-op.ensures.c-within), omega arith)
 
-add-l : tie.Need-overflow-add-l invariant-loop decreases-loop
+add-l : tie.Need-overflow_add-l invariant-loop decreases-loop
 add-l c = omega arith
 
-loop-less : tie.Need-loop-smaller invariant-loop decreases-loop
+loop-less : tie.Need-loop-l-smaller invariant-loop decreases-loop
 loop-less c = omega arith
 
-loop-again : tie.Need-loop-preserved invariant-loop decreases-loop
-loop-again c = listed-lane c.before.before.before.before.before.before.before.before.before.loop.invariant 8 4 _ (omega arith) (run_lane _ _ c.before.before.before.before.before.before.before.before.before.loop.l c.before.before.before.before.before.before.before.lane-operands.ensures c.before.before.before.before.before.before.operand-lane.ensures c.before.before.before.before.before.operand-lane2.ensures) (λ k. refl) (omega arith) (omega arith) c.before.before.put-alu-lane.ensures
+loop-again : tie.Need-loop-l-preserved invariant-loop decreases-loop
+loop-again c = listed-lane c.loop-l.invariant 8 4 _ (omega arith) (run_lane _ _ c.loop-l.l c.lane_operands-op.ensures c.operand_lane-first.ensures c.operand_lane-second.ensures) (λ k. refl) (omega arith) (omega arith) c.put_alu_lane.ensures
 
-same_length : tie.Need-same-length invariant-loop decreases-loop
+same_length : tie.Need-shape_of-out invariant-loop decreases-loop
 same_length c = omega arith
 
 returns : tie.Need-returns invariant-loop decreases-loop
-returns c = listed-all c.before.loop.invariant (omega arith)
+returns c = listed-all c.loop-l.invariant (omega arith)
 
-pub put-alu-lanes-spec : {M : Type 1} → statement M
-put-alu-lanes-spec =
+pub put_alu_lanes_spec : {M : Type 1} → statement M
+put_alu_lanes_spec =
     tie.close
     (tie.spec
     invariant-loop

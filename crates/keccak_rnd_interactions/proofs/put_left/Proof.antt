@@ -8,56 +8,56 @@ use Rattle.tuple.proofs.Words.{listed-all, Listed}
 use Rattle.keccak_rnd_interactions.proofs.put_left.Statement.{statement}
 use Rattle.keccak_rnd_interactions.proofs.put_left.Tie as tie
 
-abbrev invariant-loop : tie.invariant-loop
+abbrev invariant-loop : tie.invariant-loop-i
 invariant-loop row out₀ at i₀ out i = Listed out₀ at (λ i. round_tuple row (163 + i)) 20 out i (at + 6 * i)
 
-abbrev decreases-loop : tie.decreases-loop
+abbrev decreases-loop : tie.decreases-loop-i
 decreases-loop row out₀ at i₀ out i = 20 - i
 
-loop-holds : tie.Need-loop-init invariant-loop decreases-loop
+loop-holds : tie.Need-loop-i-init invariant-loop decreases-loop
 loop-holds c = listed_start _ _ _ _
 
-left-pair-requires : tie.Need-left-pair-requires invariant-loop decreases-loop
+left-pair-requires : tie.Need-left_pair-a-requires invariant-loop decreases-loop
 left-pair-requires c κs = omega arith
 
-mul-put-bytes : tie.Need-overflow-mul-put-bytes invariant-loop decreases-loop
+mul-put-bytes : tie.Need-overflow_mul-i invariant-loop decreases-loop
 mul-put-bytes c = omega arith
 
-add-put-bytes : tie.Need-overflow-add-put-bytes invariant-loop decreases-loop
+add-put-bytes : tie.Need-overflow_add-at invariant-loop decreases-loop
 add-put-bytes c = omega arith
 
-mul-put-bytes-2 : tie.Need-overflow-mul-put-bytes-2 invariant-loop decreases-loop
-mul-put-bytes-2 c = omega (arith, c.before.left-pair.ensures.a-within, c.before.left-pair.ensures.b-within)
+mul-put-bytes-2 : tie.Need-offset_bounds-row-a invariant-loop decreases-loop
+mul-put-bytes-2 c = omega (arith, c.left_pair-a.ensures.a-within, c.left_pair-a.ensures.b-within)
 
-shared-slice-read-put-bytes : tie.Need-shared-slice-read-put-bytes invariant-loop decreases-loop
-shared-slice-read-put-bytes c = omega (arith, c.before.before.left-pair.ensures.a-within, c.before.before.left-pair.ensures.b-within)
+shared-slice-read-put-bytes : tie.Need-bounds-row-a invariant-loop decreases-loop
+shared-slice-read-put-bytes c = omega (arith, c.left_pair-a.ensures.a-within, c.left_pair-a.ensures.b-within)
 
-mul-put-bytes-3 : tie.Need-overflow-mul-put-bytes-3 invariant-loop decreases-loop
-mul-put-bytes-3 c = omega (arith, c.before.before.left-pair.ensures.a-within, c.before.before.left-pair.ensures.b-within)
+mul-put-bytes-3 : tie.Need-offset_bounds-row-b invariant-loop decreases-loop
+mul-put-bytes-3 c = omega (arith, c.left_pair-a.ensures.a-within, c.left_pair-a.ensures.b-within)
 
-shared-slice-read-put-bytes-2 : tie.Need-shared-slice-read-put-bytes-2 invariant-loop decreases-loop
-shared-slice-read-put-bytes-2 c = omega (arith, c.before.before.before.left-pair.ensures.a-within, c.before.before.before.left-pair.ensures.b-within)
+shared-slice-read-put-bytes-2 : tie.Need-bounds-row-b invariant-loop decreases-loop
+shared-slice-read-put-bytes-2 c = omega (arith, c.left_pair-a.ensures.a-within, c.left_pair-a.ensures.b-within)
 
-put-bytes-requires : tie.Need-put-bytes-requires invariant-loop decreases-loop
+put-bytes-requires : tie.Need-put_bytes-requires invariant-loop decreases-loop
 put-bytes-requires c κs = omega arith
 
-add-i : tie.Need-overflow-add-i invariant-loop decreases-loop
+add-i : tie.Need-overflow_add-i invariant-loop decreases-loop
 add-i c = omega arith
 
-loop-less : tie.Need-loop-smaller invariant-loop decreases-loop
+loop-less : tie.Need-loop-i-smaller invariant-loop decreases-loop
 loop-less c = omega arith
 
-loop-again : tie.Need-loop-preserved invariant-loop decreases-loop
-loop-again c = listed-one 2 _ c.before.before.before.before.before.before.before.before.loop.invariant c.before.before.before.before.before.before.before.loop-test.true (c.before.before.before.before.before.before.left-pair.ensures.tuple _) refl (omega arith) c.before.before.put-bytes.ensures
+loop-again : tie.Need-loop-i-preserved invariant-loop decreases-loop
+loop-again c = listed-one 2 _ c.loop-i.invariant c.loop-i-test.true (c.left_pair-a.ensures.tuple _) refl (omega arith) c.put_bytes.ensures
 
-same_length : tie.Need-same-length invariant-loop decreases-loop
+same_length : tie.Need-shape_of-out invariant-loop decreases-loop
 same_length c = omega arith
 
 returns : tie.Need-returns invariant-loop decreases-loop
-returns c = listed-all c.before.loop.invariant c.loop-test.false
+returns c = listed-all c.loop-i.invariant c.loop-i-test.false
 
-pub put-left-spec : {M : Type 1} → statement M
-put-left-spec =
+pub put_left_spec : {M : Type 1} → statement M
+put_left_spec =
     tie.close
     (tie.spec
     invariant-loop

@@ -4,38 +4,38 @@ use Rattle.keccak_rnd_interactions.proofs.Words.{all-stored}
 use Rattle.keccak_rnd_interactions.proofs.put_runs.Statement.{statement}
 use Rattle.keccak_rnd_interactions.proofs.put_runs.Tie as tie
 
-put-first-requires : tie.Need-put-first-requires
+put-first-requires : tie.Need-put_first-requires
 put-first-requires c κs = search rules
 
-put-alu-lanes-requires : tie.Need-put-alu-lanes-requires
+put-alu-lanes-requires : tie.Need-put_alu_lanes-requires
 put-alu-lanes-requires c κs = search rules
 
-put-left-requires : tie.Need-put-left-requires
+put-left-requires : tie.Need-put_left-requires
 put-left-requires c κs = search rules
 
-sub-put-alu-lanes : tie.Need-overflow-sub-put-alu-lanes
+sub-put-alu-lanes : tie.Need-overflow_sub-put_alu_lanes
 sub-put-alu-lanes c = search rules
 
-put-alu-lanes-requires-2 : tie.Need-put-alu-lanes-requires-2
+put-alu-lanes-requires-2 : tie.Need-put_alu_lanes-requires-2
 put-alu-lanes-requires-2 c κs = search rules
 
-put-rot-requires : tie.Need-put-rot-requires
+put-rot-requires : tie.Need-put_rot-requires
 put-rot-requires c κs = search rules
 
-sub-put-alu-lanes-2 : tie.Need-overflow-sub-put-alu-lanes-2
+sub-put-alu-lanes-2 : tie.Need-overflow_sub-put_alu_lanes-2
 sub-put-alu-lanes-2 c = search rules
 
-put-alu-lanes-requires-3 : tie.Need-put-alu-lanes-requires-3
+put-alu-lanes-requires-3 : tie.Need-put_alu_lanes-requires-3
 put-alu-lanes-requires-3 c κs = search rules
 
-same_length : tie.Need-same-length
+same_length : tie.Need-shape_of-out
 same_length c = search rules
 
 returns : tie.Need-returns
-returns c = all-stored _ _ c.before.before.before.before.before.before.before.before.before.before.before.before.before.before.before.before.before.before.before.before.before.before.put_first.ensures c.before.before.before.before.before.before.before.before.before.before.before.before.before.before.before.before.before.before.put-alu-lanes.ensures c.before.before.before.before.before.before.before.before.before.before.before.before.before.before.put-left.ensures c.before.before.before.before.before.before.before.before.before.before.put-alu-lanes2.ensures c.before.before.before.before.before.before.put-rot.ensures c.before.before.put-alu-lanes3.ensures
+returns c = all-stored _ _ c.put_first.ensures c.put_alu_lanes.ensures c.put_left.ensures c.put_alu_lanes-2.ensures c.put_rot.ensures c.put_alu_lanes-3.ensures
 
-pub put-runs-spec : {M : Type 1} → statement M
-put-runs-spec =
+pub put_runs_spec : {M : Type 1} → statement M
+put_runs_spec =
     tie.close
     (tie.spec
     put-first-requires

@@ -5,26 +5,26 @@ use Rattle.keccak_rnd_terms.proofs.Terms.{terms-of}
 use Rattle.keccak_rnd_interactions.proofs.put_tuples.Statement.{statement}
 use Rattle.keccak_rnd_interactions.proofs.put_tuples.Tie as tie
 
-slice-aggregate-put-terms : tie.Need-slice-aggregate-put-terms
+slice-aggregate-put-terms : tie.Need-slice_bounds-put_terms-end
 slice-aggregate-put-terms c = search rules
 
-put-terms-requires : tie.Need-put-terms-requires
+put-terms-requires : tie.Need-put_terms-requires
 put-terms-requires c κs = search rules
 
-slice-aggregate-put-runs : tie.Need-slice-aggregate-put-runs
+slice-aggregate-put-runs : tie.Need-slice_bounds-put_runs-end
 slice-aggregate-put-runs c = search rules
 
-put-runs-requires : tie.Need-put-runs-requires
-put-runs-requires c κs = (c.before.before.before.before.before.before.before.requires.0, terms-of _ _ _ (omega arith) c.before.before.before.put-terms.ensures, c.before.before.before.before.before.before.before.requires.1)
+put-runs-requires : tie.Need-put_runs-requires
+put-runs-requires c κs = (c.requires.0, terms-of _ _ _ (omega arith) c.put_terms.ensures, c.requires.1)
 
-same_length : tie.Need-same-length
+same_length : tie.Need-shape_of-out
 same_length c = search rules
 
 returns : tie.Need-returns
-returns c = c.before.before.put-runs.ensures
+returns c = c.put_runs.ensures
 
-pub put-tuples-spec : {M : Type 1} → statement M
-put-tuples-spec =
+pub put_tuples_spec : {M : Type 1} → statement M
+put_tuples_spec =
     tie.close
     (tie.spec
     slice-aggregate-put-terms

@@ -8,60 +8,60 @@ use Rattle.residue.specs.Residue.{residue, residues}
 use Rattle.keccak_rnd_lookups.proofs.put_left.Statement.{statement}
 use Rattle.keccak_rnd_lookups.proofs.put_left.Tie as tie
 
-abbrev invariant-loop : tie.invariant-loop
+abbrev invariant-loop : tie.invariant-loop-i
 invariant-loop row out₀ i₀ out i = Filled out₀ 163 20 (residues (λ i. round_tuple row (163 + i))) out i
 
-abbrev decreases-loop : tie.decreases-loop
+abbrev decreases-loop : tie.decreases-loop-i
 decreases-loop row out₀ i₀ out i = 20 - i
 
-loop-holds : tie.Need-loop-init invariant-loop decreases-loop
+loop-holds : tie.Need-loop-i-init invariant-loop decreases-loop
 loop-holds c = filled_none _ _ _ _
 
-left-pair-requires : tie.Need-left-pair-requires invariant-loop decreases-loop
+left-pair-requires : tie.Need-left_pair-a-requires invariant-loop decreases-loop
 left-pair-requires c κs = omega arith
 
-mul-bytes-residue : tie.Need-overflow-mul-bytes-residue invariant-loop decreases-loop
-mul-bytes-residue c = omega (arith, c.left-pair.ensures.a-within)
+mul-bytes-residue : tie.Need-offset_bounds-row-a invariant-loop decreases-loop
+mul-bytes-residue c = omega (arith, c.left_pair-a.ensures.a-within)
 
-shared-slice-read-bytes-residue : tie.Need-shared-slice-read-bytes-residue invariant-loop decreases-loop
-shared-slice-read-bytes-residue c = omega (arith, c.before.left-pair.ensures.a-within)
+shared-slice-read-bytes-residue : tie.Need-bounds-row-a invariant-loop decreases-loop
+shared-slice-read-bytes-residue c = omega (arith, c.left_pair-a.ensures.a-within)
 
-mul-bytes-residue-2 : tie.Need-overflow-mul-bytes-residue-2 invariant-loop decreases-loop
-mul-bytes-residue-2 c = omega (arith, c.before.left-pair.ensures.b-within)
+mul-bytes-residue-2 : tie.Need-offset_bounds-row-b invariant-loop decreases-loop
+mul-bytes-residue-2 c = omega (arith, c.left_pair-a.ensures.b-within)
 
-shared-slice-read-bytes-residue-2 : tie.Need-shared-slice-read-bytes-residue-2 invariant-loop decreases-loop
-shared-slice-read-bytes-residue-2 c = omega (arith, c.before.before.left-pair.ensures.b-within)
+shared-slice-read-bytes-residue-2 : tie.Need-bounds-row-b invariant-loop decreases-loop
+shared-slice-read-bytes-residue-2 c = omega (arith, c.left_pair-a.ensures.b-within)
 
-bytes-residue-requires : tie.Need-bytes-residue-requires invariant-loop decreases-loop
+bytes-residue-requires : tie.Need-bytes_residue-requires invariant-loop decreases-loop
 bytes-residue-requires c κs = omega arith
 
-add-out : tie.Need-overflow-add-out invariant-loop decreases-loop
+add-out : tie.Need-overflow_add-out invariant-loop decreases-loop
 add-out c = omega arith
 
-mul-out : tie.Need-overflow-mul-out invariant-loop decreases-loop
+mul-out : tie.Need-offset_bounds-out-i invariant-loop decreases-loop
 mul-out c = omega arith
 
-slice-write-out : tie.Need-slice-write-out invariant-loop decreases-loop
+slice-write-out : tie.Need-bounds-out-i invariant-loop decreases-loop
 slice-write-out c = omega arith
 
-add-i : tie.Need-overflow-add-i invariant-loop decreases-loop
+add-i : tie.Need-overflow_add-i invariant-loop decreases-loop
 add-i c = omega arith
 
-loop-less : tie.Need-loop-smaller invariant-loop decreases-loop
+loop-less : tie.Need-loop-i-smaller invariant-loop decreases-loop
 loop-less c = omega arith
 
-loop-again : tie.Need-loop-preserved invariant-loop decreases-loop
+loop-again : tie.Need-loop-i-preserved invariant-loop decreases-loop
 unfolding residues
-loop-again c = filled_more _ c.before.before.before.before.before.loop.invariant c.before.before.before.before.loop-test.true (c.bytes-residue.ensures ∙ ap residue (sym (c.before.before.before.left-pair.ensures.tuple _)))
+loop-again c = filled_more _ c.loop-i.invariant c.loop-i-test.true (c.bytes_residue.ensures ∙ ap residue (sym (c.left_pair-a.ensures.tuple _)))
 
-same_length : tie.Need-same-length invariant-loop decreases-loop
+same_length : tie.Need-shape_of-out invariant-loop decreases-loop
 same_length c = omega arith
 
 returns : tie.Need-returns invariant-loop decreases-loop
-returns c = filled-all c.before.loop.invariant c.loop-test.false
+returns c = filled-all c.loop-i.invariant c.loop-i-test.false
 
-pub put-left-spec : {M : Type 1} → statement M
-put-left-spec =
+pub put_left_spec : {M : Type 1} → statement M
+put_left_spec =
     tie.close
     (tie.spec
     invariant-loop

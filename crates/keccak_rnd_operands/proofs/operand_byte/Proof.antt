@@ -7,37 +7,37 @@ use Rattle.keccak_rnd_operands.specs.Lanes.{operand_byte}
 use Rattle.keccak_rnd_operands.proofs.operand_byte.Statement.{statement}
 use Rattle.keccak_rnd_operands.proofs.operand_byte.Tie as tie
 
-enum-known-operand : tie.Need-enum-known-operand
+enum-known-operand : tie.Need-enum_known-operand
 enum-known-operand c = search rules
 
-add-result : tie.Need-overflow-add-result
-add-result c = let b = column-within c.before.operand.given.1 c.before.before.before.before.requires.1 in omega arith
+add-result : tie.Need-overflow_add-result
+add-result c = let b = column-within c.in-Column.is c.requires.1 in omega arith
 
-mul-result : tie.Need-overflow-mul-result
-mul-result c = let b = column-within c.before.operand.given.1 c.before.before.before.before.requires.1 in omega arith
+mul-result : tie.Need-offset_bounds-row-k
+mul-result c = let b = column-within c.in-Column.is c.requires.1 in omega arith
 
-shared-slice-read-result : tie.Need-shared-slice-read-result
-shared-slice-read-result c = let b = column-within c.before.before.operand.given.1 c.before.before.before.before.before.requires.1 in omega arith
+shared-slice-read-result : tie.Need-bounds-row-k
+shared-slice-read-result c = let b = column-within c.in-Column.is c.requires.1 in omega arith
 
-enum-known-operand-2 : tie.Need-enum-known-operand-2
+enum-known-operand-2 : tie.Need-enum_known-operand-in-Term-1
 enum-known-operand-2 c = search rules
 
-add-term-at : tie.Need-overflow-add-term-at
-add-term-at c = let b = term-within c.before.operand2.given.1 c.before.before.before.before.requires.1 in omega arith
+add-term-at : tie.Need-overflow_add-k
+add-term-at c = let b = term-within c.in-Term.is c.requires.1 in omega arith
 
-term-at-requires : tie.Need-term-at-requires
-term-at-requires c κs = let b = term-within c.before.operand2.given.1 c.before.before.before.before.requires.1 in (c.before.before.before.before.requires.0, omega arith)
+term-at-requires : tie.Need-term_at-requires
+term-at-requires c κs = let b = term-within c.in-Term.is c.requires.1 in (c.requires.0, omega arith)
 
-returns : tie.Need-returns
+returns : tie.Need-returns-in-Column
 unfolding operand_byte
-returns c = byte_of _ _ c.before.before.operand.given.1 refl
+returns c = byte_of _ _ c.in-Column.is refl
 
-returns-2 : tie.Need-returns-2
+returns-2 : tie.Need-returns-in-Term
 unfolding operand_byte
-returns-2 c = byte_of _ _ c.before.before.operand2.given.1 c.term-at.ensures
+returns-2 c = byte_of _ _ c.in-Term.is c.term_at.ensures
 
-pub operand-byte-spec : {M : Type 1} → statement M
-operand-byte-spec =
+pub operand_byte_spec : {M : Type 1} → statement M
+operand_byte_spec =
     tie.close
     (tie.spec
     enum-known-operand

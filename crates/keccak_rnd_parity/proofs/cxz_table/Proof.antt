@@ -24,14 +24,10 @@ stages-requires-5 c κs = search rules
 returns : tie.Need-returns
 unfolding cxz_table
 returns c =
-    let c4 = c.before in
-    let c3 = c4.before in
-    let c2 = c3.before in
-    let c1 = c2.before in
-    five (stages_of c1.before.args.s) c1.stages.ensures c2.stages2.ensures c3.stages3.ensures c4.stages4.ensures c.stages5.ensures
+    five (stages_of c.args.s) c.stages.ensures c.stages-2.ensures c.stages-3.ensures c.stages-4.ensures c.stages-5.ensures
 
-pub cxz-table-spec : {M : Type 1} → statement M
-cxz-table-spec =
+pub cxz_table_spec : {M : Type 1} → statement M
+cxz_table_spec =
     tie.close
     (tie.spec
     stages-requires

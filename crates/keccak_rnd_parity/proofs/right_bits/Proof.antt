@@ -8,28 +8,25 @@ use Rattle.keccak_rnd.proofs.Tables.{four}
 use Rattle.keccak_rnd_parity.proofs.right_bits.Statement.{statement}
 use Rattle.keccak_rnd_parity.proofs.right_bits.Tie as tie
 
-carry-bit-requires : tie.Need-carry-bit-requires
+carry-bit-requires : tie.Need-carry_bit-requires
 carry-bit-requires c κs = search rules
 
-carry-bit-requires-2 : tie.Need-carry-bit-requires-2
+carry-bit-requires-2 : tie.Need-carry_bit-requires-2
 carry-bit-requires-2 c κs = search rules
 
-carry-bit-requires-3 : tie.Need-carry-bit-requires-3
+carry-bit-requires-3 : tie.Need-carry_bit-requires-3
 carry-bit-requires-3 c κs = search rules
 
-carry-bit-requires-4 : tie.Need-carry-bit-requires-4
+carry-bit-requires-4 : tie.Need-carry_bit-requires-4
 carry-bit-requires-4 c κs = search rules
 
 returns : tie.Need-returns
 unfolding right_bits
 returns c =
-    let c3 = c.before in
-    let c2 = c3.before in
-    let c1 = c2.before in
-    four (λ h. hwsl_carry (halfword (word c1.before.args.c) h) 1) c1.carry-bit.ensures c2.carry-bit2.ensures c3.carry-bit3.ensures c.carry-bit4.ensures
+    four (λ h. hwsl_carry (halfword (word c.args.c) h) 1) c.carry_bit.ensures c.carry_bit-2.ensures c.carry_bit-3.ensures c.carry_bit-4.ensures
 
-pub right-bits-spec : {M : Type 1} → statement M
-right-bits-spec =
+pub right_bits_spec : {M : Type 1} → statement M
+right_bits_spec =
     tie.close
     (tie.spec
     carry-bit-requires

@@ -18,50 +18,47 @@ use Rattle.keccak_rnd.proofs.Cells.{length-round}
 use Rattle.keccak_rnd_row.proofs.keccak_rnd_row.Statement.{statement}
 use Rattle.keccak_rnd_row.proofs.keccak_rnd_row.Tie as tie
 
-returns : tie.Need-returns
+returns : tie.Need-returns-then-round-ge-ROUNDS
 unfolding round_row_refusal
-returns c = refused _ _ (refuse-yes _ _ (le-leb _ _ c.if1.true))
+returns c = refused _ _ (refuse-yes _ _ (le-leb _ _ c.if-round-ge-ROUNDS.true))
 
-returns-2 : tie.Need-returns-2
+returns-2 : tie.Need-returns-then-start-lt25
 unfolding round_row_refusal
-returns-2 c = refused _ _ (refuse-no _ (lt-leb _ _ c.before.if1.false) (refuse-yes _ _ (lt-ltb _ _ c.if2.true)))
+returns-2 c = refused _ _ (refuse-no _ (lt-leb _ _ c.if-round-ge-ROUNDS.false) (refuse-yes _ _ (lt-ltb _ _ c.if-start-lt25.true)))
 
-returns-3 : tie.Need-returns-3
+returns-3 : tie.Need-returns-then-row-lt-NUM_COLUMNS
 unfolding round_row_refusal
 returns-3 c =
     refused _ _
-    (refuse-no _ (lt-leb _ _ c.before.before.if1.false)
-    (refuse-no _ (le-ltb _ _ c.before.if2.false)
-    (refuse-yes _ _ (lt-ltb _ _ c.if3.true))))
+    (refuse-no _ (lt-leb _ _ c.if-round-ge-ROUNDS.false)
+    (refuse-no _ (le-ltb _ _ c.if-start-lt25.false)
+    (refuse-yes _ _ (lt-ltb _ _ c.if-row-lt-NUM_COLUMNS.true))))
 
-lanes-at-requires : tie.Need-lanes-at-requires
+lanes-at-requires : tie.Need-lanes_at-lanes-requires
 lanes-at-requires c κs = search rules
 
-put-round-row-requires : tie.Need-put-round-row-requires
+put-round-row-requires : tie.Need-put_round_row-requires
 put-round-row-requires c κs = search rules
 
-same_length : tie.Need-same-length
+same_length : tie.Need-shape_of-row
 same_length c = search rules
 
-returns-4 : tie.Need-returns-4
+returns-4 : tie.Need-returns
 unfolding round_row_refusal
 returns-4 c =
-    let put = c.before.before in
-    let ln = put.before.before in
-    let e = ln.before in
-    let a = e.before.before.before.before.before.args in
+    let a = c.args in
     let s = a.start.now in
     let row : List ℕ → List ℕ = round_row (word_at a.timestamp) a.round in
     done _
-    (refuse-no _ (lt-leb _ _ e.before.before.if1.false)
-    (refuse-no _ (le-ltb _ _ e.before.if2.false)
-    (refuse-no _ (le-ltb _ _ e.if3.false) refl)))
-    (put.put-round-row.ensures
-    ∙ ap (λ (l : List ℕ). sets a.row.now 0 (row l)) (ln.lanes_at.ensures ∙ tab-same 25 (λ k. get_or s (0 + k) 0) (word s) (λ k _. ap (λ (i : ℕ). get_or s i 0) (zero-add k)))
-    ∙ sets-overwrite a.row.now (row (tab 25 (word s))) (omega (arith, length-round (word_at a.timestamp) a.round (tab 25 (word s)), e.if3.false)))
+    (refuse-no _ (lt-leb _ _ c.if-round-ge-ROUNDS.false)
+    (refuse-no _ (le-ltb _ _ c.if-start-lt25.false)
+    (refuse-no _ (le-ltb _ _ c.if-row-lt-NUM_COLUMNS.false) refl)))
+    (c.put_round_row.ensures
+    ∙ ap (λ (l : List ℕ). sets a.row.now 0 (row l)) (c.lanes_at-lanes.ensures ∙ tab-same 25 (λ k. get_or s (0 + k) 0) (word s) (λ k _. ap (λ (i : ℕ). get_or s i 0) (zero-add k)))
+    ∙ sets-overwrite a.row.now (row (tab 25 (word s))) (omega (arith, length-round (word_at a.timestamp) a.round (tab 25 (word s)), c.if-row-lt-NUM_COLUMNS.false)))
 
-pub keccak-rnd-row-spec : {M : Type 1} → statement M
-keccak-rnd-row-spec =
+pub keccak_rnd_row_spec : {M : Type 1} → statement M
+keccak_rnd_row_spec =
     tie.close
     (tie.spec
     returns

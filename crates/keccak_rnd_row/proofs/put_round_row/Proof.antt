@@ -17,31 +17,31 @@ use Rattle.keccak_rnd.proofs.Tables.{theta-of, parts-row}
 use Rattle.keccak_rnd_row.proofs.put_round_row.Statement.{statement}
 use Rattle.keccak_rnd_row.proofs.put_round_row.Tie as tie
 
-put-theta-requires : tie.Need-put-theta-requires
+put-theta-requires : tie.Need-put_theta-d-requires
 put-theta-requires c κs = search rules
 
-after-theta-requires : tie.Need-after-theta-requires
+after-theta-requires : tie.Need-after_theta-theta-requires
 after-theta-requires c κs = search rules
 
-rho-pi-requires : tie.Need-rho-pi-requires
+rho-pi-requires : tie.Need-rho_pi-pi-requires
 rho-pi-requires c κs = search rules
 
-chi-requires : tie.Need-chi-requires
+chi-requires : tie.Need-chi-chi-requires
 chi-requires c κs = search rules
 
-add-put-rho : tie.Need-overflow-add-put-rho
+add-put-rho : tie.Need-overflow_add-at
 add-put-rho c = search rules
 
-put-rho-requires : tie.Need-put-rho-requires
+put-rho-requires : tie.Need-put_rho-requires
 put-rho-requires c κs = search rules
 
-add-put-chi : tie.Need-overflow-add-put-chi
+add-put-chi : tie.Need-overflow_add-at-2
 add-put-chi c = search rules
 
-put-chi-requires : tie.Need-put-chi-requires
+put-chi-requires : tie.Need-put_chi-requires
 put-chi-requires c κs = search rules
 
-same_length : tie.Need-same-length
+same_length : tie.Need-shape_of-row
 same_length c = search rules
 
 -- the three parts, stored one after the other, are the row
@@ -60,21 +60,15 @@ three-parts l at {front} {rho} stamp r s e₁ e₂ e₃ a b c =
 
 returns : tie.Need-returns
 returns c =
-    let c2 = c.before.before in
-    let c1 = c2.before.before.before.before in
-    let ch = c1.before.before.before.before.before in
-    let rp = ch.before in
-    let th = rp.before in
-    let pt = th.before.before.before in
-    let a = pt.before.before.before.args in
+    let a = c.args in
     let s = a.s in
-    let thetaE = th.after-theta.ensures ∙ ap (λ (d : List (List ℕ)). grid (λ x y. bit_xor (lane s x y) (lane_of (word (get_or d x []))))) pt.put-theta.ensures.1 ∙ theta-of s in
-    let piE = rp.rho-pi.ensures ∙ ap rho_pi_l thetaE in
-    let chiE = ch.chi.ensures ∙ ap chi_l piE in
-    three-parts a.row.now a.at (word_at a.timestamp) a.round s pt.put-theta.ensures.0 c1.put-rho.ensures c2.put-chi.ensures thetaE piE chiE
+    let thetaE = c.after_theta-theta.ensures ∙ ap (λ (d : List (List ℕ)). grid (λ x y. bit_xor (lane s x y) (lane_of (word (get_or d x []))))) c.put_theta-d.ensures.1 ∙ theta-of s in
+    let piE = c.rho_pi-pi.ensures ∙ ap rho_pi_l thetaE in
+    let chiE = c.chi-chi.ensures ∙ ap chi_l piE in
+    three-parts a.row.now a.at (word_at a.timestamp) a.round s c.put_theta-d.ensures.0 c.put_rho.ensures c.put_chi.ensures thetaE piE chiE
 
-pub put-round-row-spec : {M : Type 1} → statement M
-put-round-row-spec =
+pub put_round_row_spec : {M : Type 1} → statement M
+put_round_row_spec =
     tie.close
     (tie.spec
     put-theta-requires

@@ -5,17 +5,17 @@ use Rattle.lists.proofs.Laws.{sets-cell}
 use Rattle.keccak_rnd_row.proofs.put_word.Statement.{statement}
 use Rattle.keccak_rnd_row.proofs.put_word.Tie as tie
 
-mul-row : tie.Need-overflow-mul-row
+mul-row : tie.Need-offset_bounds-row-at
 mul-row c = search rules
 
-slice-write-row : tie.Need-slice-write-row
+slice-write-row : tie.Need-bounds-row-at
 slice-write-row c = search rules
 
-same_length : tie.Need-same-length
+same_length : tie.Need-shape_of-row
 same_length c = search rules
 
 returns : tie.Need-returns
 returns c = sets-cell _ _ _
 
-pub put-word-spec : {M : Type 1} → statement M
-put-word-spec = tie.close (tie.spec mul-row slice-write-row same_length returns)
+pub put_word_spec : {M : Type 1} → statement M
+put_word_spec = tie.close (tie.spec mul-row slice-write-row same_length returns)

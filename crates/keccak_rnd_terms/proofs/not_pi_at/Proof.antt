@@ -6,14 +6,14 @@ use Rattle.keccak_rnd_terms.proofs.Terms.{not-pi, pi-below, below}
 use Rattle.keccak_rnd_terms.proofs.not_pi_at.Statement.{statement}
 use Rattle.keccak_rnd_terms.proofs.not_pi_at.Tie as tie
 
-pi-at-requires : tie.Need-pi-at-requires
+pi-at-requires : tie.Need-pi_at-a-requires
 pi-at-requires c κs = search rules
 
-not-byte-requires : tie.Need-not-byte-requires
-not-byte-requires c κs = let a = c.before.before.args in below c.pi-at.ensures (pi-below a.row.now a.x a.y a.z)
+not-byte-requires : tie.Need-not_byte-requires
+not-byte-requires c κs = let a = c.args in below c.pi_at-a.ensures (pi-below a.row.now a.x a.y a.z)
 
 returns : tie.Need-returns
-returns c = c.not_byte.ensures ∙ ap (fsub 255) c.before.pi-at.ensures ∙ not-pi _ c.before.before.before.requires.0 _ _ _ c.before.before.before.requires.1
+returns c = c.not_byte.ensures ∙ ap (fsub 255) c.pi_at-a.ensures ∙ not-pi _ c.requires.0 _ _ _ c.requires.1
 
-pub not-pi-at-spec : {M : Type 1} → statement M
-not-pi-at-spec = tie.close (tie.spec pi-at-requires not-byte-requires returns)
+pub not_pi_at_spec : {M : Type 1} → statement M
+not_pi_at_spec = tie.close (tie.spec pi-at-requires not-byte-requires returns)

@@ -5,41 +5,41 @@ use native.Mathlib.Omega.{arith}
 use Rattle.keccak_rnd_terms.proofs.pi_source.Statement.{statement}
 use Rattle.keccak_rnd_terms.proofs.pi_source.Tie as tie
 
-mul-from : tie.Need-overflow-mul-from
+mul-from : tie.Need-overflow_mul-from
 mul-from c = omega arith
 
-add-from : tie.Need-overflow-add-from
+add-from : tie.Need-overflow_add-from
 add-from c = omega arith
 
-mul-lane : tie.Need-overflow-mul-lane
+mul-lane : tie.Need-overflow_mul-lane
 mul-lane c = omega arith
 
-add-lane : tie.Need-overflow-add-lane
+add-lane : tie.Need-overflow_add-lane
 add-lane c = omega arith
 
-mul-lane-2 : tie.Need-overflow-mul-lane-2
+mul-lane-2 : tie.Need-overflow_mul-lane-2
 mul-lane-2 c = omega arith
 
-rho-offset-requires : tie.Need-rho-offset-requires
+rho-offset-requires : tie.Need-rho_offset-requires
 rho-offset-requires c κs = omega arith
 
-cast-moved : tie.Need-overflow-cast-moved
+cast-moved : tie.Need-overflow_cast-moved
 cast-moved c = omega arith
 
-mul-moved : tie.Need-overflow-mul-moved
+mul-moved : tie.Need-overflow_mul-moved
 mul-moved c = omega arith
 
-add-t6 : tie.Need-overflow-add-t6
+add-t6 : tie.Need-overflow_add-result
 add-t6 c = omega arith
 
-add-t7 : tie.Need-overflow-add-t7
+add-t7 : tie.Need-overflow_add-result-2
 add-t7 c = omega arith
 
 returns : tie.Need-returns
-returns c = record { left_is = refl; right_is = refl; moved-is = ap (λ (k : ℕ). 2 * (k / 16)) c.rho-offset.ensures }
+returns c = record { left_is = refl; right_is = refl; moved-is = ap (λ (k : ℕ). 2 * (k / 16)) c.rho_offset.ensures }
 
-pub pi-source-spec : {M : Type 1} → statement M
-pi-source-spec =
+pub pi_source_spec : {M : Type 1} → statement M
+pi_source_spec =
     tie.close
     (tie.spec
     mul-from

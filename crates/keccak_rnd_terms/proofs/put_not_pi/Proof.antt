@@ -9,53 +9,53 @@ use Rattle.lists.specs.Tab.{word}
 use Rattle.keccak_rnd_terms.proofs.put_not_pi.Statement.{statement}
 use Rattle.keccak_rnd_terms.proofs.put_not_pi.Tie as tie
 
-abbrev invariant-loop : tie.invariant-loop
+abbrev invariant-loop : tie.invariant-loop-k
 invariant-loop out₀ k₀ out k = Filled out₀ 240 200 (λ k. fsub 255 (word out₀ (40 + k))) out k
 
-abbrev decreases-loop : tie.decreases-loop
+abbrev decreases-loop : tie.decreases-loop-k
 decreases-loop out₀ k₀ out k = 200 - k
 
-loop-holds : tie.Need-loop-init invariant-loop decreases-loop
+loop-holds : tie.Need-loop-k-init invariant-loop decreases-loop
 loop-holds c = filled_none _ _ _ _
 
-add-not-byte : tie.Need-overflow-add-not-byte invariant-loop decreases-loop
+add-not-byte : tie.Need-overflow_add-k invariant-loop decreases-loop
 add-not-byte c = omega arith
 
-mul-not-byte : tie.Need-overflow-mul-not-byte invariant-loop decreases-loop
+mul-not-byte : tie.Need-offset_bounds-out-k invariant-loop decreases-loop
 mul-not-byte c = omega arith
 
-slice-read-not-byte : tie.Need-slice-read-not-byte invariant-loop decreases-loop
+slice-read-not-byte : tie.Need-bounds-out-k invariant-loop decreases-loop
 slice-read-not-byte c = omega arith
 
-not-byte-requires : tie.Need-not-byte-requires invariant-loop decreases-loop
-not-byte-requires c κs = let out = c.before.before.loop in below (read-before out.invariant (omega arith)) (c.before.before.before.before.requires.1 _ c.before.loop-test.true)
+not-byte-requires : tie.Need-not_byte-requires invariant-loop decreases-loop
+not-byte-requires c κs = let out = c.loop-k in below (read-before out.invariant (omega arith)) (c.requires.1 _ c.loop-k-test.true)
 
-add-out : tie.Need-overflow-add-out invariant-loop decreases-loop
+add-out : tie.Need-overflow_add-out invariant-loop decreases-loop
 add-out c = omega arith
 
-mul-out : tie.Need-overflow-mul-out invariant-loop decreases-loop
+mul-out : tie.Need-offset_bounds-out-k-in-loop-k invariant-loop decreases-loop
 mul-out c = omega arith
 
-slice-write-out : tie.Need-slice-write-out invariant-loop decreases-loop
+slice-write-out : tie.Need-bounds-out-k-in-loop-k invariant-loop decreases-loop
 slice-write-out c = omega arith
 
-add-k : tie.Need-overflow-add-k invariant-loop decreases-loop
+add-k : tie.Need-overflow_add-k-in-loop-k invariant-loop decreases-loop
 add-k c = omega arith
 
-loop-less : tie.Need-loop-smaller invariant-loop decreases-loop
+loop-less : tie.Need-loop-k-smaller invariant-loop decreases-loop
 loop-less c = omega arith
 
-loop-again : tie.Need-loop-preserved invariant-loop decreases-loop
-loop-again c = let out = c.before.before.before.loop in filled_more _ out.invariant c.before.before.loop-test.true (c.not_byte.ensures ∙ ap (fsub 255) (read-before out.invariant (omega arith)))
+loop-again : tie.Need-loop-k-preserved invariant-loop decreases-loop
+loop-again c = let out = c.loop-k in filled_more _ out.invariant c.loop-k-test.true (c.not_byte.ensures ∙ ap (fsub 255) (read-before out.invariant (omega arith)))
 
-same_length : tie.Need-same-length invariant-loop decreases-loop
+same_length : tie.Need-shape_of-out invariant-loop decreases-loop
 same_length c = omega arith
 
 returns : tie.Need-returns invariant-loop decreases-loop
-returns c = filled-all c.before.loop.invariant c.loop-test.false
+returns c = filled-all c.loop-k.invariant c.loop-k-test.false
 
-pub put-not-pi-spec : {M : Type 1} → statement M
-put-not-pi-spec =
+pub put_not_pi_spec : {M : Type 1} → statement M
+put_not_pi_spec =
     tie.close
     (tie.spec
     invariant-loop

@@ -6,24 +6,24 @@ use Rattle.keccak_rnd_terms.proofs.Terms.{pi-word, terms-stored, pi-below, below
 use Rattle.keccak_rnd_terms.proofs.put_terms.Statement.{statement}
 use Rattle.keccak_rnd_terms.proofs.put_terms.Tie as tie
 
-put-rotated-requires : tie.Need-put-rotated-requires
+put-rotated-requires : tie.Need-put_rotated-requires
 put-rotated-requires c κs = search rules
 
-put-pi-requires : tie.Need-put-pi-requires
+put-pi-requires : tie.Need-put_pi-requires
 put-pi-requires c κs = search rules
 
-put-not-pi-requires : tie.Need-put-not-pi-requires
+put-not-pi-requires : tie.Need-put_not_pi-requires
 put-not-pi-requires c κs =
-    let row = c.before.before.before.before.before.before.before.before.before.before.before.args.row.now in
-    (omega arith, λ k h. below (pi-word row _ c.before.before.before.before.before.before.before.before.before.before.before.requires.1 c.before.before.before.before.before.before.before.put-rotated.ensures c.before.before.before.put-pi.ensures k h) (pi-below row (k / 40) (k / 8 % 5) (k % 8)))
+    let row = c.args.row.now in
+    (omega arith, λ k h. below (pi-word row _ c.requires.1 c.put_rotated.ensures c.put_pi.ensures k h) (pi-below row (k / 40) (k / 8 % 5) (k % 8)))
 
-same_length : tie.Need-same-length
+same_length : tie.Need-shape_of-out
 same_length c = search rules
 
 returns : tie.Need-returns
-returns c = terms-stored _ _ c.before.before.before.before.before.before.before.before.before.before.before.before.before.before.requires.1 c.before.before.before.before.before.before.before.before.before.before.put-rotated.ensures c.before.before.before.before.before.before.put-pi.ensures c.before.before.before.before.before.before.before.before.before.before.before.before.before.before.requires.0 c.before.before.put-not-pi.ensures
+returns c = terms-stored _ _ c.requires.1 c.put_rotated.ensures c.put_pi.ensures c.requires.0 c.put_not_pi.ensures
 
-pub put-terms-spec : {M : Type 1} → statement M
-put-terms-spec =
+pub put_terms_spec : {M : Type 1} → statement M
+put_terms_spec =
     tie.close
     (tie.spec put-rotated-requires put-pi-requires put-not-pi-requires same_length returns)

@@ -9,36 +9,36 @@ use borrow.Author.Rules.{rules}
 use Rattle.keccak_rnd_tuples.proofs.put_keccak.Statement.{statement}
 use Rattle.keccak_rnd_tuples.proofs.put_keccak.Tie as tie
 
-shared-slice-read-out : tie.Need-shared-slice-read-out
+shared-slice-read-out : tie.Need-bounds-row-0
 shared-slice-read-out c = search rules
 
-slice-write-out : tie.Need-slice-write-out
+slice-write-out : tie.Need-bounds-out-0
 slice-write-out c = search rules
 
-shared-slice-read-out-2 : tie.Need-shared-slice-read-out-2
+shared-slice-read-out-2 : tie.Need-bounds-row-1
 shared-slice-read-out-2 c = search rules
 
-slice-write-out-2 : tie.Need-slice-write-out-2
+slice-write-out-2 : tie.Need-bounds-out-1
 slice-write-out-2 c = simp length-set (omega arith)
 
-slice-write-out-3 : tie.Need-slice-write-out-3
+slice-write-out-3 : tie.Need-bounds-out-2
 slice-write-out-3 c = simp length-set (omega arith)
 
-put-state-requires : tie.Need-put-state-requires
+put-state-requires : tie.Need-put_state-requires
 put-state-requires c κs = search rules
 
-same_length : tie.Need-same-length
-same_length c = c.before.before.put-state.auto.1.1.1.0 ∙ simp length-set
+same_length : tie.Need-shape_of-out
+same_length c = c.put_state.auto.out ∙ simp length-set
 
 returns : tie.Need-returns
 returns c =
-    let a = c.before.before.before.before.before.before.before.before.args in
+    let a = c.args in
     let row = a.row.now in
     let f = state_word row a.first a.base in
-    c.before.before.put-state.ensures ∙ keccak-words a.out.now (word row 0) (word row 1) a.round f c.before.before.before.before.before.before.before.before.requires.3
+    c.put_state.ensures ∙ keccak-words a.out.now (word row 0) (word row 1) a.round f c.requires.3
 
-pub put-keccak-spec : {M : Type 1} → statement M
-put-keccak-spec =
+pub put_keccak_spec : {M : Type 1} → statement M
+put_keccak_spec =
     tie.close
     (tie.spec
     shared-slice-read-out

@@ -10,32 +10,32 @@ use borrow.Author.Rules.{rules}
 use Rattle.keccak_rnd_tuples.proofs.put_state.Statement.{statement}
 use Rattle.keccak_rnd_tuples.proofs.put_state.Tie as tie
 
-put-part-requires : tie.Need-put-part-requires
+put-part-requires : tie.Need-put_part-requires
 put-part-requires c κs = search rules
 
-add-copy-lanes : tie.Need-overflow-add-copy-lanes
+add-copy-lanes : tie.Need-overflow_add-base
 add-copy-lanes c = search rules
 
-copy-lanes-requires : tie.Need-copy-lanes-requires
+copy-lanes-requires : tie.Need-copy_lanes-requires
 copy-lanes-requires c κs = search rules
 
-copy-columns-requires : tie.Need-copy-columns-requires
+copy-columns-requires : tie.Need-copy_columns-requires
 copy-columns-requires c κs = search rules
 
-same_length : tie.Need-same-length
+same_length : tie.Need-shape_of-out
 same_length c = search rules
 
 returns : tie.Need-returns
 returns c =
-    let a = c.before.before.before.before.before.before.before.before.before.before.before.before.before.before.args in
+    let a = c.args in
     let row = a.row.now in
-    let one = filled-add 8 _ (filled_none a.out.now 3 200 (by_xyb (state_word row a.first a.base))) refl (omega arith) c.before.before.before.before.before.before.before.before.before.before.put-part.ensures (state-first row a.first a.base) in
-    let five = filled-add 32 _ one refl (omega arith) c.before.before.before.before.before.before.copy-lanes.ensures (state-zero row a.first a.base) in
-    let all = filled-add {k' = 200} 160 _ five refl (omega arith) c.before.before.copy-columns.ensures (λ j h. state-other row a.first a.base (40 + j) (omega arith)) in
+    let one = filled-add 8 _ (filled_none a.out.now 3 200 (by_xyb (state_word row a.first a.base))) refl (omega arith) c.put_part.ensures (state-first row a.first a.base) in
+    let five = filled-add 32 _ one refl (omega arith) c.copy_lanes.ensures (state-zero row a.first a.base) in
+    let all = filled-add {k' = 200} 160 _ five refl (omega arith) c.copy_columns.ensures (λ j h. state-other row a.first a.base (40 + j) (omega arith)) in
     filled-all all (omega arith)
 
-pub put-state-spec : {M : Type 1} → statement M
-put-state-spec =
+pub put_state_spec : {M : Type 1} → statement M
+put_state_spec =
     tie.close
     (tie.spec
     put-part-requires

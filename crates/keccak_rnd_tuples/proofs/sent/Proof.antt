@@ -11,29 +11,29 @@ use borrow.Author.Rules.{rules}
 use Rattle.keccak_rnd_tuples.proofs.sent.Statement.{statement}
 use Rattle.keccak_rnd_tuples.proofs.sent.Tie as tie
 
-shared-slice-read-t5 : tie.Need-shared-slice-read-t5
+shared-slice-read-t5 : tie.Need-bounds-row-2
 shared-slice-read-t5 c = search rules
 
-add-requires : tie.Need-add-requires
+add-requires : tie.Need-add-next-requires
 add-requires c κs = search rules
 
-put-keccak-requires : tie.Need-put-keccak-requires
+put-keccak-requires : tie.Need-put_keccak-requires
 put-keccak-requires c κs = search rules
 
-shared-slice-read-t5-2 : tie.Need-shared-slice-read-t5-2
+shared-slice-read-t5-2 : tie.Need-bounds-row-1479
 shared-slice-read-t5-2 c = search rules
 
-same_length : tie.Need-same-length
+same_length : tie.Need-shape_of-out
 same_length c = search rules
 
 returns : tie.Need-returns
 returns c =
-    let row = c.before.before.before.before.before.before.before.before.before.args.row.now in
+    let row = c.args.row.now in
     as-tuple _ (at-sent row) (sym (sent-interaction row))
-    (c.before.before.before.put-keccak.ensures ∙ ap (λ (r : ℕ). overwrite (keccak_values (word row 0) (word row 1) r (state_word row 1471 1263)) c.before.before.before.before.before.before.before.before.before.args.out.now) c.before.before.before.before.before.add.ensures.0)
+    (c.put_keccak.ensures ∙ ap (λ (r : ℕ). overwrite (keccak_values (word row 0) (word row 1) r (state_word row 1471 1263)) c.args.out.now) c.add-next.ensures.0)
 
-pub sent-spec : {M : Type 1} → statement M
-sent-spec =
+pub sent_spec : {M : Type 1} → statement M
+sent_spec =
     tie.close
     (tie.spec
     shared-slice-read-t5

@@ -8,20 +8,20 @@ use Rattle.templates.specs.Templates.{is_bit}
 use Rattle.keccak_rnd_value.proofs.carry_value.Statement.{statement}
 use Rattle.keccak_rnd_value.proofs.carry_value.Tie as tie
 
-add-element : tie.Need-overflow-add-element
+add-element : tie.Need-overflow_add-i
 add-element c = search rules
 
-element-requires : tie.Need-element-requires
+element-requires : tie.Need-element-carry-requires
 element-requires c κs = search rules
 
-is-bit-requires : tie.Need-is-bit-requires
+is-bit-requires : tie.Need-is_bit-requires
 is-bit-requires c κs = search rules
 
 returns : tie.Need-returns
 returns c =
-    let i = c.before.before.before.args.i in
+    let i = c.args.i in
     let k : 403 + i ≡ 403 + i / 4 * 4 + i % 4 = omega arith in
-    c.is-bit.ensures ∙ ap is_bit (c.before.element.ensures.0 ∙ ap (word c.before.before.before.args.row.now) k)
+    c.is_bit.ensures ∙ ap is_bit (c.element-carry.ensures.0 ∙ ap (word c.args.row.now) k)
 
-pub carry-value-spec : {M : Type 1} → statement M
-carry-value-spec = tie.close (tie.spec add-element element-requires is-bit-requires returns)
+pub carry_value_spec : {M : Type 1} → statement M
+carry_value_spec = tie.close (tie.spec add-element element-requires is-bit-requires returns)

@@ -3,52 +3,52 @@ use borrow.Author.Rules.{rules}
 use Rattle.keccak_rnd_value.proofs.rho_value.Statement.{statement}
 use Rattle.keccak_rnd_value.proofs.rho_value.Tie as tie
 
-mul-lane : tie.Need-overflow-mul-lane
+mul-lane : tie.Need-overflow_mul-lane
 mul-lane c = search rules
 
-add-lane : tie.Need-overflow-add-lane
+add-lane : tie.Need-overflow_add-lane
 add-lane c = search rules
 
-mul-lane-2 : tie.Need-overflow-mul-lane-2
+mul-lane-2 : tie.Need-overflow_mul-lane-2
 mul-lane-2 c = search rules
 
-add-halfword-at : tie.Need-overflow-add-halfword-at
+add-halfword-at : tie.Need-overflow_add-lane-2
 add-halfword-at c = search rules
 
-mul-halfword-at : tie.Need-overflow-mul-halfword-at
+mul-halfword-at : tie.Need-overflow_mul-hw
 mul-halfword-at c = search rules
 
-add-halfword-at-2 : tie.Need-overflow-add-halfword-at-2
+add-halfword-at-2 : tie.Need-overflow_add-lane-3
 add-halfword-at-2 c = search rules
 
-halfword-at-requires : tie.Need-halfword-at-requires
+halfword-at-requires : tie.Need-halfword_at-half-requires
 halfword-at-requires c κs = search rules
 
-add-halfword-at-3 : tie.Need-overflow-add-halfword-at-3
+add-halfword-at-3 : tie.Need-overflow_add-lane-4
 add-halfword-at-3 c = search rules
 
-mul-halfword-at-2 : tie.Need-overflow-mul-halfword-at-2
+mul-halfword-at-2 : tie.Need-overflow_mul-hw-2
 mul-halfword-at-2 c = search rules
 
-add-halfword-at-4 : tie.Need-overflow-add-halfword-at-4
+add-halfword-at-4 : tie.Need-overflow_add-lane-5
 add-halfword-at-4 c = search rules
 
-halfword-at-requires-2 : tie.Need-halfword-at-requires-2
+halfword-at-requires-2 : tie.Need-halfword_at-left-requires
 halfword-at-requires-2 c κs = search rules
 
-add-halfword-at-5 : tie.Need-overflow-add-halfword-at-5
+add-halfword-at-5 : tie.Need-overflow_add-lane-6
 add-halfword-at-5 c = search rules
 
-mul-halfword-at-3 : tie.Need-overflow-mul-halfword-at-3
+mul-halfword-at-3 : tie.Need-overflow_mul-hw-3
 mul-halfword-at-3 c = search rules
 
-add-halfword-at-6 : tie.Need-overflow-add-halfword-at-6
+add-halfword-at-6 : tie.Need-overflow_add-lane-7
 add-halfword-at-6 c = search rules
 
-halfword-at-requires-3 : tie.Need-halfword-at-requires-3
+halfword-at-requires-3 : tie.Need-halfword_at-right-requires
 halfword-at-requires-3 c κs = search rules
 
-identity-requires : tie.Need-identity-requires
+identity-requires : tie.Need-identity-value-requires
 identity-requires c κs = search rules
 
 gated-requires : tie.Need-gated-requires
@@ -57,8 +57,8 @@ gated-requires c κs = search rules
 returns : tie.Need-returns
 returns c = cc
 
-pub rho-value-spec : {M : Type 1} → statement M
-rho-value-spec =
+pub rho_value_spec : {M : Type 1} → statement M
+rho_value_spec =
     tie.close
     (tie.spec
     mul-lane

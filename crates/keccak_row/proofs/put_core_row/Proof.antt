@@ -32,58 +32,52 @@ groups l at r₀ r₁ r₂ r₃ r₄ o e₀ e₁ e₂ e₃ e₄ =
     let w₄ = wrote-more _ _ w₃ refl e₄ in
     (wrote-more _ _ w₄ refl (sets-cell r₄ (at + 485) 1)).is
 
-put-dword-wl-requires : tie.Need-put-dword-wl-requires
+put-dword-wl-requires : tie.Need-put_dword_wl-requires
 put-dword-wl-requires c κs = search rules
 
-add-put-dword-bl : tie.Need-overflow-add-put-dword-bl
+add-put-dword-bl : tie.Need-overflow_add-at
 add-put-dword-bl c = search rules
 
-put-dword-bl-requires : tie.Need-put-dword-bl-requires
+put-dword-bl-requires : tie.Need-put_dword_bl-requires
 put-dword-bl-requires c κs = search rules
 
-add-put-lanes : tie.Need-overflow-add-put-lanes
+add-put-lanes : tie.Need-overflow_add-at-2
 add-put-lanes c = search rules
 
-put-lanes-requires : tie.Need-put-lanes-requires
+put-lanes-requires : tie.Need-put_lanes-requires
 put-lanes-requires c κs = search rules
 
-add-put-lanes-2 : tie.Need-overflow-add-put-lanes-2
+add-put-lanes-2 : tie.Need-overflow_add-at-3
 add-put-lanes-2 c = search rules
 
-put-lanes-requires-2 : tie.Need-put-lanes-requires-2
+put-lanes-requires-2 : tie.Need-put_lanes-requires-2
 put-lanes-requires-2 c κs = search rules
 
-add-put-pointers : tie.Need-overflow-add-put-pointers
+add-put-pointers : tie.Need-overflow_add-at-4
 add-put-pointers c = search rules
 
-put-pointers-requires : tie.Need-put-pointers-requires
+put-pointers-requires : tie.Need-put_pointers-requires
 put-pointers-requires c κs = search rules
 
-add_row : tie.Need-overflow-add-row
+add_row : tie.Need-overflow_add-row
 add_row c = search rules
 
-mul-row : tie.Need-overflow-mul-row
+mul-row : tie.Need-offset_bounds-row-at
 mul-row c = search rules
 
-slice-write-row : tie.Need-slice-write-row
+slice-write-row : tie.Need-bounds-row-at
 slice-write-row c = search rules
 
-same_length : tie.Need-same-length
+same_length : tie.Need-shape_of-row
 same_length c = simp length-set (omega arith)
 
 returns : tie.Need-returns
 returns c =
-    let pointers = c.before.before in
-    let lanes2 = pointers.before.before.before.before in
-    let lanes = lanes2.before.before.before.before in
-    let bytes = lanes.before.before.before.before in
-    let words = bytes.before.before.before.before in
-    let start = words.before.before.before.before.before in
-    groups start.args.row.now start.args.at _ _ _ _ _ start.args.op words.put-dword-wl.ensures bytes.put-dword-bl.ensures lanes.put-lanes.ensures
-    lanes2.put-lanes2.ensures pointers.put-pointers.ensures
+    groups c.args.row.now c.args.at _ _ _ _ _ c.args.op c.put_dword_wl.ensures c.put_dword_bl.ensures c.put_lanes.ensures
+    c.put_lanes-2.ensures c.put_pointers.ensures
 
-pub put-core-row-spec : {M : Type 1} → statement M
-put-core-row-spec =
+pub put_core_row_spec : {M : Type 1} → statement M
+put_core_row_spec =
     tie.close
     (tie.spec
     put-dword-wl-requires

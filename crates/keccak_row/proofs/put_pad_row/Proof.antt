@@ -13,25 +13,25 @@ use Rattle.lists.proofs.Laws.{wrote_none, wrote-more, sets-cell}
 use Rattle.keccak_row.proofs.put_pad_row.Statement.{statement}
 use Rattle.keccak_row.proofs.put_pad_row.Tie as tie
 
-put-zeros-requires : tie.Need-put-zeros-requires
+put-zeros-requires : tie.Need-put_zeros-requires
 put-zeros-requires c κs = search rules
 
-add-put-pointers : tie.Need-overflow-add-put-pointers
+add-put-pointers : tie.Need-overflow_add-at
 add-put-pointers c = search rules
 
-put-pointers-requires : tie.Need-put-pointers-requires
+put-pointers-requires : tie.Need-put_pointers-requires
 put-pointers-requires c κs = search rules
 
-add_row : tie.Need-overflow-add-row
+add_row : tie.Need-overflow_add-row
 add_row c = search rules
 
-mul-row : tie.Need-overflow-mul-row
+mul-row : tie.Need-offset_bounds-row-at
 mul-row c = search rules
 
-slice-write-row : tie.Need-slice-write-row
+slice-write-row : tie.Need-bounds-row-at
 slice-write-row c = search rules
 
-same_length : tie.Need-same-length
+same_length : tie.Need-shape_of-row
 same_length c = simp length-set (omega arith)
 
 -- the three groups, one after the other
@@ -44,13 +44,10 @@ groups l at r₀ r₁ e₀ e₁ =
 
 returns : tie.Need-returns
 returns c =
-    let pointers = c.before.before in
-    let zeros = pointers.before.before.before.before in
-    let start = zeros.before.before.before in
-    groups start.args.row.now start.args.at _ _ zeros.put-zeros.ensures pointers.put-pointers.ensures
+    groups c.args.row.now c.args.at _ _ c.put_zeros.ensures c.put_pointers.ensures
 
-pub put-pad-row-spec : {M : Type 1} → statement M
-put-pad-row-spec =
+pub put_pad_row_spec : {M : Type 1} → statement M
+put_pad_row_spec =
     tie.close
     (tie.spec
     put-zeros-requires

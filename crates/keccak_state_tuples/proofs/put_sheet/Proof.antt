@@ -8,59 +8,57 @@ use Rattle.keccak_state_tuples.proofs.Parts.{sheet-lane}
 use Rattle.keccak_state_tuples.proofs.put_sheet.Statement.{statement}
 use Rattle.keccak_state_tuples.proofs.put_sheet.Tie as tie
 
-abbrev invariant-loop : tie.invariant-loop
+abbrev invariant-loop : tie.invariant-loop-y
 invariant-loop out₀ at row base x y₀ out y = Filled out₀ at 40 (sheet_word row base x) out (8 * y)
 
-abbrev decreases-loop : tie.decreases-loop
+abbrev decreases-loop : tie.decreases-loop-y
 decreases-loop out₀ at row base x y₀ out y = 5 - y
 
-loop-holds : tie.Need-loop-init invariant-loop decreases-loop
+loop-holds : tie.Need-loop-y-init invariant-loop decreases-loop
 loop-holds c = filled_none _ _ _ _
 
-mul-put-part : tie.Need-overflow-mul-put-part invariant-loop decreases-loop
+mul-put-part : tie.Need-overflow_mul-y invariant-loop decreases-loop
 mul-put-part c = omega arith
 
-add-put-part : tie.Need-overflow-add-put-part invariant-loop decreases-loop
+add-put-part : tie.Need-overflow_add-at invariant-loop decreases-loop
 add-put-part c = omega arith
 
-mul-put-part-2 : tie.Need-overflow-mul-put-part-2 invariant-loop decreases-loop
+mul-put-part-2 : tie.Need-overflow_mul-y-in-loop-y invariant-loop decreases-loop
 mul-put-part-2 c = omega arith
 
-add-put-part-2 : tie.Need-overflow-add-put-part-2 invariant-loop decreases-loop
+add-put-part-2 : tie.Need-overflow_add-x invariant-loop decreases-loop
 add-put-part-2 c = omega arith
 
-mul-put-part-3 : tie.Need-overflow-mul-put-part-3 invariant-loop decreases-loop
+mul-put-part-3 : tie.Need-overflow_mul-x invariant-loop decreases-loop
 mul-put-part-3 c = omega arith
 
-add-put-part-3 : tie.Need-overflow-add-put-part-3 invariant-loop decreases-loop
+add-put-part-3 : tie.Need-overflow_add-base invariant-loop decreases-loop
 add-put-part-3 c = omega arith
 
-put-part-requires : tie.Need-put-part-requires invariant-loop decreases-loop
+put-part-requires : tie.Need-put_part-requires invariant-loop decreases-loop
 put-part-requires c κs = omega arith
 
-add-y : tie.Need-overflow-add-y invariant-loop decreases-loop
+add-y : tie.Need-overflow_add-y invariant-loop decreases-loop
 add-y c = omega arith
 
-loop-less : tie.Need-loop-smaller invariant-loop decreases-loop
+loop-less : tie.Need-loop-y-smaller invariant-loop decreases-loop
 loop-less c = omega arith
 
-loop-again : tie.Need-loop-preserved invariant-loop decreases-loop
+loop-again : tie.Need-loop-y-preserved invariant-loop decreases-loop
 loop-again c =
-    let at-loop = c.before.before.before.before.before in
-    let s = at-loop.before.before.before in
-    let row = s.args.row.now in
-    let y = at-loop.loop.y in
-    filled-add 8 (λ k. word row (s.args.base + (s.args.x + 5 * y) * 8 + k)) at-loop.loop.invariant (omega arith) (omega arith) c.before.before.put-part.ensures
-    (λ k h. sheet-lane row s.args.base s.args.x y k h)
+    let row = c.args.row.now in
+    let y = c.loop-y.y in
+    filled-add 8 (λ k. word row (c.args.base + (c.args.x + 5 * y) * 8 + k)) c.loop-y.invariant (omega arith) (omega arith) c.put_part.ensures
+    (λ k h. sheet-lane row c.args.base c.args.x y k h)
 
-same_length : tie.Need-same-length invariant-loop decreases-loop
+same_length : tie.Need-shape_of-out invariant-loop decreases-loop
 same_length c = omega arith
 
 returns : tie.Need-returns invariant-loop decreases-loop
-returns c = filled-all c.before.loop.invariant (omega arith)
+returns c = filled-all c.loop-y.invariant (omega arith)
 
-pub put-sheet-spec : {M : Type 1} → statement M
-put-sheet-spec =
+pub put_sheet_spec : {M : Type 1} → statement M
+put_sheet_spec =
     tie.close
     (tie.spec
     invariant-loop

@@ -15,59 +15,59 @@ use Rattle.keccak_trace.proofs.keccak_rows.Statement.{statement}
 use Rattle.keccak_trace.proofs.keccak_rows.Tie as tie
 
 -- the arguments, from the place after the checks
-abbrev Ops : tie.After-check-operations → List ℕ
-Ops k = k.before.before.before.before.args.ops.now
+abbrev Ops : tie.After-check_operations → List ℕ
+Ops k = k.args.ops.now
 
-abbrev Table : tie.After-check-operations → List ℕ
-Table k = k.before.before.before.before.args.table.now
+abbrev Table : tie.After-check_operations → List ℕ
+Table k = k.args.table.now
 
 -- what an accepted call knows
-known : (c : tie.After-enum-told) → let k = c.before.before in (operations_refusal (length (Table k)) (op_count (Ops k) * 486) (Ops k) ≡ none) × Passed (length (Table k)) (op_count (Ops k) * 486) (Ops k)
-known c = let k = c.before.before in told-done _ _ _ k.before.if1.false refl k.check-operations.ensures c.enum_told.given.1
+known : (c : tie.In_default) → let k = c.before in (operations_refusal (length (Table k)) (op_count (Ops k) * 486) (Ops k) ≡ none) × Passed (length (Table k)) (op_count (Ops k) * 486) (Ops k)
+known c = let k = c.before in told-done _ _ _ k.if-n-gt-MAX_OPS.false refl k.check_operations.ensures c.in_default.is
 
-add-t9 : tie.Need-overflow-add-t9
+add-t9 : tie.Need-overflow_add-result
 add-t9 c = search rules
 
-returns : tie.Need-returns
+returns : tie.Need-returns-then-n-gt-MAX_OPS
 unfolding core_rows_refusal
-returns c = refused _ _ (too_many_lem _ _ _ c.if1.true)
+returns c = refused _ _ (too_many_lem _ _ _ c.if-n-gt-MAX_OPS.true)
 
-mul-check-operations : tie.Need-overflow-mul-check-operations
+mul-check-operations : tie.Need-overflow_mul-n
 mul-check-operations c = omega arith
 
-check-operations-requires : tie.Need-check-operations-requires
+check-operations-requires : tie.Need-check_operations-requires
 check-operations-requires c κs = search rules
 
-enum-known-refusal : tie.Need-enum-known-refusal
+enum-known-refusal : tie.Need-enum_known-refusal
 enum-known-refusal c = search rules
 
-returns-2 : tie.Need-returns-2
+returns-2 : tie.Need-returns-in-Refused
 unfolding core_rows_refusal
-returns-2 c = let k = c.before.before.before in refused _ _ (told-refused _ _ _ k.before.if1.false refl k.check-operations.ensures c.before.refusal.given.1)
+returns-2 c = refused _ _ (told-refused _ _ _ c.if-n-gt-MAX_OPS.false refl c.check_operations.ensures c.in-Refused.is)
 
-enum_told : tie.Need-enum-told
+enum_told : tie.Need-enum_told-1
 enum_told c = search rules
 
-put-op-rows-requires : tie.Need-put-op-rows-requires
+put-op-rows-requires : tie.Need-put_op_rows-requires
 put-op-rows-requires c κs = (omega arith, (known c.before).1.fits, (known c.before).1.low, (known c.before).1.segments)
 
-same_length : tie.Need-same-length
+same_length : tie.Need-shape_of-table
 same_length c = search rules
 
-returns-3 : tie.Need-returns-3
+returns-3 : tie.Need-returns
 unfolding core_rows_refusal core_rows
 returns-3 c =
     let put = c.before.before in
-    let told = put.before.before in
-    let k = told.before.before in
+    let told = c.before.before.before.before in
+    let k = c.before.before.before.before.before in
     let n = op_count (Ops k) in
     done _
     (known told).0
-    (put.put-op-rows.ensures
+    (c.put_op_rows.ensures
     ∙ sets-overwrite (Table k) (core_rows n (op_at (Ops k))) (omega (arith, (known told).1.fits, length-core-rows n (op_at (Ops k)))))
 
-pub keccak-rows-spec : {M : Type 1} → statement M
-keccak-rows-spec =
+pub keccak_rows_spec : {M : Type 1} → statement M
+keccak_rows_spec =
     tie.close
     (tie.spec
     add-t9

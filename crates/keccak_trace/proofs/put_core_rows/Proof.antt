@@ -29,30 +29,27 @@ rows l t₁ t₂ ws n h le e₁ e₂ =
     (λ i c. core-row-pad n (op_at ws) (n + i) (le-add_right n i))))
     ∙ ap (λ (k : ℕ). sets l 0 (table_of k 486 (core_row_at n (op_at ws)))) (add-sub_of_le le)
 
-put-op-rows-requires : tie.Need-put-op-rows-requires
+put-op-rows-requires : tie.Need-put_op_rows-requires
 put-op-rows-requires c κs = search rules
 
-mul-put-pad-rows : tie.Need-overflow-mul-put-pad-rows
+mul-put-pad-rows : tie.Need-overflow_mul-n
 mul-put-pad-rows c = search rules
 
-sub-put-pad-rows : tie.Need-overflow-sub-put-pad-rows
+sub-put-pad-rows : tie.Need-overflow_sub-h
 sub-put-pad-rows c = search rules
 
-put-pad-rows-requires : tie.Need-put-pad-rows-requires
+put-pad-rows-requires : tie.Need-put_pad_rows-requires
 put-pad-rows-requires c κs = search rules
 
-same_length : tie.Need-same-length
+same_length : tie.Need-shape_of-table
 same_length c = search rules
 
 returns : tie.Need-returns
 returns c =
-    let pads = c.before.before in
-    let ops = pads.before.before.before.before in
-    let start = ops.before.before.before.before in
-    rows start.args.table.now _ _ start.args.ops.now start.args.n start.args.h (omega arith) ops.put-op-rows.ensures pads.put-pad-rows.ensures
+    rows c.args.table.now _ _ c.args.ops.now c.args.n c.args.h (omega arith) c.put_op_rows.ensures c.put_pad_rows.ensures
 
-pub put-core-rows-spec : {M : Type 1} → statement M
-put-core-rows-spec =
+pub put_core_rows_spec : {M : Type 1} → statement M
+put_core_rows_spec =
     tie.close
     (tie.spec
     put-op-rows-requires

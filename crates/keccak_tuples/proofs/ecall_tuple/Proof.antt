@@ -9,36 +9,36 @@ use Rattle.keccak.specs.Tuples.{ecall_tuple}
 use Rattle.keccak_tuples.proofs.ecall_tuple.Statement.{statement}
 use Rattle.keccak_tuples.proofs.ecall_tuple.Tie as tie
 
-shared-slice-read-out : tie.Need-shared-slice-read-out
+shared-slice-read-out : tie.Need-bounds-row-0
 shared-slice-read-out c = search rules
 
-slice-write-out : tie.Need-slice-write-out
+slice-write-out : tie.Need-bounds-out-0
 slice-write-out c = search rules
 
-shared-slice-read-out-2 : tie.Need-shared-slice-read-out-2
+shared-slice-read-out-2 : tie.Need-bounds-row-1
 shared-slice-read-out-2 c = search rules
 
-slice-write-out-2 : tie.Need-slice-write-out-2
+slice-write-out-2 : tie.Need-bounds-out-1
 slice-write-out-2 c = simp length-set (omega arith)
 
-slice-write-out-3 : tie.Need-slice-write-out-3
+slice-write-out-3 : tie.Need-bounds-out-2
 slice-write-out-3 c = simp length-set (omega arith)
 
-slice-write-out-4 : tie.Need-slice-write-out-4
+slice-write-out-4 : tie.Need-bounds-out-3
 slice-write-out-4 c = search rules
 
-shared-slice-read-t5 : tie.Need-shared-slice-read-t5
+shared-slice-read-t5 : tie.Need-bounds-row-485
 shared-slice-read-t5 c = search rules
 
-same_length : tie.Need-same-length
+same_length : tie.Need-shape_of-out
 same_length c = search rules
 
 returns : tie.Need-returns
 unfolding ecall_tuple
-returns c = (refl, sets-overwrite _ (_ ∷ _ ∷ _ ∷ _ ∷ []) c.before.before.before.requires.1)
+returns c = (refl, sets-overwrite _ (_ ∷ _ ∷ _ ∷ _ ∷ []) c.requires.1)
 
-pub ecall-tuple-spec : {M : Type 1} → statement M
-ecall-tuple-spec =
+pub ecall_tuple_spec : {M : Type 1} → statement M
+ecall_tuple_spec =
     tie.close
     (tie.spec
     shared-slice-read-out

@@ -6,18 +6,18 @@ use Rattle.keccak.proofs.Tuples.{addr-length, sent-length, received-length, is-e
 use Rattle.keccak_tuples.proofs.head_length.Statement.{statement}
 use Rattle.keccak_tuples.proofs.head_length.Tie as tie
 
-returns : tie.Need-returns
-returns c nr syscall row = length-of (is-ecall nr syscall row _ c.if1.true) (ecall-length row syscall)
+returns : tie.Need-returns-then-index-eq0
+returns c nr syscall row = length-of (is-ecall nr syscall row _ c.if-index-eq0.true) (ecall-length row syscall)
 
-returns-2 : tie.Need-returns-2
-returns-2 c nr syscall row = length-of (is-addr nr syscall row _ c.if2.true) (addr-length row)
+returns-2 : tie.Need-returns-then-index-eq1
+returns-2 c nr syscall row = length-of (is-addr nr syscall row _ c.if-index-eq1.true) (addr-length row)
 
-returns-3 : tie.Need-returns-3
+returns-3 : tie.Need-returns-else-index-eq1
 returns-3 c nr syscall row =
-    let i = c.before.before.args.index in
+    let i = c.args.index in
     by_le i 2
     (λ h. length-of (is-sent nr syscall row i (omega arith)) (sent-length row nr))
     (λ h. length-of (is-received nr syscall row i (omega arith)) (received-length row))
 
-pub head-length-spec : {M : Type 1} → statement M
-head-length-spec = tie.close (tie.spec returns returns-2 returns-3)
+pub head_length_spec : {M : Type 1} → statement M
+head_length_spec = tie.close (tie.spec returns returns-2 returns-3)

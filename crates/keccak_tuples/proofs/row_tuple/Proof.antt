@@ -9,39 +9,39 @@ use Rattle.keccak.proofs.Tuples.{is_pointer}
 use Rattle.keccak_tuples.proofs.row_tuple.Statement.{statement}
 use Rattle.keccak_tuples.proofs.row_tuple.Tie as tie
 
-pointer : (c : tie.Then2) → let s = c.before.before.before.before in
+pointer : (c : tie.Then-index-lt-ALIGN_TUPLE) → let s = c.before.before.before.before in
     core_tuple s.args.nr s.args.syscall s.args.row.now s.args.index ≡ pointer_tuple s.args.row.now ((s.args.index - 4) / 2) ((s.args.index - 4) % 2)
-pointer c = is_pointer _ _ _ _ (omega arith) c.if2.true
+pointer c = is_pointer _ _ _ _ (omega arith) c.if-index-lt-ALIGN_TUPLE.true
 
-head-tuple-requires : tie.Need-head-tuple-requires
+head-tuple-requires : tie.Need-head_tuple-requires
 head-tuple-requires c κs = search rules
 
-same_length : tie.Need-same-length
+same_length : tie.Need-shape_of-out-then-index-lt-POINTER_TUPLES
 same_length c = search rules
 
-returns : tie.Need-returns
+returns : tie.Need-returns-then-index-lt-POINTER_TUPLES
 returns c = search rules
 
-pointer-tuple-requires : tie.Need-pointer-tuple-requires
-pointer-tuple-requires c κs = let s = c.before.before.before.before.before in (s.requires.0.long, omega arith, fits _ (pointer c.before) s.requires.2)
+pointer-tuple-requires : tie.Need-pointer_tuple-requires
+pointer-tuple-requires c κs = (c.requires.0.long, omega arith, fits _ (pointer c.before) c.requires.2)
 
-same-length-2 : tie.Need-same-length-2
+same-length-2 : tie.Need-shape_of-out-then-index-lt-ALIGN_TUPLE
 same-length-2 c = search rules
 
-returns-2 : tie.Need-returns-2
-returns-2 c = as-tuple _ (pointer c.before.before.before.before) c.before.before.pointer-tuple.ensures.0 c.before.before.pointer-tuple.ensures.1
+returns-2 : tie.Need-returns-then-index-lt-ALIGN_TUPLE
+returns-2 c = as-tuple _ (pointer c.before.before.before.before) c.pointer_tuple.ensures.0 c.pointer_tuple.ensures.1
 
-tail-tuple-requires : tie.Need-tail-tuple-requires
+tail-tuple-requires : tie.Need-tail_tuple-requires
 tail-tuple-requires c κs = search rules
 
-same-length-3 : tie.Need-same-length-3
+same-length-3 : tie.Need-shape_of-out
 same-length-3 c = search rules
 
-returns-3 : tie.Need-returns-3
+returns-3 : tie.Need-returns
 returns-3 c = search rules
 
-pub row-tuple-spec : {M : Type 1} → statement M
-row-tuple-spec =
+pub row_tuple_spec : {M : Type 1} → statement M
+row_tuple_spec =
     tie.close
     (tie.spec
     head-tuple-requires

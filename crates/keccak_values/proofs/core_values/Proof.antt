@@ -13,45 +13,45 @@ use Rattle.keccak_values.proofs.core_values.Statement.{statement}
 use Rattle.keccak_values.proofs.core_values.Tie as tie
 
 -- the arguments, from the place after the checks
-abbrev Row : tie.After-enum-told → List ℕ
-Row c = c.before.before.before.before.before.args.row.now
+abbrev Row : tie.In_default → List ℕ
+Row c = c.args.row.now
 
-abbrev Out : tie.After-enum-told → List ℕ
-Out c = c.before.before.before.before.before.args.out.now
+abbrev Out : tie.In_default → List ℕ
+Out c = c.args.out.now
 
 -- what an accepted call knows
-clear : (c : tie.After-enum-told) → values_refusal 486 52 (Row c) (length (Out c)) ≡ none
-clear c = is-done _ (sym c.enum_told.given.1 ∙ c.before.before.check-values.ensures)
+clear : (c : tie.In_default) → values_refusal 486 52 (Row c) (length (Out c)) ≡ none
+clear c = is-done _ (sym c.in_default.is ∙ c.check_values.ensures)
 
-known : (c : tie.After-enum-told) → Accepted 486 52 (Row c) (length (Out c))
+known : (c : tie.In_default) → Accepted 486 52 (Row c) (length (Out c))
 known c = passed _ _ _ _ (clear c)
 
-check-values-requires : tie.Need-check-values-requires
+check-values-requires : tie.Need-check_values-requires
 check-values-requires c κs = search rules
 
-enum-known-refusal : tie.Need-enum-known-refusal
+enum-known-refusal : tie.Need-enum_known-refusal
 enum-known-refusal c = search rules
 
-returns : tie.Need-returns
-returns c = refused _ _ (is-refused _ (sym c.before.refusal.given.1 ∙ c.before.before.before.check-values.ensures))
+returns : tie.Need-returns-in-Refused
+returns c = refused _ _ (is-refused _ (sym c.in-Refused.is ∙ c.check_values.ensures))
 
-enum_told : tie.Need-enum-told
+enum_told : tie.Need-enum_told-1
 enum_told c = search rules
 
-put-core-values-requires : tie.Need-put-core-values-requires
+put-core-values-requires : tie.Need-put_core_values-requires
 put-core-values-requires c κs = let k = known c.before in (record { long = k.wide; below = k.below }, k.fits)
 
-same_length : tie.Need-same-length
+same_length : tie.Need-shape_of-out
 same_length c = search rules
 
-returns-2 : tie.Need-returns-2
+returns-2 : tie.Need-returns
 returns-2 c =
     let put = c.before.before in
-    let told = put.before.before in
-    done _ (clear told) (put.put-core-values.ensures ∙ stored _ 52 _ (known told).ranges)
+    let told = c.before.before.before.before in
+    done _ (clear told) (c.put_core_values.ensures ∙ stored _ 52 _ (known told).fits)
 
-pub core-values-spec : {M : Type 1} → statement M
-core-values-spec =
+pub core_values_spec : {M : Type 1} → statement M
+core_values_spec =
     tie.close
     (tie.spec
     check-values-requires

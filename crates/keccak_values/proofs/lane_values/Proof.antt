@@ -7,51 +7,45 @@ use Rattle.keccak_values.proofs.Values.{words-made, low_value, high_value}
 use Rattle.keccak_values.proofs.lane_values.Statement.{statement}
 use Rattle.keccak_values.proofs.lane_values.Tie as tie
 
-mul-constant : tie.Need-overflow-mul-constant
+mul-constant : tie.Need-overflow_mul-i
 mul-constant c = search rules
 
-cast-constant : tie.Need-overflow-cast-constant
+cast-constant : tie.Need-overflow_cast-i
 cast-constant c = search rules
 
 constant-requires : tie.Need-constant-requires
 constant-requires c κs = search rules
 
-add-words-requires : tie.Need-add-words-requires
-add-words-requires c κs = let row = c.before.before.args.row.now in made_in row c.constant.ensures (constant-in row _)
+add-words-requires : tie.Need-add_words-offset-requires
+add-words-requires c κs = let row = c.args.row.now in made_in row c.constant.ensures (constant-in row _)
 
-mul-from-dword-whh : tie.Need-overflow-mul-from-dword-whh
+mul-from-dword-whh : tie.Need-overflow_mul-i-2
 mul-from-dword-whh c = search rules
 
-add-from-dword-whh : tie.Need-overflow-add-from-dword-whh
+add-from-dword-whh : tie.Need-overflow_add-i
 add-from-dword-whh c = search rules
 
-from-dword-whh-requires : tie.Need-from-dword-whh-requires
+from-dword-whh-requires : tie.Need-from_dword_whh-requires
 from-dword-whh-requires c κs = search rules
 
-add-words-requires-2 : tie.Need-add-words-requires-2
+add-words-requires-2 : tie.Need-add_words-pointer-requires
 add-words-requires-2 c κs =
-    let s = c.before.before.before.before in
-    let row = s.args.row.now in
-    made_in row c.from-dword-whh.ensures (whh-in row 486 s.requires.0 _ (omega arith))
+    let row = c.args.row.now in
+    made_in row c.from_dword_whh.ensures (whh-in row 486 c.requires.0 _ (omega arith))
 
-emit-add-pair-requires : tie.Need-emit-add-pair-requires
+emit-add-pair-requires : tie.Need-emit_add_pair-requires
 emit-add-pair-requires c κs =
-    let offset = c.before.before in
-    let s = offset.before.before.before in
-    (when-in s.args.row.now 486 s.requires.0 485 (omega arith), s.requires.3, offset.add_words.ensures.1, c.add-words2.ensures.1)
+    (when-in c.args.row.now 486 c.requires.0 485 (omega arith), c.requires.3, c.add_words-offset.ensures.1, c.add_words-pointer.ensures.1)
 
 returns : tie.Need-returns
 returns c =
-    let pointer = c.before in
-    let offset = pointer.before.before in
-    let s = offset.before.before.before in
-    let row = s.args.row.now in
-    let o = words-made row offset.before.constant.ensures offset.add_words.ensures.0 in
-    let q = words-made row pointer.before.from-dword-whh.ensures pointer.add-words2.ensures.0 in
-    (c.emit-add-pair.ensures.0 ∙ low_value row s.args.i s.requires.1 s.requires.2 o q, c.emit-add-pair.ensures.1 ∙ high_value row s.args.i s.requires.1 s.requires.2 o q)
+    let row = c.args.row.now in
+    let o = words-made row c.constant.ensures c.add_words-offset.ensures.0 in
+    let q = words-made row c.from_dword_whh.ensures c.add_words-pointer.ensures.0 in
+    (c.emit_add_pair.ensures.0 ∙ low_value row c.args.i c.requires.1 c.requires.2 o q, c.emit_add_pair.ensures.1 ∙ high_value row c.args.i c.requires.1 c.requires.2 o q)
 
-pub lane-values-spec : {M : Type 1} → statement M
-lane-values-spec =
+pub lane_values_spec : {M : Type 1} → statement M
+lane_values_spec =
     tie.close
     (tie.spec
     mul-constant

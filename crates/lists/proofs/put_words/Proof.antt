@@ -14,16 +14,16 @@ use Rattle.lists.proofs.put_words.Tie as tie
 from_zero : (l words : List ℕ) (at n : ℕ) {out : List ℕ} → out ≡ sets l at (tab n (λ k. word words (0 + k))) → out ≡ sets l at (tab n (word words))
 from_zero l words at n e = e ∙ ap (sets l at) (tab-same n _ _ (λ k h. ap (word words) (zero-add k)))
 
-put-part-requires : tie.Need-put-part-requires
+put-part-requires : tie.Need-put_part-requires
 put-part-requires c κs = (omega arith, omega arith)
 
-same_length : tie.Need-same-length
+same_length : tie.Need-shape_of-row
 same_length c = search rules
 
 returns : tie.Need-returns
 returns c =
-    let a = c.before.before.before.before.before.before.args in
-    from_zero a.row.now a.words.now a.at a.n c.before.before.put-part.ensures
+    let a = c.args in
+    from_zero a.row.now a.words.now a.at a.n c.put_part.ensures
 
-pub put-words-spec : {M : Type 1} → statement M
-put-words-spec = tie.close (tie.spec put-part-requires same_length returns)
+pub put_words_spec : {M : Type 1} → statement M
+put_words_spec = tie.close (tie.spec put-part-requires same_length returns)

@@ -11,44 +11,42 @@ use Rattle.month.proofs.Totals.{sum-none, sum_more, sum-all, sum-most}
 use Rattle.month.proofs.all_operations.Statement.{statement}
 use Rattle.month.proofs.all_operations.Tie as tie
 
-abbrev invariant-loop : tie.invariant-loop
+abbrev invariant-loop : tie.invariant-loop-i
 invariant-loop counts sum₀ i₀ sum i = (i ≤ length counts) × (sum ≡ sum_below i (word counts))
 
-abbrev decreases-loop : tie.decreases-loop
+abbrev decreases-loop : tie.decreases-loop-i
 decreases-loop counts sum₀ i₀ sum i = length counts - i
 
-loop-holds : tie.Need-loop-init invariant-loop decreases-loop
+loop-holds : tie.Need-loop-i-init invariant-loop decreases-loop
 loop-holds c = (omega arith, sum-none _)
 
-mul-sum : tie.Need-overflow-mul-sum invariant-loop decreases-loop
+mul-sum : tie.Need-offset_bounds-counts-i invariant-loop decreases-loop
 mul-sum c = omega arith
 
-shared-slice-read-sum : tie.Need-shared-slice-read-sum invariant-loop decreases-loop
+shared-slice-read-sum : tie.Need-bounds-counts-i invariant-loop decreases-loop
 shared-slice-read-sum c = omega arith
 
-add-sum : tie.Need-overflow-add-sum invariant-loop decreases-loop
+add-sum : tie.Need-overflow_add-sum invariant-loop decreases-loop
 add-sum c =
-    let l = c.before.before in
-    let s = l.before in
-    let h = s.requires.1 in
-    let t = c.before.loop-test.true in
-    omega (arith, sum-most l.loop.i MAX-OPS (word s.args.counts.now) (λ k b. h k (omega (arith, b, t))), h l.loop.i t, s.requires.0)
+    let h = c.requires.1 in
+    let t = c.loop-i-test.true in
+    omega (arith, sum-most c.loop-i.i MAX-OPS (word c.args.counts.now) (λ k b. h k (omega (arith, b, t))), h c.loop-i.i t, c.requires.0)
 
-add-i : tie.Need-overflow-add-i invariant-loop decreases-loop
+add-i : tie.Need-overflow_add-i invariant-loop decreases-loop
 add-i c = omega arith
 
-loop-less : tie.Need-loop-smaller invariant-loop decreases-loop
+loop-less : tie.Need-loop-i-smaller invariant-loop decreases-loop
 loop-less c = omega arith
 
-loop-again : tie.Need-loop-preserved invariant-loop decreases-loop
-loop-again c = (omega arith, sum_more _ _ c.before.before.loop.invariant.1 refl)
+loop-again : tie.Need-loop-i-preserved invariant-loop decreases-loop
+loop-again c = (omega arith, sum_more _ _ c.loop-i.invariant.1 refl)
 
 returns : tie.Need-returns invariant-loop decreases-loop
 unfolding operations_of
-returns c = sum-all _ _ _ c.before.loop.invariant.1 c.before.loop.invariant.0 c.loop-test.false
+returns c = sum-all _ _ _ c.loop-i.invariant.1 c.loop-i.invariant.0 c.loop-i-test.false
 
-pub all-operations-spec : {M : Type 1} → statement M
-all-operations-spec =
+pub all_operations_spec : {M : Type 1} → statement M
+all_operations_spec =
     tie.close
     (tie.spec
     invariant-loop

@@ -18,42 +18,40 @@ use Rattle.month.proofs.any_past.Tie as tie
 abbrev past : List ℕ → ℕ → Bool
 past counts i = ltb MAX-OPS (word counts i)
 
-abbrev invariant-loop : tie.invariant-loop
+abbrev invariant-loop : tie.invariant-loop-i
 invariant-loop counts i₀ i = (i ≤ length counts) × (first (at_index (past counts)) i ≡ none)
 
-abbrev decreases-loop : tie.decreases-loop
+abbrev decreases-loop : tie.decreases-loop-i
 decreases-loop counts i₀ i = length counts - i
 
-loop-holds : tie.Need-loop-init invariant-loop decreases-loop
+loop-holds : tie.Need-loop-i-init invariant-loop decreases-loop
 loop-holds c = (omega arith, first-start _)
 
-mul-if1 : tie.Need-overflow-mul-if1 invariant-loop decreases-loop
+mul-if1 : tie.Need-offset_bounds-counts-i invariant-loop decreases-loop
 mul-if1 c = omega arith
 
-shared-slice-read-if1 : tie.Need-shared-slice-read-if1 invariant-loop decreases-loop
+shared-slice-read-if1 : tie.Need-bounds-counts-i invariant-loop decreases-loop
 shared-slice-read-if1 c = omega arith
 
-returns : tie.Need-returns invariant-loop decreases-loop
+returns : tie.Need-returns-then-counts-i-gt-MAX_OPS invariant-loop decreases-loop
 returns c =
-    let l = c.before.before.before in
-    sym (any-hit (past l.before.args.counts.now) l.loop.i _ c.before.before.loop-test.true l.loop.invariant.1 (lt-ltb _ _ c.if1.true))
+    sym (any-hit (past c.args.counts.now) c.loop-i.i _ c.loop-i-test.true c.loop-i.invariant.1 (lt-ltb _ _ c.if-counts-i-gt-MAX_OPS.true))
 
-add-i : tie.Need-overflow-add-i invariant-loop decreases-loop
+add-i : tie.Need-overflow_add-i invariant-loop decreases-loop
 add-i c = omega arith
 
-loop-less : tie.Need-loop-smaller invariant-loop decreases-loop
+loop-less : tie.Need-loop-i-smaller invariant-loop decreases-loop
 loop-less c = omega arith
 
-loop-again : tie.Need-loop-preserved invariant-loop decreases-loop
+loop-again : tie.Need-loop-i-preserved invariant-loop decreases-loop
 loop-again c =
-    let l = c.before.before.before in
-    (omega arith, at_more (past l.before.args.counts.now) l.loop.i l.loop.invariant.1 (le-ltb _ _ c.if1.false))
+    (omega arith, at_more (past c.args.counts.now) c.loop-i.i c.loop-i.invariant.1 (le-ltb _ _ c.if-counts-i-gt-MAX_OPS.false))
 
-returns-2 : tie.Need-returns-2 invariant-loop decreases-loop
-returns-2 c = sym (any_none _ _ _ c.before.loop.invariant.0 c.loop-test.false c.before.loop.invariant.1)
+returns-2 : tie.Need-returns invariant-loop decreases-loop
+returns-2 c = sym (any_none _ _ _ c.loop-i.invariant.0 c.loop-i-test.false c.loop-i.invariant.1)
 
-pub any-past-spec : {M : Type 1} → statement M
-any-past-spec =
+pub any_past_spec : {M : Type 1} → statement M
+any_past_spec =
     tie.close
     (tie.spec
     invariant-loop

@@ -10,44 +10,39 @@ use Rattle.month.proofs.first_words.Statement.{statement}
 use Rattle.month.proofs.first_words.Tie as tie
 
 -- the used rows
-used : (c : tie.After-all-operations) → let args = c.before.before.before.before.args in c.all-operations.result * args.nr ≡ used_of args.nr args.counts.now
+used : (c : tie.After-all_operations-ops) → let args = c.args in c.all_operations-ops.result * args.nr ≡ used_of args.nr args.counts.now
 used c =
-    let args = c.before.before.before.before.args in
-    ap (λ (n : ℕ). n * args.nr) c.all-operations.ensures ∙ sym (used-is args.nr args.floor args.counts.now)
+    let args = c.args in
+    ap (λ (n : ℕ). n * args.nr) c.all_operations-ops.ensures ∙ sym (used-is args.nr args.floor args.counts.now)
 
-rows-shown-requires : tie.Need-rows-shown-requires
+rows-shown-requires : tie.Need-rows_shown-full-requires
 rows-shown-requires c κs = search rules
 
-rows-shown-requires-2 : tie.Need-rows-shown-requires-2
+rows-shown-requires-2 : tie.Need-rows_shown-empty-requires
 rows-shown-requires-2 c κs = search rules
 
-all-operations-requires : tie.Need-all-operations-requires
+all-operations-requires : tie.Need-all_operations-ops-requires
 all-operations-requires c κs = search rules
 
-mul-used : tie.Need-overflow-mul-used
+mul-used : tie.Need-overflow_mul-used
 mul-used c =
-    let s = c.before.before.before.before in
     let e = used c in
-    omega (arith, e, used-sum-most _ _ _ s.requires, s.requires.few)
+    omega (arith, e, used-sum-most _ _ _ c.requires, c.requires.few)
 
-all-rows-requires : tie.Need-all-rows-requires
+all-rows-requires : tie.Need-all_rows-requires
 all-rows-requires c κs = search rules
 
-sub-padding : tie.Need-overflow-sub-padding
+sub-padding : tie.Need-overflow_sub-padding
 sub-padding c =
-    let s = c.before.before.before.before.before in
     let e = used c.before in
-    omega (arith, e, c.all-rows.ensures, used-and-padding s.args.nr s.args.floor s.args.counts.now)
+    omega (arith, e, c.all_rows.ensures, used-and-padding c.args.nr c.args.floor c.args.counts.now)
 
 returns : tie.Need-returns
 returns c =
-    let o = c.before in
-    let e = o.before in
-    let f = e.before in
-    first-eight _ _ _ o.all-operations.ensures refl c.all-rows.ensures f.rows-shown.ensures.0 f.rows-shown.ensures.1 e.rows-shown2.ensures.0 e.rows-shown2.ensures.1
+    first-eight _ _ _ c.all_operations-ops.ensures refl c.all_rows.ensures c.rows_shown-full.ensures.0 c.rows_shown-full.ensures.1 c.rows_shown-empty.ensures.0 c.rows_shown-empty.ensures.1
 
-pub first-words-spec : {M : Type 1} → statement M
-first-words-spec =
+pub first_words_spec : {M : Type 1} → statement M
+first_words_spec =
     tie.close
     (tie.spec
     rows-shown-requires

@@ -9,33 +9,25 @@ use Rattle.month.proofs.Heights.{product-fits}
 use Rattle.month.proofs.is_fuller.Statement.{statement}
 use Rattle.month.proofs.is_fuller.Tie as tie
 
-rows-of-requires : tie.Need-rows-of-requires
+rows-of-requires : tie.Need-rows_of-a-requires
 rows-of-requires c κs = search rules
 
-rows-of-requires-2 : tie.Need-rows-of-requires-2
+rows-of-requires-2 : tie.Need-rows_of-b-requires
 rows-of-requires-2 c κs = search rules
 
-mul-result : tie.Need-overflow-mul-result
+mul-result : tie.Need-overflow_mul-result
 mul-result c =
-    let b = c.before.before in
-    let a = b.before in
-    let s = a.before in
-    omega (arith, product-fits s.args.nr s.args.floor s.args.m s.args.n s.requires.0 s.requires.1 s.requires.3 s.requires.2 b.rows-of2.ensures.0 a.rows_of_lem.ensures.1)
+    omega (arith, product-fits c.args.nr c.args.floor c.args.m c.args.n c.requires.0 c.requires.1 c.requires.3 c.requires.2 c.rows_of-b.ensures.0 c.rows_of-a.ensures.1)
 
-mul-result-2 : tie.Need-overflow-mul-result-2
+mul-result-2 : tie.Need-overflow_mul-result-2
 mul-result-2 c =
-    let b = c.before.before.before.before in
-    let a = b.before in
-    let s = a.before in
-    omega (arith, product-fits s.args.nr s.args.floor s.args.n s.args.m s.requires.0 s.requires.1 s.requires.2 s.requires.3 a.rows_of_lem.ensures.0 b.rows-of2.ensures.1)
+    omega (arith, product-fits c.args.nr c.args.floor c.args.n c.args.m c.requires.0 c.requires.1 c.requires.2 c.requires.3 c.rows_of-a.ensures.0 c.rows_of-b.ensures.1)
 
 returns : tie.Need-returns
 unfolding fuller
 returns c =
-    let b = c.before.before.before.before in
-    let a = b.before in
-    ap₂ ltb (ap₂ ◌*◌ b.rows-of2.ensures.0 a.rows_of_lem.ensures.1) (ap₂ ◌*◌ a.rows_of_lem.ensures.0 b.rows-of2.ensures.1)
+    ap₂ ltb (ap₂ ◌*◌ c.rows_of-b.ensures.0 c.rows_of-a.ensures.1) (ap₂ ◌*◌ c.rows_of-a.ensures.0 c.rows_of-b.ensures.1)
 
-pub is-fuller-spec : {M : Type 1} → statement M
-is-fuller-spec =
+pub is_fuller_spec : {M : Type 1} → statement M
+is_fuller_spec =
     tie.close (tie.spec rows-of-requires rows-of-requires-2 mul-result mul-result-2 returns)

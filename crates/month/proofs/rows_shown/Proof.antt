@@ -9,37 +9,36 @@ use Rattle.month.proofs.Fullness.{shown-best, shown-none, shown-some}
 use Rattle.month.proofs.rows_shown.Statement.{statement}
 use Rattle.month.proofs.rows_shown.Tie as tie
 
-returns : tie.Need-returns
+returns : tie.Need-returns-then-counts-eq0
 returns c =
-    let s = c.before.before in
-    let e = shown-none s.args.full s.args.nr s.args.floor s.args.counts.now c.if1.true in
-    (sym (ap (shown (used_at s.args.nr s.args.counts.now)) e), sym (ap (shown (total_at s.args.nr s.args.floor s.args.counts.now)) e))
+    let e = shown-none c.args.full c.args.nr c.args.floor c.args.counts.now c.if-counts-eq0.true in
+    (sym (ap (shown (used_at c.args.nr c.args.counts.now)) e), sym (ap (shown (total_at c.args.nr c.args.floor c.args.counts.now)) e))
 
-first-unbeaten-requires : tie.Need-first-unbeaten-requires
+first-unbeaten-requires : tie.Need-first_unbeaten-i-requires
 first-unbeaten-requires c κs = search rules
 
 -- it is in the list
-there : (c : tie.After-first-unbeaten) → c.first-unbeaten.result < length c.before.before.before.args.counts.now
-there c = let s = c.before.before.before in ((shown-best s.args.full s.args.nr s.args.floor s.args.counts.now _).0 c.first-unbeaten.ensures).there
+there : (c : tie.After-first_unbeaten-i) → c.first_unbeaten-i.result < length c.args.counts.now
+there c = let s = c.before.before.before in ((shown-best s.args.full s.args.nr s.args.floor s.args.counts.now _).0 c.first_unbeaten-i.ensures).there
 
-mul-rows-of : tie.Need-overflow-mul-rows-of
+mul-rows-of : tie.Need-offset_bounds-counts-i
 mul-rows-of c = omega (arith, there c)
 
-shared-slice-read-rows-of : tie.Need-shared-slice-read-rows-of
+shared-slice-read-rows-of : tie.Need-bounds-counts-i
 shared-slice-read-rows-of c = there c.before
 
-rows-of-requires : tie.Need-rows-of-requires
+rows-of-requires : tie.Need-rows_of-requires
 rows-of-requires c κs =
-    let p = c.before.before.before.before.requires in
+    let p = c.requires in
     (p.most-rounds, p.power, p.each _ (there c.before))
 
-returns-2 : tie.Need-returns-2
+returns-2 : tie.Need-returns
 returns-2 c =
-    let e = c.before.before.first-unbeaten.ensures in
-    (shown-some _ _ e c.rows_of_lem.ensures.0, shown-some _ _ e c.rows_of_lem.ensures.1)
+    let e = c.first_unbeaten-i.ensures in
+    (shown-some _ _ e c.rows_of.ensures.0, shown-some _ _ e c.rows_of.ensures.1)
 
-pub rows-shown-spec : {M : Type 1} → statement M
-rows-shown-spec =
+pub rows_shown_spec : {M : Type 1} → statement M
+rows_shown_spec =
     tie.close
     (tie.spec
     returns

@@ -1,7 +1,6 @@
 -- `op_list::put_records` meets its contract: after i turns i records are stored.
 use Prim.Native.Nat.{ℕ, ◌+◌, ◌-◌, ◌*◌, ◌≤◌}
 use mathlib.Core.Path.{◌≡◌, refl, sym, ap, ◌∙◌}
-use mathlib.Core.List.{List, ◌++◌}
 use native.Mathlib.Nat.{zero-add}
 use native.Mathlib.Omega.{arith}
 use lib.ListN.{length}
@@ -17,65 +16,57 @@ use Rattle.op_list.proofs.Files.{record_for, records-more, bytes-more, bytes-gro
 use Rattle.op_list.proofs.put_records.Statement.{statement}
 use Rattle.op_list.proofs.put_records.Tie as tie
 
-abbrev invariant-loop : tie.invariant-loop
+abbrev invariant-loop : tie.invariant-loop-i
 invariant-loop ops n file₀ to₀ i₀ file to i = (i ≤ n) × (to ≡ bytes_for ops i) × (file ≡ sets file₀ 0 (bytes_of (records_for ops i)))
 
-abbrev decreases-loop : tie.decreases-loop
+abbrev decreases-loop : tie.decreases-loop-i
 decreases-loop ops n file₀ to₀ i₀ file to i = n - i
 
-loop-holds : tie.Need-loop-init invariant-loop decreases-loop
+loop-holds : tie.Need-loop-i-init invariant-loop decreases-loop
 unfolding bytes_for sum_below tab tab_from bytes_of
 loop-holds c = (omega arith, refl, refl)
 
-mul-write-operation : tie.Need-overflow-mul-write-operation invariant-loop decreases-loop
+mul-write-operation : tie.Need-overflow_mul-i invariant-loop decreases-loop
 mul-write-operation c = omega arith
 
 -- the list and the file keep their lengths, and there is room for one more record
-write-operation-requires : tie.Need-write-operation-requires invariant-loop decreases-loop
+write-operation-requires : tie.Need-write_operation-to-requires invariant-loop decreases-loop
 write-operation-requires c κs =
-    let at = c.before.before in
-    let st = at.before.before.before in
-    let ops = st.args.ops.now in
-    let i = at.loop.i in
-    let k = st.args.n - (i + 1) in
-    let e : i + 1 + k ≡ st.args.n = omega arith in
-    (omega arith, omega (arith, at.loop.invariant.1, bytes-more ops i, bytes-grow ops (i + 1) k, ap (bytes_for ops) e, st.requires.1, ap length at.loop.invariant.2, length-sets st.args.file.now 0 (bytes_of (records_for ops i))))
+    let ops = c.args.ops.now in
+    let i = c.loop-i.i in
+    let k = c.args.n - (i + 1) in
+    let e : i + 1 + k ≡ c.args.n = omega arith in
+    (omega arith, omega (arith, c.loop-i.invariant.1, bytes-more ops i, bytes-grow ops (i + 1) k, ap (bytes_for ops) e, c.requires.1, ap length c.loop-i.invariant.2, length-sets c.args.file.now 0 (bytes_of (records_for ops i))))
 
-add-i : tie.Need-overflow-add-i invariant-loop decreases-loop
+add-i : tie.Need-overflow_add-i invariant-loop decreases-loop
 add-i c = omega arith
 
-loop-less : tie.Need-loop-smaller invariant-loop decreases-loop
+loop-less : tie.Need-loop-i-smaller invariant-loop decreases-loop
 loop-less c = omega arith
 
-loop-again : tie.Need-loop-preserved invariant-loop decreases-loop
+loop-again : tie.Need-loop-i-preserved invariant-loop decreases-loop
 loop-again c =
-    let at = c.before.before.before.before.before in
-    let st = at.before.before.before in
-    let ops = st.args.ops.now in
-    let i = at.loop.i in
-    let w = c.before.before.write-operation.ensures in
+    let ops = c.args.ops.now in
+    let i = c.loop-i.i in
+    let w = c.write_operation-to.ensures in
     let here = bytes_of (records_for ops i) in
-    let to : at.loop.to ≡ 0 + length here = at.loop.invariant.1 ∙ sym (for-length ops i) ∙ sym (zero-add (length here)) in (
+    let to : c.loop-i.to ≡ 0 + length here = c.loop-i.invariant.1 ∙ sym (for-length ops i) ∙ sym (zero-add (length here)) in (
       omega arith,
-      w.1 ∙ ap (λ (k : ℕ). k + record_size (is_numbered (words_from ops (i * OP-WORDS)))) at.loop.invariant.1 ∙ bytes-more ops i,
-      w.0 ∙ (λ t. sets (at.loop.invariant.2 t) (to t) (record_for ops i)) ∙ sets-append st.args.file.now 0 here (record_for ops i) ∙ ap (sets st.args.file.now 0) (records-more ops i),
+      w.1 ∙ ap (λ (k : ℕ). k + record_size (is_numbered (words_from ops (i * OP-WORDS)))) c.loop-i.invariant.1 ∙ bytes-more ops i,
+      w.0 ∙ (λ t. sets (c.loop-i.invariant.2 t) (to t) (record_for ops i)) ∙ sets-append c.args.file.now 0 here (record_for ops i) ∙ ap (sets c.args.file.now 0) (records-more ops i),
     )
 
-same_length : tie.Need-same-length invariant-loop decreases-loop
+same_length : tie.Need-shape_of-file invariant-loop decreases-loop
 same_length c =
-    let at = c.before in
-    let st = at.before.before.before in
-    ap length at.loop.invariant.2 ∙ length-sets st.args.file.now 0 (bytes_of (records_for st.args.ops.now at.loop.i))
+    ap length c.loop-i.invariant.2 ∙ length-sets c.args.file.now 0 (bytes_of (records_for c.args.ops.now c.loop-i.i))
 
 returns : tie.Need-returns invariant-loop decreases-loop
 returns c =
-    let at = c.before in
-    let st = at.before.before.before in
-    let e : at.loop.i ≡ st.args.n = omega arith in
-    at.loop.invariant.2 ∙ ap (λ (k : ℕ). sets st.args.file.now 0 (bytes_of (records_for st.args.ops.now k))) e
+    let e : c.loop-i.i ≡ c.args.n = omega arith in
+    c.loop-i.invariant.2 ∙ ap (λ (k : ℕ). sets c.args.file.now 0 (bytes_of (records_for c.args.ops.now k))) e
 
-pub put-records-spec : {M : Type 1} → statement M
-put-records-spec =
+pub put_records_spec : {M : Type 1} → statement M
+put_records_spec =
     tie.close
     (tie.spec
     invariant-loop

@@ -19,74 +19,74 @@ use Rattle.op_list.proofs.read_operations.Tie as tie
 
 -- the file, and what reading it through said
 abbrev File : tie.After-finish → List ℕ
-File k = k.before.before.before.before.before.args.file.now
+File k = k.args.file.now
 
 said : (k : tie.After-finish) → k.finish.result ≡ tally_of 4 false 0 (File k)
 said k =
     k.finish.ensures
-    ∙ ap (finish_of 4 false) (k.before.feed.ensures ∙ ap (λ (c : Cursor). feed_of c (File k)) k.before.before.start.ensures)
+    ∙ ap (finish_of 4 false) (k.feed-read.ensures ∙ ap (λ (c : Cursor). feed_of c (File k)) k.start.ensures)
     ∙ reads-file 4 false 0 (File k)
 
 -- where it said no fault: there is none, and the records counted and left out are all of them
-counted : (k : tie.After-sums) →
-    let file = File k.before.before in
-    let sums = k.sums.given.0.0 in
+counted : (k : tie.In-Counted) →
+    let file = File k.before in
+    let sums = k.in-Counted.sums in
     (first_fault 0 0 (records_of file) ≡ none) × (sums.ops + sums.unaligned ≡ length (records_of file))
-counted k = told-file (File k.before.before) (sym k.sums.given.1 ∙ said k.before.before)
+counted k = told-file (File k.before) (sym k.in-Counted.is ∙ said k.before)
 
 -- so many words can be counted
-fits : (k : tie.After-sums) → let sums = k.sums.given.0.0 in (sums.ops + sums.unaligned) * 418 ≤ length (File k.before.before)
-fits k = let q = counted k in let n = q.1 in omega (arith, n, count_fits (File k.before.before) q.0)
+fits : (k : tie.In-Counted) → let sums = k.in-Counted.sums in (sums.ops + sums.unaligned) * 418 ≤ length (File k.before)
+fits k = let q = counted k in let n = q.1 in omega (arith, n, count_fits (File k.before) q.0)
 
 start-requires : tie.Need-start-requires
 start-requires c κs = search rules
 
-feed-requires : tie.Need-feed-requires
+feed-requires : tie.Need-feed-read-requires
 feed-requires c κs = search rules
 
 finish-requires : tie.Need-finish-requires
 finish-requires c κs = search rules
 
-enum-known-refusal : tie.Need-enum-known-refusal
+enum-known-refusal : tie.Need-enum_known-refusal
 enum-known-refusal c = search rules
 
-enum-known-sums : tie.Need-enum-known-sums
+enum-known-sums : tie.Need-enum_known-sums
 enum-known-sums c = search rules
 
-add-n : tie.Need-overflow-add-n
-add-n c = omega (arith, fits c.before.before)
+add-n : tie.Need-overflow_add-n
+add-n c = omega (arith, fits c.before)
 
-mul-if1 : tie.Need-overflow-mul-if1
-mul-if1 c = omega (arith, fits c.before.before)
+mul-if1 : tie.Need-overflow_mul-n
+mul-if1 c = omega (arith, fits c.before)
 
-mul-t15 : tie.Need-overflow-mul-t15
-mul-t15 c = omega (arith, fits c.before.before.before)
+mul-t15 : tie.Need-overflow_mul-result
+mul-t15 c = omega (arith, fits c.before.before)
 
-returns : tie.Need-returns
+returns : tie.Need-returns-then-ops-n
 returns c =
-    let k = c.before.before.before in
+    let k = c.before.before in
     let q = counted k in
-    refused _ _ (read_short (File k.before.before) _ _ q.0 q.1 c.if1.true)
+    refused _ _ (read_short (File k.before) _ _ q.0 q.1 c.if-ops-n.true)
 
-put-operations-requires : tie.Need-put-operations-requires
-put-operations-requires c κs = let q = counted c.before.before.before.before in (q.0, q.1, c.before.if1.false)
+put-operations-requires : tie.Need-put_operations-requires
+put-operations-requires c κs = let q = counted c.before.before.before in (q.0, q.1, c.if-ops-n.false)
 
-returns-2 : tie.Need-returns-2
-returns-2 c = refused _ _ (read-fault _ _ (told-fault _ (sym c.before.refusal.given.1 ∙ said c.before.before.before)))
+returns-2 : tie.Need-returns-in-Refused
+returns-2 c = refused _ _ (read-fault _ _ (told-fault _ (sym c.in-Refused.is ∙ said c.before)))
 
-same_length : tie.Need-same-length
+same_length : tie.Need-shape_of-ops
 same_length c = search rules
 
-returns-3 : tie.Need-returns-3
+returns-3 : tie.Need-returns-else-ops-n
 returns-3 c =
     let put = c.before.before in
     let left = put.before.before in
-    let k = left.before.before.before in
+    let k = c.before.before.before.before.before.before in
     let q = counted k in
-    done _ (read-accepted (File k.before.before) _ _ q.0 q.1 left.if1.false) (read-words (File k.before.before) _ _ q.1 left.if1.false put.put-operations.ensures)
+    done _ (read-accepted (File k.before) _ _ q.0 q.1 c.if-ops-n.false) (read-words (File k.before) _ _ q.1 c.if-ops-n.false c.put_operations.ensures)
 
-pub read-operations-spec : {M : Type 1} → statement M
-read-operations-spec =
+pub read_operations_spec : {M : Type 1} → statement M
+read_operations_spec =
     tie.close
     (tie.spec
     start-requires

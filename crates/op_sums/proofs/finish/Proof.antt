@@ -17,7 +17,7 @@ use borrow.Author.Rules.{rules}
 use Rattle.op_sums.proofs.finish.Statement.{statement}
 use Rattle.op_sums.proofs.finish.Tie as tie
 
-check-floor-requires : tie.Need-check-floor-requires
+check-floor-requires : tie.Need-check_floor-requires
 check-floor-requires c κs = search rules
 
 -- what the check says
@@ -28,21 +28,21 @@ refused floor shipped c e q = ap (λ (o : Option Refusal). checked o (end_of flo
 passed : (floor : ℕ) {a : Answer} → a ≡ answer_of (not_floor floor accepted) → a ≡ Done → PowerFloor floor
 passed floor e q = (floor-accepted floor).0 (is-done _ (sym q ∙ e))
 
-enum-known-refusal : tie.Need-enum-known-refusal
+enum-known-refusal : tie.Need-enum_known-refusal
 enum-known-refusal c = search rules
 
-returns : tie.Need-returns
-returns c = refused _ _ _ c.before.before.before.check-floor.ensures c.before.refusal.given.1
+returns : tie.Need-returns-in-Refused
+returns c = refused _ _ _ c.check_floor.ensures c.in-Refused.is
 
-enum_told : tie.Need-enum-told
+enum_told : tie.Need-enum_told-1
 enum_told c = search rules
 
 ended-requires : tie.Need-ended-requires
-ended-requires c κs = floor-most _ (passed _ c.before.before.check-floor.ensures c.enum_told.given.1)
+ended-requires c κs = floor-most _ (passed _ c.check_floor.ensures c.in_default.is)
 
-returns-2 : tie.Need-returns-2
+returns-2 : tie.Need-returns
 returns-2 c =
-    c.ended.ensures ∙ sym (floor-ends _ _ (passed _ c.before.before.before.check-floor.ensures c.before.enum_told.given.1) _)
+    c.ended.ensures ∙ sym (floor-ends _ _ (passed _ c.check_floor.ensures c.in_default.is) _)
 
 pub finish_spec : {M : Type 1} → statement M
 finish_spec = tie.close (tie.spec check-floor-requires enum-known-refusal returns enum_told ended-requires returns-2)

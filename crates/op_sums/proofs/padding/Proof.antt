@@ -6,23 +6,23 @@ use borrow.Author.Rules.{rules}
 use Rattle.op_sums.proofs.padding.Statement.{statement}
 use Rattle.op_sums.proofs.padding.Tie as tie
 
-mul-sent : tie.Need-overflow-mul-sent
+mul-sent : tie.Need-overflow_mul-sent
 mul-sent c = search rules
 
-sub-sent : tie.Need-overflow-sub-sent
+sub-sent : tie.Need-overflow_sub-sent
 sub-sent c = omega (arith, c.requires.1)
 
-mul-sent-2 : tie.Need-overflow-mul-sent-2
+mul-sent-2 : tie.Need-overflow_mul-sent-2
 mul-sent-2 c = omega (arith, c.requires.2)
 
-returns : tie.Need-returns
-returns c = ((λ floor e. padding-shipped floor _ c.if1.true e), omega (arith, c.before.requires.2))
+returns : tie.Need-returns-then-shipped
+returns c = ((λ floor e. padding-shipped floor _ c.if-shipped.true e), omega (arith, c.requires.2))
 
-returns-2 : tie.Need-returns-2
-returns-2 c = ((λ floor e. padding-empty floor _ c.before.if1.false c.if2.true), omega arith)
+returns-2 : tie.Need-returns-then-n-eq0
+returns-2 c = ((λ floor e. padding-empty floor _ c.if-shipped.false c.if-n-eq0.true), omega arith)
 
-returns-3 : tie.Need-returns-3
-returns-3 c = ((λ floor e. padding-else floor _ c.before.if1.false c.if2.false e), omega (arith, c.before.before.requires.2))
+returns-3 : tie.Need-returns
+returns-3 c = ((λ floor e. padding-else floor _ c.if-shipped.false c.if-n-eq0.false e), omega (arith, c.requires.2))
 
-pub padding-spec : {M : Type 1} → statement M
-padding-spec = tie.close (tie.spec mul-sent sub-sent mul-sent-2 returns returns-2 returns-3)
+pub padding_spec : {M : Type 1} → statement M
+padding_spec = tie.close (tie.spec mul-sent sub-sent mul-sent-2 returns returns-2 returns-3)

@@ -4,13 +4,13 @@ use borrow.Author.Tests.{eq-eqb, ne_eqb}
 use Rattle.op_sums.proofs.tell.Statement.{statement}
 use Rattle.op_sums.proofs.tell.Tie as tie
 
-returns : tie.Need-returns
+returns : tie.Need-returns-then-s-eq0
 unfolding told
-returns c = simp (eq-eqb _ _ c.if1.true)
+returns c = simp (eq-eqb _ _ c.if-s-eq0.true)
 
-returns-2 : tie.Need-returns-2
+returns-2 : tie.Need-returns
 unfolding told
-returns-2 c = simp (ne_eqb _ _ c.if1.false)
+returns-2 c = simp (ne_eqb _ _ c.if-s-eq0.false)
 
-pub tell-spec : {M : Type 1} → statement M
-tell-spec = tie.close (tie.spec returns returns-2)
+pub tell_spec : {M : Type 1} → statement M
+tell_spec = tie.close (tie.spec returns returns-2)

@@ -3,11 +3,11 @@ use borrow.Author.Rules.{rules}
 use Rattle.permutation.proofs.from_planes.Statement.{statement}
 use Rattle.permutation.proofs.from_planes.Tie as tie
 
-joined-requires : tie.Need-joined-requires
+joined-requires : tie.Need-joined-lanes-requires
 joined-requires c κs = search rules
 
 returns : tie.Need-returns
-returns c = c.joined.ensures
+returns c = c.joined-lanes.ensures
 
-pub from-planes-spec : {M : Type 1} → statement M
-from-planes-spec = tie.close (tie.spec joined-requires returns)
+pub from_planes_spec : {M : Type 1} → statement M
+from_planes_spec = tie.close (tie.spec joined-requires returns)

@@ -8,21 +8,20 @@ use Rattle.fips202.proofs.Tables.{constant-below}
 use Rattle.permutation.proofs.iota.Statement.{statement}
 use Rattle.permutation.proofs.iota.Tie as tie
 
-array-read-lanes : tie.Need-array-read-lanes
+array-read-lanes : tie.Need-bounds-lanes-0
 array-read-lanes c = search rules
 
-round-constant-requires : tie.Need-round-constant-requires
+round-constant-requires : tie.Need-round_constant-requires
 round-constant-requires c κs = search rules
 
-array-write-lanes : tie.Need-array-write-lanes
+array-write-lanes : tie.Need-bounds-lanes-0-2
 array-write-lanes c = search rules
 
 returns : tie.Need-returns
 returns c =
-    let start = c.before in
-    let a = start.args.a in
-    let r = start.args.r in
-    iota-set r a _ (search rules) (ap (bit_xor (get_or a 0 0)) (c.round-constant.ensures ∙ constant-below r start.requires))
+    let a = c.args.a in
+    let r = c.args.r in
+    iota-set r a _ (search rules) (ap (bit_xor (get_or a 0 0)) (c.round_constant.ensures ∙ constant-below r c.requires))
 
-pub iota-spec : {M : Type 1} → statement M
-iota-spec = tie.close (tie.spec array-read-lanes round-constant-requires array-write-lanes returns)
+pub iota_spec : {M : Type 1} → statement M
+iota_spec = tie.close (tie.spec array-read-lanes round-constant-requires array-write-lanes returns)

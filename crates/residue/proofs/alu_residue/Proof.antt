@@ -5,27 +5,27 @@ use Rattle.residue.proofs.Stored.{of-op}
 use Rattle.residue.proofs.alu_residue.Statement.{statement}
 use Rattle.residue.proofs.alu_residue.Tie as tie
 
-enum_told : tie.Need-enum-told
+enum_told : tie.Need-enum_told-1
 enum_told c = search rules
 
-and-residue-requires : tie.Need-and-residue-requires
+and-residue-requires : tie.Need-and_residue-requires
 and-residue-requires c κs = search rules
 
-enum-told-2 : tie.Need-enum-told-2
+enum-told-2 : tie.Need-enum_told-in-Xor
 enum-told-2 c = search rules
 
-xor-residue-requires : tie.Need-xor-residue-requires
+xor-residue-requires : tie.Need-xor_residue-requires
 xor-residue-requires c κs = search rules
 
-returns : tie.Need-returns
+returns : tie.Need-returns-in-And
 unfolding op_number
-returns c = of-op _ _ _ _ c.before.enum_told.given.1 c.and-residue.ensures
+returns c = of-op _ _ _ _ c.in-And.is c.and_residue.ensures
 
-returns-2 : tie.Need-returns-2
+returns-2 : tie.Need-returns-in-Xor
 unfolding op_number
-returns-2 c = of-op _ _ _ _ c.before.enum-told2.given.1 c.xor-residue.ensures
+returns-2 c = of-op _ _ _ _ c.in-Xor.is c.xor_residue.ensures
 
-pub alu-residue-spec : {M : Type 1} → statement M
-alu-residue-spec =
+pub alu_residue_spec : {M : Type 1} → statement M
+alu_residue_spec =
     tie.close
     (tie.spec enum_told and-residue-requires enum-told-2 xor-residue-requires returns returns-2)

@@ -5,12 +5,12 @@ use Rattle.residue.specs.Residue.{residue_on, alu_residue, bytes_residue}
 use Rattle.residue.proofs.xor_residue.Statement.{statement}
 use Rattle.residue.proofs.xor_residue.Tie as tie
 
-returns : tie.Need-returns
-returns c = idle _ c.if1.true
+returns : tie.Need-returns-then-multiplicity-eq0
+returns c = idle _ c.if-multiplicity-eq0.true
 
-returns-2 : tie.Need-returns-2
+returns-2 : tie.Need-returns
 unfolding residue_on alu_residue bytes_residue alu_op
-returns-2 c = sent _ c.if1.false
+returns-2 c = sent _ c.if-multiplicity-eq0.false
 
-pub xor-residue-spec : {M : Type 1} → statement M
-xor-residue-spec = tie.close (tie.spec returns returns-2)
+pub xor_residue_spec : {M : Type 1} → statement M
+xor_residue_spec = tie.close (tie.spec returns returns-2)

@@ -16,44 +16,44 @@ use Rattle.same_operations.proofs.Rising.{ahead_none}
 use Rattle.same_operations.proofs.first_record.Statement.{statement}
 use Rattle.same_operations.proofs.first_record.Tie as tie
 
-abbrev invariant-loop : tie.invariant-loop
+abbrev invariant-loop : tie.invariant-loop-i
 invariant-loop core file n p top₀ next₀ from₀ i₀ top next from i = (p.records ≤ i) × (i ≤ n) × Stands file i from × Ahead core file p i top next × (first (at_index (alone (file_run file) (core_run core))) i ≡ none)
 
-abbrev decreases-loop : tie.decreases-loop
+abbrev decreases-loop : tie.decreases-loop-i
 decreases-loop core file n p top₀ next₀ from₀ i₀ top next from i = n - i
 
-loop-holds : tie.Need-loop-init invariant-loop decreases-loop
-loop-holds c = (omega arith, omega (arith, c.before.before.requires.1, c.before.before.requires.0.stands.there), c.before.before.requires.0.stands, ahead_none _ _ _ c.before.before.requires.0.within, records-passed _ _ c.before.before.requires.0)
+loop-holds : tie.Need-loop-i-init invariant-loop decreases-loop
+loop-holds c = (omega arith, omega (arith, c.requires.1, c.requires.0.stands.there), c.requires.0.stands, ahead_none _ _ _ c.requires.0.within, records-passed _ _ c.requires.0)
 
 -- record i is there
-there : (c : tie.In-loop invariant-loop decreases-loop) → c.before.loop.i < length (records_of c.before.before.before.before.args.file.now)
-there c = omega (arith, c.before.before.before.before.requires.1, c.loop-test.true)
+there : (c : tie.In-loop-i invariant-loop decreases-loop) → c.loop-i.i < length (records_of c.args.file.now)
+there c = omega (arith, c.requires.1, c.loop-i-test.true)
 
-look-requires : tie.Need-look-requires invariant-loop decreases-loop
-look-requires c κs = (c.before.before.before.before.requires.0, c.before.loop.invariant.2, c.before.loop.invariant.0, there c, c.before.loop.invariant.3)
+look-requires : tie.Need-look-t-requires invariant-loop decreases-loop
+look-requires c κs = (c.requires.0, c.loop-i.invariant.2, c.loop-i.invariant.0, there c, c.loop-i.invariant.3)
 
-returns : tie.Need-returns invariant-loop decreases-loop
+returns : tie.Need-returns-then-t invariant-loop decreases-loop
 unfolding file_run
-returns c = sym (ap place_of (at-hit _ _ _ (there c.before.before) c.before.before.before.loop.invariant.4 (sym c.before.look.ensures.0 ∙ c.if1.true)))
+returns c = sym (ap place_of (at-hit _ _ _ (there c.before.before) c.loop-i.invariant.4 (sym c.look-t.ensures.0 ∙ c.if-t.true)))
 
-next-start-requires : tie.Need-next-start-requires invariant-loop decreases-loop
-next-start-requires c κs = stands-long _ c.before.before.before.loop.invariant.2 (there c.before.before)
+next-start-requires : tie.Need-next_start-from-requires invariant-loop decreases-loop
+next-start-requires c κs = stands-long _ c.loop-i.invariant.2 (there c.before.before)
 
-add-i : tie.Need-overflow-add-i invariant-loop decreases-loop
+add-i : tie.Need-overflow_add-i invariant-loop decreases-loop
 add-i c = omega arith
 
-loop-less : tie.Need-loop-smaller invariant-loop decreases-loop
+loop-less : tie.Need-loop-i-smaller invariant-loop decreases-loop
 loop-less c = omega arith
 
-loop-again : tie.Need-loop-preserved invariant-loop decreases-loop
-loop-again c = (omega arith, omega arith, stands-next _ c.before.before.before.before.loop.invariant.2 (there c.before.before.before) c.next_start.ensures, c.before.before.look.ensures.1, at_more _ _ c.before.before.before.before.loop.invariant.4 (sym c.before.before.look.ensures.0 ∙ c.before.if1.false))
+loop-again : tie.Need-loop-i-preserved invariant-loop decreases-loop
+loop-again c = (omega arith, omega arith, stands-next _ c.loop-i.invariant.2 (there c.before.before.before) c.next_start-from.ensures, c.look-t.ensures.1, at_more _ _ c.loop-i.invariant.4 (sym c.look-t.ensures.0 ∙ c.if-t.false))
 
-returns-2 : tie.Need-returns-2 invariant-loop decreases-loop
+returns-2 : tie.Need-returns invariant-loop decreases-loop
 unfolding file_run
-returns-2 c = sym (ap place_of (at_none _ _ _ (omega (arith, c.before.before.before.before.requires.1, c.before.loop.invariant.1)) (omega (arith, c.before.before.before.before.requires.1, c.loop-test.false)) c.before.loop.invariant.4))
+returns-2 c = sym (ap place_of (at_none _ _ _ (omega (arith, c.requires.1, c.loop-i.invariant.1)) (omega (arith, c.requires.1, c.loop-i-test.false)) c.loop-i.invariant.4))
 
-pub first-record-spec : {M : Type 1} → statement M
-first-record-spec =
+pub first_record_spec : {M : Type 1} → statement M
+first_record_spec =
     tie.close
     (tie.spec
     invariant-loop

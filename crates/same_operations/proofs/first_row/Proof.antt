@@ -11,37 +11,37 @@ use Rattle.same_operations.proofs.Agree.{rows-passed}
 use Rattle.same_operations.proofs.first_row.Statement.{statement}
 use Rattle.same_operations.proofs.first_row.Tie as tie
 
-abbrev invariant-loop : tie.invariant-loop
+abbrev invariant-loop : tie.invariant-loop-r
 invariant-loop core file n p rows r₀ r = (p.rows ≤ r) × (r ≤ rows) × (first (at_index (alone (core_run core) (file_run file))) r ≡ none)
 
-abbrev decreases-loop : tie.decreases-loop
+abbrev decreases-loop : tie.decreases-loop-r
 decreases-loop core file n p rows r₀ r = rows - r
 
-loop-holds : tie.Need-loop-init invariant-loop decreases-loop
-loop-holds c = (omega arith, c.before.before.requires.0.within, rows-passed _ _ c.before.before.requires.0)
+loop-holds : tie.Need-loop-r-init invariant-loop decreases-loop
+loop-holds c = (omega arith, c.requires.0.within, rows-passed _ _ c.requires.0)
 
-row-alone-requires : tie.Need-row-alone-requires invariant-loop decreases-loop
-row-alone-requires c κs = (c.before.before.before.before.requires.0, c.before.before.before.before.requires.1, c.before.loop.invariant.0, c.loop-test.true)
+row-alone-requires : tie.Need-row_alone-requires invariant-loop decreases-loop
+row-alone-requires c κs = (c.requires.0, c.requires.1, c.loop-r.invariant.0, c.loop-r-test.true)
 
-returns : tie.Need-returns invariant-loop decreases-loop
+returns : tie.Need-returns-then-row_alone invariant-loop decreases-loop
 unfolding core_run
-returns c = sym (ap place_of (at-hit _ _ _ c.before.before.loop-test.true c.before.before.before.loop.invariant.2 (sym c.before.row-alone.ensures ∙ c.if1.true)))
+returns c = sym (ap place_of (at-hit _ _ _ c.loop-r-test.true c.loop-r.invariant.2 (sym c.row_alone.ensures ∙ c.if-row_alone.true)))
 
-add_r : tie.Need-overflow-add-r invariant-loop decreases-loop
+add_r : tie.Need-overflow_add-r invariant-loop decreases-loop
 add_r c = omega arith
 
-loop-less : tie.Need-loop-smaller invariant-loop decreases-loop
+loop-less : tie.Need-loop-r-smaller invariant-loop decreases-loop
 loop-less c = omega arith
 
-loop-again : tie.Need-loop-preserved invariant-loop decreases-loop
-loop-again c = (omega arith, omega arith, at_more _ _ c.before.before.before.loop.invariant.2 (sym c.before.row-alone.ensures ∙ c.if1.false))
+loop-again : tie.Need-loop-r-preserved invariant-loop decreases-loop
+loop-again c = (omega arith, omega arith, at_more _ _ c.loop-r.invariant.2 (sym c.row_alone.ensures ∙ c.if-row_alone.false))
 
-returns-2 : tie.Need-returns-2 invariant-loop decreases-loop
+returns-2 : tie.Need-returns invariant-loop decreases-loop
 unfolding core_run
-returns-2 c = sym (ap place_of (at_none _ _ _ c.before.loop.invariant.1 c.loop-test.false c.before.loop.invariant.2))
+returns-2 c = sym (ap place_of (at_none _ _ _ c.loop-r.invariant.1 c.loop-r-test.false c.loop-r.invariant.2))
 
-pub first-row-spec : {M : Type 1} → statement M
-first-row-spec =
+pub first_row_spec : {M : Type 1} → statement M
+first_row_spec =
     tie.close
     (tie.spec
     invariant-loop

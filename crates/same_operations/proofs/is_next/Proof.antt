@@ -8,24 +8,24 @@ use Rattle.same_operations.proofs.is_next.Statement.{statement}
 use Rattle.same_operations.proofs.is_next.Tie as tie
 
 -- the record's bytes are there
-enough : (c : tie.Else1) → c.before.before.before.args.from + 418 ≤ length c.before.before.before.args.file.now
-enough c = stands-enough _ c.before.before.before.requires.2 (omega (arith, c.before.before.before.requires.1, c.if1.false))
+enough : (c : tie.Else-i-n) → c.args.from + 418 ≤ length c.args.file.now
+enough c = stands-enough _ c.requires.2 (omega (arith, c.requires.1, c.if-i-n.false))
 
-returns : tie.Need-returns
-returns c = next-none _ _ _ c.if1.true
+returns : tie.Need-returns-then-i-n
+returns c = next-none _ _ _ c.if-i-n.true
 
-add-word-at : tie.Need-overflow-add-word-at
+add-word-at : tie.Need-overflow_add-from
 add-word-at c = omega (arith, enough c)
 
-word-at-requires : tie.Need-word-at-requires
+word-at-requires : tie.Need-word_at-stamp-requires
 word-at-requires c κs = omega (arith, enough c)
 
-is-record-requires : tie.Need-is-record-requires
-is-record-requires c κs = (c.before.before.before.before.requires.0, enough c.before, c.word_at.ensures)
+is-record-requires : tie.Need-is_record-requires
+is-record-requires c κs = (c.requires.0, enough c.before, c.word_at-stamp.ensures)
 
-returns-2 : tie.Need-returns-2
-returns-2 c = next-is _ _ _ c.before.before.if1.false c.is-record.ensures
+returns-2 : tie.Need-returns
+returns-2 c = next-is _ _ _ c.if-i-n.false c.is_record.ensures
 
-pub is-next-spec : {M : Type 1} → statement M
-is-next-spec =
+pub is_next_spec : {M : Type 1} → statement M
+is_next_spec =
     tie.close (tie.spec returns add-word-at word-at-requires is-record-requires returns-2)

@@ -17,7 +17,7 @@ digest-requires c κs = search rules
 
 returns : tie.Need-returns
 unfolding sha3-256
-returns c = c.digest.ensures ∙ ap (λ (s : List ℕ). tab 32 (lane_byte s)) c.before.absorb.ensures
+returns c = c.digest.ensures ∙ ap (λ (s : List ℕ). tab 32 (lane_byte s)) c.absorb.ensures
 
-pub sha3-256-spec : {M : Type 1} → statement M
-sha3-256-spec = tie.close (tie.spec absorb-requires digest-requires returns)
+pub sha3_256_spec : {M : Type 1} → statement M
+sha3_256_spec = tie.close (tie.spec absorb-requires digest-requires returns)

@@ -5,13 +5,13 @@ use Rattle.tally_arguments.specs.Arguments.{is_digit}
 use Rattle.tally_arguments.proofs.is_digit.Statement.{statement}
 use Rattle.tally_arguments.proofs.is_digit.Tie as tie
 
-returns : tie.Need-returns
+returns : tie.Need-returns-then-b-lt48
 unfolding is_digit
-returns c = rw (lt-leb 48 _ c.if1.true) refl
+returns c = rw (lt-leb 48 _ c.if-b-lt48.true) refl
 
-returns-2 : tie.Need-returns-2
+returns-2 : tie.Need-returns
 unfolding is_digit
-returns-2 c = rw (le-leb 48 _ c.if1.false) refl
+returns-2 c = rw (le-leb 48 _ c.if-b-lt48.false) refl
 
-pub is-digit-spec : {M : Type 1} → statement M
-is-digit-spec = tie.close (tie.spec returns returns-2)
+pub is_digit_spec : {M : Type 1} → statement M
+is_digit_spec = tie.close (tie.spec returns returns-2)

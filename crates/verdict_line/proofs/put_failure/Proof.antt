@@ -6,18 +6,18 @@ use borrow.Author.Rules.{rules}
 use Rattle.verdict_line.proofs.put_failure.Statement.{statement}
 use Rattle.verdict_line.proofs.put_failure.Tie as tie
 
-put-place-requires : tie.Need-put-place-requires
+put-place-requires : tie.Need-put_place-end-requires
 put-place-requires c κs = search rules
 
-put-shown-requires : tie.Need-put-shown-requires
+put-shown-requires : tie.Need-put_shown-requires
 put-shown-requires c κs = search rules
 
-same_length : tie.Need-same-length
+same_length : tie.Need-shape_of-out
 same_length c = search rules
 
 returns : tie.Need-returns
 unfolding place_words
-returns c = let p = c.before.before.before.before.before.before.put-place.ensures in let q = c.before.before.put-shown.ensures in (puts-joined _ _ _ p.0 q.0, omega (arith, p.1, q.1))
+returns c = let p = c.put_place-end.ensures in let q = c.put_shown.ensures in (puts-joined _ _ _ p.0 q.0, omega (arith, p.1, q.1))
 
-pub put-failure-spec : {M : Type 1} → statement M
-put-failure-spec = tie.close (tie.spec put-place-requires put-shown-requires same_length returns)
+pub put_failure_spec : {M : Type 1} → statement M
+put_failure_spec = tie.close (tie.spec put-place-requires put-shown-requires same_length returns)

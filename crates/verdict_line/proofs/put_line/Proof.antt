@@ -8,99 +8,83 @@ use borrow.Author.Rules.{rules}
 use Rattle.verdict_line.proofs.put_line.Statement.{statement}
 use Rattle.verdict_line.proofs.put_line.Tie as tie
 
-enum-known-verdict : tie.Need-enum-known-verdict
+enum-known-verdict : tie.Need-enum_known-verdict
 enum-known-verdict c = search rules
 
-slice-aggregate-put-place : tie.Need-slice-aggregate-put-place
-slice-aggregate-put-place c = search rules
-
-put-place-requires : tie.Need-put-place-requires
+put-place-requires : tie.Need-put_place-requires
 put-place-requires c κs = search rules
 
-enum-known-verdict-2 : tie.Need-enum-known-verdict-2
+enum-known-verdict-2 : tie.Need-enum_known-verdict-in-Repeated-1
 enum-known-verdict-2 c = search rules
 
-slice-aggregate-put-place-2 : tie.Need-slice-aggregate-put-place-2
-slice-aggregate-put-place-2 c = search rules
-
-put-place-requires-2 : tie.Need-put-place-requires-2
+put-place-requires-2 : tie.Need-put_place-requires-in-Repeated
 put-place-requires-2 c κs = search rules
 
-enum-known-verdict-3 : tie.Need-enum-known-verdict-3
+enum-known-verdict-3 : tie.Need-enum_known-verdict-in-Lookup-1
 enum-known-verdict-3 c = search rules
 
-slice-aggregate-put-failure : tie.Need-slice-aggregate-put-failure
-slice-aggregate-put-failure c = search rules
+put-failure-requires : tie.Need-put_failure-requires
+put-failure-requires c κs = let e = c.in-Lookup.is in (lookup-named _ _ _ _ _ _ (sym (c.requires.0 (subst Judged (sym e) tt)) ∙ e), omega arith, c.requires.1)
 
-put-failure-requires : tie.Need-put-failure-requires
-put-failure-requires c κs = let s = c.before.before.before.before.before.before.before.before in let e = c.before.before.before.verdict3.given.1 in (lookup-named _ _ _ _ _ _ (sym (s.requires.0 (subst Judged (sym e) tt)) ∙ e), omega arith, s.requires.1)
-
-enum-known-verdict-4 : tie.Need-enum-known-verdict-4
+enum-known-verdict-4 : tie.Need-enum_known-verdict-in-Unbalanced-1
 enum-known-verdict-4 c = search rules
 
-slice-aggregate-put-failure-2 : tie.Need-slice-aggregate-put-failure-2
-slice-aggregate-put-failure-2 c = search rules
+put-failure-requires-2 : tie.Need-put_failure-requires-in-Unbalanced
+put-failure-requires-2 c κs = let e = c.in-Unbalanced.is in (unbalanced-named _ _ _ _ _ _ (sym (c.requires.0 (subst Judged (sym e) tt)) ∙ e), omega arith, c.requires.1)
 
-put-failure-requires-2 : tie.Need-put-failure-requires-2
-put-failure-requires-2 c κs = let s = c.before.before.before.before.before.before.before.before in let e = c.before.before.before.verdict4.given.1 in (unbalanced-named _ _ _ _ _ _ (sym (s.requires.0 (subst Judged (sym e) tt)) ∙ e), omega arith, s.requires.1)
-
-enum-known-verdict-5 : tie.Need-enum-known-verdict-5
+enum-known-verdict-5 : tie.Need-enum_known-verdict-in-Holds-1
 enum-known-verdict-5 c = search rules
 
-put-holds-requires : tie.Need-put-holds-requires
+put-holds-requires : tie.Need-put_holds-requires
 put-holds-requires c κs = search rules
 
-enum-known-verdict-6 : tie.Need-enum-known-verdict-6
+enum-known-verdict-6 : tie.Need-enum_known-verdict-in-Refused-1
 enum-known-verdict-6 c = search rules
 
-same_length : tie.Need-same-length
+same_length : tie.Need-shape_of-out-in-Value
 same_length c = search rules
 
-returns : tie.Need-returns
-returns c = shows _ _ _ _ _ _ _ _ _ c.before.before.before.before.before.before.verdict.given.1 tt (value_line _ _ _ _ _ _) c.before.before.put-place.ensures.0 (omega (arith, c.before.before.put-place.ensures.1))
+returns : tie.Need-returns-in-Value
+returns c = shows _ _ _ _ _ _ _ _ _ c.in-Value.is tt (value_line _ _ _ _ _ _) c.put_place.ensures.0 (omega (arith, c.put_place.ensures.1))
 
-same-length-2 : tie.Need-same-length-2
+same-length-2 : tie.Need-shape_of-out-in-Repeated
 same-length-2 c = search rules
 
-returns-2 : tie.Need-returns-2
-returns-2 c = shows _ _ _ _ _ _ _ _ _ c.before.before.before.before.before.before.verdict2.given.1 tt (repeated-line _ _ _ _) c.before.before.put-place2.ensures.0 (omega (arith, c.before.before.put-place2.ensures.1))
+returns-2 : tie.Need-returns-in-Repeated
+returns-2 c = shows _ _ _ _ _ _ _ _ _ c.in-Repeated.is tt (repeated-line _ _ _ _) c.put_place-in-Repeated.ensures.0 (omega (arith, c.put_place-in-Repeated.ensures.1))
 
-same-length-3 : tie.Need-same-length-3
+same-length-3 : tie.Need-shape_of-out-in-Lookup
 same-length-3 c = search rules
 
-returns-3 : tie.Need-returns-3
-returns-3 c = shows _ _ _ _ _ _ _ _ _ c.before.before.before.before.before.before.verdict3.given.1 tt (lookup-line _ _ _ _ _ _) c.before.before.put-failure.ensures.0 (omega (arith, c.before.before.put-failure.ensures.1))
+returns-3 : tie.Need-returns-in-Lookup
+returns-3 c = shows _ _ _ _ _ _ _ _ _ c.in-Lookup.is tt (lookup-line _ _ _ _ _ _) c.put_failure.ensures.0 (omega (arith, c.put_failure.ensures.1))
 
-same-length-4 : tie.Need-same-length-4
+same-length-4 : tie.Need-shape_of-out-in-Unbalanced
 same-length-4 c = search rules
 
-returns-4 : tie.Need-returns-4
-returns-4 c = shows _ _ _ _ _ _ _ _ _ c.before.before.before.before.before.before.verdict4.given.1 tt (balance-line _ _ _ _ _ _) c.before.before.put-failure2.ensures.0 (omega (arith, c.before.before.put-failure2.ensures.1))
+returns-4 : tie.Need-returns-in-Unbalanced
+returns-4 c = shows _ _ _ _ _ _ _ _ _ c.in-Unbalanced.is tt (balance-line _ _ _ _ _ _) c.put_failure-in-Unbalanced.ensures.0 (omega (arith, c.put_failure-in-Unbalanced.ensures.1))
 
-same-length-5 : tie.Need-same-length-5
+same-length-5 : tie.Need-shape_of-out-in-Holds
 same-length-5 c = search rules
 
-returns-5 : tie.Need-returns-5
-returns-5 c = shows _ _ _ _ _ _ _ _ _ c.before.before.before.before.before.verdict5.given.1 tt (holds-line _ _ _ _) c.before.before.Put-Holds.ensures.0 (omega (arith, c.before.before.Put-Holds.ensures.1))
+returns-5 : tie.Need-returns-in-Holds
+returns-5 c = shows _ _ _ _ _ _ _ _ _ c.in-Holds.is tt (holds-line _ _ _ _) c.put_holds.ensures.0 (omega (arith, c.put_holds.ensures.1))
 
-returns-6 : tie.Need-returns-6
-returns-6 c = shows-refused _ _ _ _ _ _ c.before.verdict6.given.1
+returns-6 : tie.Need-returns-in-Refused
+returns-6 c = shows-refused _ _ _ _ _ _ c.in-Refused.is
 
-pub put-line-spec : {M : Type 1} → statement M
-put-line-spec =
+pub put_line_spec : {M : Type 1} → statement M
+put_line_spec =
     tie.close
     (tie.spec
     enum-known-verdict
-    slice-aggregate-put-place
     put-place-requires
     enum-known-verdict-2
-    slice-aggregate-put-place-2
     put-place-requires-2
     enum-known-verdict-3
-    slice-aggregate-put-failure
     put-failure-requires
     enum-known-verdict-4
-    slice-aggregate-put-failure-2
     put-failure-requires-2
     enum-known-verdict-5
     put-holds-requires

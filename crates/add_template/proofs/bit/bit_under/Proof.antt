@@ -6,35 +6,34 @@ use Rattle.add_template.proofs.Conditions.{cond-in, under-always, under-when}
 use Rattle.add_template.proofs.bit.bit_under.Statement.{statement}
 use Rattle.add_template.proofs.bit.bit_under.Tie as tie
 
-enum-known-cond : tie.Need-enum-known-cond
+enum-known-cond : tie.Need-enum_known-cond
 enum-known-cond c = search rules
 
-mul-is-bit-if : tie.Need-overflow-mul-is-bit-if
-mul-is-bit-if c = let s = c.before.before.before.before in let h = cond-in s.args.row.now c.before.cond.given.1 s.requires.0 in omega (arith, h.0)
+mul-is-bit-if : tie.Need-offset_bounds-row-col
+mul-is-bit-if c = let h = cond-in c.args.row.now c.in-When.is c.requires.0 in omega (arith, h.0)
 
-shared-slice-read-is-bit-if : tie.Need-shared-slice-read-is-bit-if
-shared-slice-read-is-bit-if c = let s = c.before.before.before.before.before in (cond-in s.args.row.now c.before.before.cond.given.1 s.requires.0).0
+shared-slice-read-is-bit-if : tie.Need-bounds-row-col
+shared-slice-read-is-bit-if c = (cond-in c.args.row.now c.in-When.is c.requires.0).0
 
-is-bit-if-requires : tie.Need-is-bit-if-requires
+is-bit-if-requires : tie.Need-is_bit_if-requires
 is-bit-if-requires c κs = search rules
 
-enum_told : tie.Need-enum-told
+enum_told : tie.Need-enum_told-1
 enum_told c = search rules
 
-is-bit-requires : tie.Need-is-bit-requires
+is-bit-requires : tie.Need-is_bit-requires
 is-bit-requires c κs = search rules
 
-returns : tie.Need-returns
+returns : tie.Need-returns-in-When
 returns c =
-    let s = c.before.before.before.before.before.before in
-    let e = c.before.before.before.cond.given.1 in
-    c.is-bit-if.ensures ∙ under-when s.args.row.now s.args.x e (cond-in s.args.row.now e s.requires.0).1
+    let e = c.in-When.is in
+    c.is_bit_if.ensures ∙ under-when c.args.row.now c.args.x e (cond-in c.args.row.now e c.requires.0).1
 
-returns-2 : tie.Need-returns-2
-returns-2 c = let s = c.before.before.before.before in c.is-bit.ensures ∙ under-always s.args.row.now s.args.x c.before.enum_told.given.1
+returns-2 : tie.Need-returns-in-Always
+returns-2 c = c.is_bit.ensures ∙ under-always c.args.row.now c.args.x c.in-Always.is
 
-pub bit-under-spec : {M : Type 1} → statement M
-bit-under-spec =
+pub bit_under_spec : {M : Type 1} → statement M
+bit_under_spec =
     tie.close
     (tie.spec
     enum-known-cond

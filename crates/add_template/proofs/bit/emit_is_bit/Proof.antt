@@ -5,17 +5,17 @@ use Rattle.add_template.proofs.Conditions.{under-is}
 use Rattle.add_template.proofs.bit.emit_is_bit.Statement.{statement}
 use Rattle.add_template.proofs.bit.emit_is_bit.Tie as tie
 
-mul-bit-under : tie.Need-overflow-mul-bit-under
+mul-bit-under : tie.Need-offset_bounds-row-column
 mul-bit-under c = search rules
 
-shared-slice-read-bit-under : tie.Need-shared-slice-read-bit-under
+shared-slice-read-bit-under : tie.Need-bounds-row-column
 shared-slice-read-bit-under c = search rules
 
-bit-under-requires : tie.Need-bit-under-requires
+bit-under-requires : tie.Need-bit_under-requires
 bit-under-requires c κs = search rules
 
 returns : tie.Need-returns
-returns c = let s = c.before.before.before in c.bit-under.ensures ∙ under-is s.args.row.now s.args.column s.args.cond s.requires.2
+returns c = c.bit_under.ensures ∙ under-is c.args.row.now c.args.column c.args.cond c.requires.2
 
-pub emit-is-bit-spec : {M : Type 1} → statement M
-emit-is-bit-spec = tie.close (tie.spec mul-bit-under shared-slice-read-bit-under bit-under-requires returns)
+pub emit_is_bit_spec : {M : Type 1} → statement M
+emit_is_bit_spec = tie.close (tie.spec mul-bit-under shared-slice-read-bit-under bit-under-requires returns)

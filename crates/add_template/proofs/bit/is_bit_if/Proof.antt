@@ -11,11 +11,11 @@ mul-requires c κs = search rules
 sub-requires : tie.Need-sub-requires
 sub-requires c κs = search rules
 
-mul-requires-2 : tie.Need-mul-requires-2
+mul-requires-2 : tie.Need-mul-product-requires
 mul-requires-2 c κs = search rules
 
 returns : tie.Need-returns
-returns c = c.mul2.ensures.0 ∙ ap₂ fmul c.before.before.mul.ensures.0 c.before.sub.ensures.0
+returns c = c.mul-product.ensures.0 ∙ ap₂ fmul c.mul.ensures.0 c.sub.ensures.0
 
-pub is-bit-if-spec : {M : Type 1} → statement M
-is-bit-if-spec = tie.close (tie.spec mul-requires sub-requires mul-requires-2 returns)
+pub is_bit_if_spec : {M : Type 1} → statement M
+is_bit_if_spec = tie.close (tie.spec mul-requires sub-requires mul-requires-2 returns)

@@ -27,66 +27,64 @@ summed l other h b c =
     filled-all h c
     ∙ sets-overwrite l (tab 10485760 (λ j. fadd (word l j) (word other j))) (omega (arith, length-tab 10485760 (λ j. fadd (word l j) (word other j)), b))
 
-abbrev invariant-loop : tie.invariant-loop
+abbrev invariant-loop : tie.invariant-loop-k
 invariant-loop counters₀ other k₀ counters k = Filled counters₀ 0 10485760 (λ j. fadd (word counters₀ j) (word other j)) counters k
 
-abbrev decreases-loop : tie.decreases-loop
+abbrev decreases-loop : tie.decreases-loop-k
 decreases-loop counters₀ other k₀ counters k = 10485760 - k
 
-loop-holds : tie.Need-loop-init invariant-loop decreases-loop
+loop-holds : tie.Need-loop-k-init invariant-loop decreases-loop
 loop-holds c = filled_none _ _ _ _
 
-mul-sum : tie.Need-overflow-mul-sum invariant-loop decreases-loop
+mul-sum : tie.Need-offset_bounds-counters-k invariant-loop decreases-loop
 mul-sum c = omega arith
 
-slice-read-sum : tie.Need-slice-read-sum invariant-loop decreases-loop
+slice-read-sum : tie.Need-bounds-counters-k invariant-loop decreases-loop
 slice-read-sum c = omega arith
 
-mul-sum-2 : tie.Need-overflow-mul-sum-2 invariant-loop decreases-loop
+mul-sum-2 : tie.Need-offset_bounds-other-k invariant-loop decreases-loop
 mul-sum-2 c = omega arith
 
-shared-slice-read-sum : tie.Need-shared-slice-read-sum invariant-loop decreases-loop
+shared-slice-read-sum : tie.Need-bounds-other-k invariant-loop decreases-loop
 shared-slice-read-sum c = omega arith
 
 sum-requires : tie.Need-sum-requires invariant-loop decreases-loop
 sum-requires c κs =
-    let l = c.before.before.before.loop in
-    let start = c.before.before.before.before.before.before in
+    let l = c.loop-k in
     let k = l.k in
-    let b : k < 10485760 = c.before.before.loop-test.true in
+    let b : k < 10485760 = c.loop-k-test.true in
     let same = filled-past l.invariant (omega arith) k (le_refl k) in (
-      omega (arith, same, all-elements start.args.counters.now 10485760 start.requires.2 k b),
-      all-elements start.args.other.now 10485760 start.requires.3 k b,
+      omega (arith, same, all-elements c.args.counters.now 10485760 c.requires.2 k b),
+      all-elements c.args.other.now 10485760 c.requires.3 k b,
     )
 
-mul-counters : tie.Need-overflow-mul-counters invariant-loop decreases-loop
+mul-counters : tie.Need-offset_bounds-counters-k-in-loop-k invariant-loop decreases-loop
 mul-counters c = omega arith
 
-slice-write-counters : tie.Need-slice-write-counters invariant-loop decreases-loop
+slice-write-counters : tie.Need-bounds-counters-k-in-loop-k invariant-loop decreases-loop
 slice-write-counters c = omega arith
 
-add-k : tie.Need-overflow-add-k invariant-loop decreases-loop
+add-k : tie.Need-overflow_add-k invariant-loop decreases-loop
 add-k c = omega arith
 
-loop-less : tie.Need-loop-smaller invariant-loop decreases-loop
+loop-less : tie.Need-loop-k-smaller invariant-loop decreases-loop
 loop-less c = omega arith
 
-loop-again : tie.Need-loop-preserved invariant-loop decreases-loop
+loop-again : tie.Need-loop-k-preserved invariant-loop decreases-loop
 loop-again c =
-    let l = c.before.before.before.before.loop in
-    let a = c.before.before.before.before.before.before.before.args in
-    turn a.counters.now a.other.now l.invariant c.before.before.before.loop-test.true (omega arith) c.sum.ensures
+    let l = c.loop-k in
+    let a = c.args in
+    turn a.counters.now a.other.now l.invariant c.loop-k-test.true (omega arith) c.sum.ensures
 
-same_length : tie.Need-same-length invariant-loop decreases-loop
+same_length : tie.Need-shape_of-counters invariant-loop decreases-loop
 same_length c = omega arith
 
 returns : tie.Need-returns invariant-loop decreases-loop
 returns c =
-    let start = c.before.before.before.before in
-    summed start.args.counters.now start.args.other.now c.before.loop.invariant start.requires.0 c.loop-test.false
+    summed c.args.counters.now c.args.other.now c.loop-k.invariant c.requires.0 c.loop-k-test.false
 
-pub add-counters-spec : {M : Type 1} → statement M
-add-counters-spec =
+pub add_counters_spec : {M : Type 1} → statement M
+add_counters_spec =
     tie.close
     (tie.spec
     invariant-loop

@@ -8,53 +8,48 @@ use Rattle.bitwise.specs.Table.{fill_refusal}
 use Rattle.bitwise_counts.proofs.histogram.fill_multiplicities.Statement.{statement}
 use Rattle.bitwise_counts.proofs.histogram.fill_multiplicities.Tie as tie
 
-returns : tie.Need-returns
+returns : tie.Need-returns-then-counters-lt-NUM_COUNTERS
 unfolding fill_refusal
-returns c = refused _ _ (refuse-yes _ _ (lt-ltb _ _ c.if1.true))
+returns c = refused _ _ (refuse-yes _ _ (lt-ltb _ _ c.if-counters-lt-NUM_COUNTERS.true))
 
-returns-2 : tie.Need-returns-2
+returns-2 : tie.Need-returns-then-table-lt-TABLE_WORDS
 unfolding fill_refusal
-returns-2 c = refused _ _ (refuse-no _ (le-ltb _ _ c.before.if1.false) (refuse-yes _ _ (lt-ltb _ _ c.if2.true)))
+returns-2 c = refused _ _ (refuse-no _ (le-ltb _ _ c.if-counters-lt-NUM_COUNTERS.false) (refuse-yes _ _ (lt-ltb _ _ c.if-table-lt-TABLE_WORDS.true)))
 
-first-not-element-requires : tie.Need-first-not-element-requires
+first-not-element-requires : tie.Need-first_not_element-requires
 first-not-element-requires c κs = search rules
 
-enum-known-place : tie.Need-enum-known-place
+enum-known-place : tie.Need-enum_known-place
 enum-known-place c = search rules
 
-returns-3 : tie.Need-returns-3
+returns-3 : tie.Need-returns-in-At
 unfolding fill_refusal
 returns-3 c =
-    let called = c.before.before.before in
-    let e = called.before in
     refused _ _
-    (refuse-no _ (le-ltb _ _ e.before.if1.false)
-    (refuse-no _ (le-ltb _ _ e.if2.false)
-    (at-yes _ _ (place_at _ (sym c.before.place.given.1 ∙ called.first-not-element.ensures)))))
+    (refuse-no _ (le-ltb _ _ c.if-counters-lt-NUM_COUNTERS.false)
+    (refuse-no _ (le-ltb _ _ c.if-table-lt-TABLE_WORDS.false)
+    (at-yes _ _ (place_at _ (sym c.in-At.is ∙ c.first_not_element.ensures)))))
 
-enum_told : tie.Need-enum-told
+enum_told : tie.Need-enum_told-1
 enum_told c = search rules
 
-put-counters-requires : tie.Need-put-counters-requires
+put-counters-requires : tie.Need-put_counters-requires
 put-counters-requires c κs = search rules
 
-same_length : tie.Need-same-length
+same_length : tie.Need-shape_of-table
 same_length c = search rules
 
-returns-4 : tie.Need-returns-4
+returns-4 : tie.Need-returns
 unfolding fill_refusal
 returns-4 c =
-    let told = c.before.before.before.before in
-    let called = told.before.before in
-    let e = called.before in
     done _
-    (refuse-no _ (le-ltb _ _ e.before.if1.false)
-    (refuse-no _ (le-ltb _ _ e.if2.false)
-    (at-no _ (place-nowhere _ (sym told.enum_told.given.1 ∙ called.first-not-element.ensures)) refl)))
-    c.before.before.put-counters.ensures
+    (refuse-no _ (le-ltb _ _ c.if-counters-lt-NUM_COUNTERS.false)
+    (refuse-no _ (le-ltb _ _ c.if-table-lt-TABLE_WORDS.false)
+    (at-no _ (place-nowhere _ (sym c.in_default.is ∙ c.first_not_element.ensures)) refl)))
+    c.put_counters.ensures
 
-pub fill-multiplicities-spec : {M : Type 1} → statement M
-fill-multiplicities-spec =
+pub fill_multiplicities_spec : {M : Type 1} → statement M
+fill_multiplicities_spec =
     tie.close
     (tie.spec
     returns

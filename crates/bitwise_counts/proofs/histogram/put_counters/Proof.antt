@@ -30,55 +30,52 @@ whole counters l r h b c =
     filled-rows 1048576 21 (filled_row counters l) r h c
     ∙ sets-overwrite l (table_of 1048576 21 (filled_row counters l)) (omega (arith, length-table 1048576 21 (filled_row counters l), b))
 
-abbrev invariant-loop : tie.invariant-loop
+abbrev invariant-loop : tie.invariant-loop-r
 invariant-loop counters table₀ r₀ table r = (r ≤ 1048576) × Filled table₀ 0 22020096 (cells_of 21 (filled_row counters table₀)) table (r * 21)
 
-abbrev decreases-loop : tie.decreases-loop
+abbrev decreases-loop : tie.decreases-loop-r
 decreases-loop counters table₀ r₀ table r = 1048576 - r
 
-loop-holds : tie.Need-loop-init invariant-loop decreases-loop
+loop-holds : tie.Need-loop-r-init invariant-loop decreases-loop
 loop-holds c = (omega arith, filled_none _ _ _ _)
 
-mul-put-part : tie.Need-overflow-mul-put-part invariant-loop decreases-loop
+mul-put-part : tie.Need-overflow_mul-r invariant-loop decreases-loop
 mul-put-part c = omega arith
 
-add-put-part : tie.Need-overflow-add-put-part invariant-loop decreases-loop
+add-put-part : tie.Need-overflow_add-r invariant-loop decreases-loop
 add-put-part c = omega arith
 
-mul-put-part-2 : tie.Need-overflow-mul-put-part-2 invariant-loop decreases-loop
+mul-put-part-2 : tie.Need-overflow_mul-r-in-loop-r invariant-loop decreases-loop
 mul-put-part-2 c = omega arith
 
-put-part-requires : tie.Need-put-part-requires invariant-loop decreases-loop
+put-part-requires : tie.Need-put_part-requires invariant-loop decreases-loop
 put-part-requires c κs = (omega arith, omega arith)
 
-add_r : tie.Need-overflow-add-r invariant-loop decreases-loop
+add_r : tie.Need-overflow_add-r-in-loop-r invariant-loop decreases-loop
 add_r c = omega arith
 
-loop-less : tie.Need-loop-smaller invariant-loop decreases-loop
+loop-less : tie.Need-loop-r-smaller invariant-loop decreases-loop
 loop-less c = omega arith
 
-loop-again : tie.Need-loop-preserved invariant-loop decreases-loop
+loop-again : tie.Need-loop-r-preserved invariant-loop decreases-loop
 loop-again c =
-    let in-loop = c.before.before.before.before in
-    let at = in-loop.before in
-    let a = at.before.before.before.args in
-    let r = at.loop.r in (
+    let a = c.args in
+    let r = c.loop-r.r in (
       omega arith,
-      filled_row_lem 1048576 21 (filled_row a.counters.now a.table.now) r at.loop.invariant.1 in-loop.loop-test.true
+      filled_row_lem 1048576 21 (filled_row a.counters.now a.table.now) r c.loop-r.invariant.1 c.loop-r-test.true
           (length-filled_row a.counters.now a.table.now r) (sym (zero-add (r * 21)))
-          (turn a.counters.now a.table.now r at.loop.invariant.1 (omega arith) c.before.before.put-part.ensures),
+          (turn a.counters.now a.table.now r c.loop-r.invariant.1 (omega arith) c.put_part.ensures),
     )
 
-same_length : tie.Need-same-length invariant-loop decreases-loop
+same_length : tie.Need-shape_of-table invariant-loop decreases-loop
 same_length c = omega arith
 
 returns : tie.Need-returns invariant-loop decreases-loop
 returns c =
-    let start = c.before.before.before.before in
-    whole start.args.counters.now start.args.table.now c.before.loop.r c.before.loop.invariant.1 start.requires.1 c.loop-test.false
+    whole c.args.counters.now c.args.table.now c.loop-r.r c.loop-r.invariant.1 c.requires.1 c.loop-r-test.false
 
-pub put-counters-spec : {M : Type 1} → statement M
-put-counters-spec =
+pub put_counters_spec : {M : Type 1} → statement M
+put_counters_spec =
     tie.close
     (tie.spec
     invariant-loop

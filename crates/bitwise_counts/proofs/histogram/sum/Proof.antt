@@ -3,11 +3,11 @@ use borrow.Author.Rules.{rules}
 use Rattle.bitwise_counts.proofs.histogram.sum.Statement.{statement}
 use Rattle.bitwise_counts.proofs.histogram.sum.Tie as tie
 
-add-requires : tie.Need-add-requires
+add-requires : tie.Need-add-s-requires
 add-requires c κs = search rules
 
 returns : tie.Need-returns
-returns c = c.add.ensures.0
+returns c = c.add-s.ensures.0
 
-pub sum-spec : {M : Type 1} → statement M
-sum-spec = tie.close (tie.spec add-requires returns)
+pub sum_spec : {M : Type 1} → statement M
+sum_spec = tie.close (tie.spec add-requires returns)

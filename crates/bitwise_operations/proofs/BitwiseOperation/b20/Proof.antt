@@ -9,5 +9,5 @@ new-requires c κs = search rules
 returns : tie.Need-returns
 returns c = c.new.ensures
 
-pub b20-spec : {M : Type 1} → statement M
-b20-spec = tie.close (tie.spec new-requires returns)
+pub b20_spec : {M : Type 1} → statement M
+b20_spec = tie.close (tie.spec new-requires returns)

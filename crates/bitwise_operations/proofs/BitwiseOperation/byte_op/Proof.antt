@@ -6,5 +6,5 @@ use Rattle.bitwise_operations.proofs.BitwiseOperation.byte_op.Tie as tie
 returns : tie.Need-returns
 returns c = refl
 
-pub byte-op-spec : {M : Type 1} → statement M
-byte-op-spec = tie.close (tie.spec returns)
+pub byte_op_spec : {M : Type 1} → statement M
+byte_op_spec = tie.close (tie.spec returns)

@@ -6,5 +6,5 @@ use Rattle.bitwise_operations.proofs.BitwiseOperation.halfword.Tie as tie
 returns : tie.Need-returns
 returns c = refl
 
-pub halfword-spec : {M : Type 1} → statement M
-halfword-spec = tie.close (tie.spec returns)
+pub halfword_spec : {M : Type 1} → statement M
+halfword_spec = tie.close (tie.spec returns)

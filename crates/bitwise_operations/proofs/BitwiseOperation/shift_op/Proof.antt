@@ -9,5 +9,5 @@ new-requires c κs = search rules
 returns : tie.Need-returns
 returns c = c.new.ensures
 
-pub shift-op-spec : {M : Type 1} → statement M
-shift-op-spec = tie.close (tie.spec new-requires returns)
+pub shift_op_spec : {M : Type 1} → statement M
+shift_op_spec = tie.close (tie.spec new-requires returns)

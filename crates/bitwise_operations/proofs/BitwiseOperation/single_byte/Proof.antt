@@ -6,5 +6,5 @@ use Rattle.bitwise_operations.proofs.BitwiseOperation.single_byte.Tie as tie
 returns : tie.Need-returns
 returns c = refl
 
-pub single-byte-spec : {M : Type 1} → statement M
-single-byte-spec = tie.close (tie.spec returns)
+pub single_byte_spec : {M : Type 1} → statement M
+single_byte_spec = tie.close (tie.spec returns)

@@ -8,25 +8,25 @@ use Rattle.bitwise_operations.proofs.Answers.{operation-refused, operation-is}
 use Rattle.bitwise_operations.proofs.BitwiseOperation.zero.Statement.{statement}
 use Rattle.bitwise_operations.proofs.BitwiseOperation.zero.Tie as tie
 
-returns : tie.Need-returns
+returns : tie.Need-returns-then-value-ge1048576
 unfolding zero_refusal
-returns c = operation-refused _ (refuse-yes _ _ (le-leb _ _ c.if1.true))
+returns c = operation-refused _ (refuse-yes _ _ (le-leb _ _ c.if-value-ge1048576.true))
 
-cast-t9 : tie.Need-overflow-cast-t9
+cast-t9 : tie.Need-overflow_cast-result
 cast-t9 c = omega arith
 
-cast-t10 : tie.Need-overflow-cast-t10
+cast-t10 : tie.Need-overflow_cast-result-2
 cast-t10 c = omega arith
 
-cast-t11 : tie.Need-overflow-cast-t11
+cast-t11 : tie.Need-overflow_cast-result-3
 cast-t11 c = omega arith
 
-returns-2 : tie.Need-returns-2
+returns-2 : tie.Need-returns
 unfolding zero_refusal
-returns-2 c = operation-is _ (refuse-no _ (lt-leb _ _ c.if1.false) refl)
+returns-2 c = operation-is _ (refuse-no _ (lt-leb _ _ c.if-value-ge1048576.false) refl)
 
-pub zero-spec : {M : Type 1} → statement M
-zero-spec =
+pub zero_spec : {M : Type 1} → statement M
+zero_spec =
     tie.close
     (tie.spec
     returns

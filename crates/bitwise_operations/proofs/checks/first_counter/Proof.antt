@@ -8,55 +8,55 @@ use Rattle.bitwise_operations.proofs.Charging.{Searched, search-start, search-mo
 use Rattle.bitwise_operations.proofs.checks.first_counter.Statement.{statement}
 use Rattle.bitwise_operations.proofs.checks.first_counter.Tie as tie
 
-abbrev invariant-loop : tie.invariant-loop
+abbrev invariant-loop : tie.invariant-loop-i
 invariant-loop counters ops n least₀ i₀ least i = (i ≤ n) × Searched ops (word counters) i least
 
-abbrev decreases-loop : tie.decreases-loop
+abbrev decreases-loop : tie.decreases-loop-i
 decreases-loop counters ops n least₀ i₀ least i = n - i
 
 -- the lookup of a turn, and its counter
-lookup : (k : tie.In-loop invariant-loop decreases-loop) → Lookup k.before.before.before.before.args.ops.now k.before.loop.i
+lookup : (k : tie.In-loop-i invariant-loop decreases-loop) → Lookup k.before.before.before.before.args.ops.now k.before.loop-i.i
 lookup k =
     let start = k.before.before.before.before in
-    lookups-are start.args.ops.now start.args.n start.requires.1 start.requires.2 k.before.loop.i k.loop-test.true
+    lookups-are start.args.ops.now start.args.n start.requires.1 start.requires.2 k.before.loop-i.i k.loop-i-test.true
 
-counter : (k : tie.After-counter-of invariant-loop decreases-loop) → k.counter-of.result < 10485760
-counter k = let e = k.counter-of.ensures in omega (arith, e, lookup-lt k.before.before.before.before.before.args.ops.now k.before.before.loop.i (lookup k.before))
+counter : (k : tie.After-counter_of-c invariant-loop decreases-loop) → k.counter_of-c.result < 10485760
+counter k = let e = k.counter_of-c.ensures in omega (arith, e, lookup-lt k.before.before.before.before.before.args.ops.now k.before.before.loop-i.i (lookup k.before))
 
-loop-holds : tie.Need-loop-init invariant-loop decreases-loop
+loop-holds : tie.Need-loop-i-init invariant-loop decreases-loop
 loop-holds c = (omega arith, search-start _ _)
 
-counter-of-requires : tie.Need-counter-of-requires invariant-loop decreases-loop
+counter-of-requires : tie.Need-counter_of-c-requires invariant-loop decreases-loop
 counter-of-requires c κs = (omega arith, lookup c)
 
-lower-large-requires : tie.Need-lower-large-requires invariant-loop decreases-loop
+lower-large-requires : tie.Need-lower_large-least-requires invariant-loop decreases-loop
 lower-large-requires c κs = omega (arith, counter c)
 
-add-i : tie.Need-overflow-add-i invariant-loop decreases-loop
+add-i : tie.Need-overflow_add-i invariant-loop decreases-loop
 add-i c = omega arith
 
-loop-less : tie.Need-loop-smaller invariant-loop decreases-loop
+loop-less : tie.Need-loop-i-smaller invariant-loop decreases-loop
 loop-less c = omega arith
 
-loop-again : tie.Need-loop-preserved invariant-loop decreases-loop
+loop-again : tie.Need-loop-i-preserved invariant-loop decreases-loop
 loop-again c =
     let asked = c.before in
-    let l = asked.before.before.loop in
-    let a = asked.before.before.before.before.before.args in
-    (omega arith, search-more a.ops.now (word a.counters.now) l.i l.invariant.1 asked.counter-of.ensures (counter asked) c.lower-large.ensures)
+    let l = c.loop-i in
+    let a = c.args in
+    (omega arith, search-more a.ops.now (word a.counters.now) l.i l.invariant.1 c.counter_of-c.ensures (counter asked) c.lower_large-least.ensures)
 
-returns : tie.Need-returns invariant-loop decreases-loop
+returns : tie.Need-returns-then-least-lt-NUM_COUNTERS invariant-loop decreases-loop
 returns c =
-    let l = c.before.before.loop in
-    search-at _ _ l.i l.least _ l.invariant.1 l.invariant.0 c.before.loop-test.false c.if1.true
+    let l = c.loop-i in
+    search-at _ _ l.i l.least _ l.invariant.1 l.invariant.0 c.loop-i-test.false c.if-least-lt-NUM_COUNTERS.true
 
-returns-2 : tie.Need-returns-2 invariant-loop decreases-loop
+returns-2 : tie.Need-returns invariant-loop decreases-loop
 returns-2 c =
-    let l = c.before.before.loop in
-    search-nowhere _ _ l.i l.least _ l.invariant.1 l.invariant.0 c.before.loop-test.false c.if1.false
+    let l = c.loop-i in
+    search-nowhere _ _ l.i l.least _ l.invariant.1 l.invariant.0 c.loop-i-test.false c.if-least-lt-NUM_COUNTERS.false
 
-pub first-counter-spec : {M : Type 1} → statement M
-first-counter-spec =
+pub first_counter_spec : {M : Type 1} → statement M
+first_counter_spec =
     tie.close
     (tie.spec
     invariant-loop

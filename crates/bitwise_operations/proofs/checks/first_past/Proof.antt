@@ -14,68 +14,64 @@ use Rattle.bitwise_operations.proofs.checks.first_past.Tie as tie
 ended : (f : ℕ → Option ℕ) (n : ℕ) {i : ℕ} → i ≤ n → n ≤ i → first f i ≡ none → first f n ≡ none
 ended f n {i} l g h = let e : i ≡ n = omega arith in rw e at h
 
-abbrev invariant-loop : tie.invariant-loop
+abbrev invariant-loop : tie.invariant-loop-i
 invariant-loop ops n i₀ i = (i ≤ n) × (first (past_at ops) i ≡ none)
 
-abbrev decreases-loop : tie.decreases-loop
+abbrev decreases-loop : tie.decreases-loop-i
 decreases-loop ops n i₀ i = n - i
 
-loop-holds : tie.Need-loop-init invariant-loop decreases-loop
+loop-holds : tie.Need-loop-i-init invariant-loop decreases-loop
 loop-holds c = (omega arith, first-start _)
 
-mul-if1 : tie.Need-overflow-mul-if1 invariant-loop decreases-loop
+mul-if1 : tie.Need-overflow_mul-i invariant-loop decreases-loop
 mul-if1 c = omega arith
 
-mul-if1-2 : tie.Need-overflow-mul-if1-2 invariant-loop decreases-loop
+mul-if1-2 : tie.Need-offset_bounds-ops-i invariant-loop decreases-loop
 mul-if1-2 c = omega arith
 
-shared-slice-read-if1 : tie.Need-shared-slice-read-if1 invariant-loop decreases-loop
+shared-slice-read-if1 : tie.Need-bounds-ops-i invariant-loop decreases-loop
 shared-slice-read-if1 c = omega arith
 
-returns : tie.Need-returns invariant-loop decreases-loop
+returns : tie.Need-returns-then-ops-i-ge10 invariant-loop decreases-loop
 returns c =
-    let at = c.before.before.before in
-    let l = at.loop in
-    sym (ap place_of (first-hit (past_at _) l.i _ _ c.before.before.loop-test.true l.invariant.1 (past-kind _ l.i c.if1.true)))
+    let l = c.loop-i in
+    sym (ap place_of (first-hit (past_at _) l.i _ _ c.loop-i-test.true l.invariant.1 (past-kind _ l.i c.if-ops-i-ge10.true)))
 
-mul-if2 : tie.Need-overflow-mul-if2 invariant-loop decreases-loop
+mul-if2 : tie.Need-overflow_mul-i-in-loop-i invariant-loop decreases-loop
 mul-if2 c = omega arith
 
-add-if2 : tie.Need-overflow-add-if2 invariant-loop decreases-loop
+add-if2 : tie.Need-overflow_add-i invariant-loop decreases-loop
 add-if2 c = omega arith
 
-mul-if2-2 : tie.Need-overflow-mul-if2-2 invariant-loop decreases-loop
+mul-if2-2 : tie.Need-offset_bounds-ops-i-in-loop-i invariant-loop decreases-loop
 mul-if2-2 c = omega arith
 
-shared-slice-read-if2 : tie.Need-shared-slice-read-if2 invariant-loop decreases-loop
+shared-slice-read-if2 : tie.Need-bounds-ops-i-in-loop-i invariant-loop decreases-loop
 shared-slice-read-if2 c = omega arith
 
-returns-2 : tie.Need-returns-2 invariant-loop decreases-loop
+returns-2 : tie.Need-returns-then-ops-i-ge16 invariant-loop decreases-loop
 returns-2 c =
-    let first-test = c.before.before in
-    let in-loop = first-test.before.before in
-    let l = in-loop.before.loop in
-    sym (ap place_of (first-hit (past_at _) l.i _ _ in-loop.loop-test.true l.invariant.1 (past-z _ l.i first-test.if1.false c.if2.true)))
+    let l = c.loop-i in
+    sym (ap place_of (first-hit (past_at _) l.i _ _ c.loop-i-test.true l.invariant.1 (past-z _ l.i c.if-ops-i-ge10.false c.if-ops-i-ge16.true)))
 
-add-i : tie.Need-overflow-add-i invariant-loop decreases-loop
+add-i : tie.Need-overflow_add-i-in-loop-i invariant-loop decreases-loop
 add-i c = omega arith
 
-loop-less : tie.Need-loop-smaller invariant-loop decreases-loop
+loop-less : tie.Need-loop-i-smaller invariant-loop decreases-loop
 loop-less c = omega arith
 
-loop-again : tie.Need-loop-preserved invariant-loop decreases-loop
+loop-again : tie.Need-loop-i-preserved invariant-loop decreases-loop
 loop-again c =
-    let first-test = c.before.before in
-    let l = first-test.before.before.before.loop in
-    (omega arith, first_more (past_at _) l.i l.invariant.1 (past-none _ l.i first-test.if1.false c.if2.false))
+    let l = c.loop-i in
+    (omega arith, first_more (past_at _) l.i l.invariant.1 (past-none _ l.i c.if-ops-i-ge10.false c.if-ops-i-ge16.false))
 
-returns-3 : tie.Need-returns-3 invariant-loop decreases-loop
+returns-3 : tie.Need-returns invariant-loop decreases-loop
 returns-3 c =
-    let l = c.before.loop in
-    sym (ap place_of (ended (past_at _) _ l.invariant.0 c.loop-test.false l.invariant.1))
+    let l = c.loop-i in
+    sym (ap place_of (ended (past_at _) _ l.invariant.0 c.loop-i-test.false l.invariant.1))
 
-pub first-past-spec : {M : Type 1} → statement M
-first-past-spec =
+pub first_past_spec : {M : Type 1} → statement M
+first_past_spec =
     tie.close
     (tie.spec
     invariant-loop

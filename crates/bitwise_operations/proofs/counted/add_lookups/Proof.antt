@@ -22,66 +22,61 @@ turn ops l {i = i} {row} h b e = (
   e ∙ ap (λ (r : List ℕ). charge r (lookup_counter ops i) 1) h.2 ∙ each_more (lookup_counter ops) i l,
 )
 
-abbrev invariant-loop : tie.invariant-loop
+abbrev invariant-loop : tie.invariant-loop-i
 invariant-loop counters₀ ops n i₀ counters i =
     (i ≤ n) × (length counters ≡ length counters₀) × (counters ≡ charge_each (lookup_counter ops) i counters₀)
 
-abbrev decreases-loop : tie.decreases-loop
+abbrev decreases-loop : tie.decreases-loop-i
 decreases-loop counters₀ ops n i₀ counters i = n - i
 
 -- the lookup of a turn
-lookup : (k : tie.In-loop invariant-loop decreases-loop) → Lookup k.before.before.before.before.args.ops.now k.before.loop.i
+lookup : (k : tie.In-loop-i invariant-loop decreases-loop) → Lookup k.before.before.before.before.args.ops.now k.before.loop-i.i
 lookup k =
     let start = k.before.before.before.before in
-    lookups-are start.args.ops.now start.args.n start.requires.1 start.requires.2 k.before.loop.i k.loop-test.true
+    lookups-are start.args.ops.now start.args.n start.requires.1 start.requires.2 k.before.loop-i.i k.loop-i-test.true
 
-loop-holds : tie.Need-loop-init invariant-loop decreases-loop
+loop-holds : tie.Need-loop-i-init invariant-loop decreases-loop
 unfolding charge_each
 loop-holds c = (omega arith, refl, refl)
 
-counter-of-requires : tie.Need-counter-of-requires invariant-loop decreases-loop
+counter-of-requires : tie.Need-counter_of-at-requires invariant-loop decreases-loop
 counter-of-requires c κs = (omega arith, lookup c)
 
-charge-word-requires : tie.Need-charge-word-requires invariant-loop decreases-loop
+charge-word-requires : tie.Need-charge_word-requires invariant-loop decreases-loop
 charge-word-requires c κs =
     let in-loop = c.before.before in
-    let l = in-loop.before.loop in
-    let start = in-loop.before.before.before.before in
-    let ops = start.args.ops.now in
-    let first = start.args.counters.now in
-    let e = c.before.counter-of.ensures in
+    let l = c.loop-i in
+    let ops = c.args.ops.now in
+    let first = c.args.counters.now in
+    let e = c.counter_of-at.ensures in
     let b = lookup-lt ops l.i (lookup in-loop) in
-    let h = may-charge ops (word first) start.args.n start.requires.1 start.requires.2 start.requires.4 l.i in-loop.loop-test.true in
-    (omega (arith, e, b, l.invariant.1, start.requires.3), rw e (still-below (lookup_counter ops) l.i first l.invariant.2 (omega (arith, b, start.requires.3)) h))
+    let h = may-charge ops (word first) c.args.n c.requires.1 c.requires.2 c.requires.4 l.i c.loop-i-test.true in
+    (omega (arith, e, b, l.invariant.1, c.requires.3), rw e (still-below (lookup_counter ops) l.i first l.invariant.2 (omega (arith, b, c.requires.3)) h))
 
-add-i : tie.Need-overflow-add-i invariant-loop decreases-loop
+add-i : tie.Need-overflow_add-i invariant-loop decreases-loop
 add-i c = omega arith
 
-loop-less : tie.Need-loop-smaller invariant-loop decreases-loop
+loop-less : tie.Need-loop-i-smaller invariant-loop decreases-loop
 loop-less c = omega arith
 
-loop-again : tie.Need-loop-preserved invariant-loop decreases-loop
+loop-again : tie.Need-loop-i-preserved invariant-loop decreases-loop
 loop-again c =
-    let called = c.before.before in
-    let asked = called.before.before in
-    let in-loop = asked.before in
-    let l = in-loop.before.loop in
-    let a = in-loop.before.before.before.before.args in
-    let e = called.charge-word.ensures ∙ ap (λ (k : ℕ). charge l.counters k 1) asked.counter-of.ensures in
-    turn a.ops.now a.counters.now l.invariant in-loop.loop-test.true e
+    let l = c.loop-i in
+    let a = c.args in
+    let e = c.charge_word.ensures ∙ ap (λ (k : ℕ). charge l.counters k 1) c.counter_of-at.ensures in
+    turn a.ops.now a.counters.now l.invariant c.loop-i-test.true e
 
-same_length : tie.Need-same-length invariant-loop decreases-loop
-same_length c = c.before.loop.invariant.1
+same_length : tie.Need-shape_of-counters invariant-loop decreases-loop
+same_length c = c.loop-i.invariant.1
 
 returns : tie.Need-returns invariant-loop decreases-loop
 returns c =
-    let start = c.before.before.before.before in
-    let l = c.before.loop in
-    let e : l.i ≡ start.args.n = omega arith in
-    l.invariant.2 ∙ ap (λ (k : ℕ). charge_each (lookup_counter start.args.ops.now) k start.args.counters.now) e
+    let l = c.loop-i in
+    let e : l.i ≡ c.args.n = omega arith in
+    l.invariant.2 ∙ ap (λ (k : ℕ). charge_each (lookup_counter c.args.ops.now) k c.args.counters.now) e
 
-pub add-lookups-spec : {M : Type 1} → statement M
-add-lookups-spec =
+pub add_lookups_spec : {M : Type 1} → statement M
+add_lookups_spec =
     tie.close
     (tie.spec
     invariant-loop

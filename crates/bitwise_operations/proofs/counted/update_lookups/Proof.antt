@@ -26,74 +26,68 @@ turn ops l {i = i} {row} h b e = (
   e ∙ ap (λ (r : List ℕ). charge r (place ops i) 1) h.2 ∙ each_more (place ops) i l,
 )
 
-abbrev invariant-loop : tie.invariant-loop
+abbrev invariant-loop : tie.invariant-loop-i
 invariant-loop table₀ ops n i₀ table i = (i ≤ n) × (length table ≡ length table₀) × (table ≡ charge_each (place ops) i table₀)
 
-abbrev decreases-loop : tie.decreases-loop
+abbrev decreases-loop : tie.decreases-loop-i
 decreases-loop table₀ ops n i₀ table i = n - i
 
 -- the lookup of a turn
-lookup : (k : tie.In-loop invariant-loop decreases-loop) → Lookup k.before.before.before.before.args.ops.now k.before.loop.i
+lookup : (k : tie.In-loop-i invariant-loop decreases-loop) → Lookup k.before.before.before.before.args.ops.now k.before.loop-i.i
 lookup k =
     let start = k.before.before.before.before in
-    lookups-are start.args.ops.now start.args.n start.requires.1 start.requires.2 k.before.loop.i k.loop-test.true
+    lookups-are start.args.ops.now start.args.n start.requires.1 start.requires.2 k.before.loop-i.i k.loop-i-test.true
 
 -- its counter
-counter : (k : tie.After-counter-of invariant-loop decreases-loop) → k.counter-of.result < 10485760
-counter k = let e = k.counter-of.ensures in omega (arith, e, lookup-lt k.before.before.before.before.before.args.ops.now k.before.before.loop.i (lookup k.before))
+counter : (k : tie.After-counter_of invariant-loop decreases-loop) → k.counter_of.result < 10485760
+counter k = let e = k.counter_of.ensures in omega (arith, e, lookup-lt k.before.before.before.before.before.args.ops.now k.before.before.loop-i.i (lookup k.before))
 
-loop-holds : tie.Need-loop-init invariant-loop decreases-loop
+loop-holds : tie.Need-loop-i-init invariant-loop decreases-loop
 unfolding charge_each
 loop-holds c = (omega arith, refl, refl)
 
-counter-of-requires : tie.Need-counter-of-requires invariant-loop decreases-loop
+counter-of-requires : tie.Need-counter_of-requires invariant-loop decreases-loop
 counter-of-requires c κs = (omega arith, lookup c)
 
-mu-at-requires : tie.Need-mu-at-requires invariant-loop decreases-loop
+mu-at-requires : tie.Need-mu_at-at-requires invariant-loop decreases-loop
 mu-at-requires c κs = counter c
 
-charge-word-requires : tie.Need-charge-word-requires invariant-loop decreases-loop
+charge-word-requires : tie.Need-charge_word-requires invariant-loop decreases-loop
 charge-word-requires c κs =
     let found = c.before in
-    let in-loop = found.before.before in
-    let l = in-loop.before.loop in
-    let start = in-loop.before.before.before.before in
-    let ops = start.args.ops.now in
-    let first = start.args.table.now in
-    let e = found.mu-at.ensures ∙ ap mu_at found.before.counter-of.ensures in
+    let in-loop = c.before.before.before in
+    let l = c.loop-i in
+    let ops = c.args.ops.now in
+    let first = c.args.table.now in
+    let e = c.mu_at-at.ensures ∙ ap mu_at c.counter_of.ensures in
     let b = mu-lt (lookup_counter ops l.i) (lookup-lt ops l.i (lookup in-loop)) in
-    let h = may-charge ops (λ k. word first (mu_at k)) start.args.n start.requires.1 start.requires.2 start.requires.4 l.i in-loop.loop-test.true in
-    (omega (arith, e, b, l.invariant.1, start.requires.3), rw e (still-below (place ops) l.i first l.invariant.2 (omega (arith, b, start.requires.3)) h))
+    let h = may-charge ops (λ k. word first (mu_at k)) c.args.n c.requires.1 c.requires.2 c.requires.4 l.i c.loop-i-test.true in
+    (omega (arith, e, b, l.invariant.1, c.requires.3), rw e (still-below (place ops) l.i first l.invariant.2 (omega (arith, b, c.requires.3)) h))
 
-add-i : tie.Need-overflow-add-i invariant-loop decreases-loop
+add-i : tie.Need-overflow_add-i invariant-loop decreases-loop
 add-i c = omega arith
 
-loop-less : tie.Need-loop-smaller invariant-loop decreases-loop
+loop-less : tie.Need-loop-i-smaller invariant-loop decreases-loop
 loop-less c = omega arith
 
-loop-again : tie.Need-loop-preserved invariant-loop decreases-loop
+loop-again : tie.Need-loop-i-preserved invariant-loop decreases-loop
 loop-again c =
-    let called = c.before.before in
-    let found = called.before.before in
-    let asked = found.before in
-    let in-loop = asked.before in
-    let l = in-loop.before.loop in
-    let a = in-loop.before.before.before.before.args in
-    let e = called.charge-word.ensures ∙ ap (λ (k : ℕ). charge l.table k 1) (found.mu-at.ensures ∙ ap mu_at asked.counter-of.ensures) in
-    turn a.ops.now a.table.now l.invariant in-loop.loop-test.true e
+    let l = c.loop-i in
+    let a = c.args in
+    let e = c.charge_word.ensures ∙ ap (λ (k : ℕ). charge l.table k 1) (c.mu_at-at.ensures ∙ ap mu_at c.counter_of.ensures) in
+    turn a.ops.now a.table.now l.invariant c.loop-i-test.true e
 
-same_length : tie.Need-same-length invariant-loop decreases-loop
-same_length c = c.before.loop.invariant.1
+same_length : tie.Need-shape_of-table invariant-loop decreases-loop
+same_length c = c.loop-i.invariant.1
 
 returns : tie.Need-returns invariant-loop decreases-loop
 returns c =
-    let start = c.before.before.before.before in
-    let l = c.before.loop in
-    let e : l.i ≡ start.args.n = omega arith in
-    l.invariant.2 ∙ ap (λ (k : ℕ). charge_each (place start.args.ops.now) k start.args.table.now) e
+    let l = c.loop-i in
+    let e : l.i ≡ c.args.n = omega arith in
+    l.invariant.2 ∙ ap (λ (k : ℕ). charge_each (place c.args.ops.now) k c.args.table.now) e
 
-pub update-lookups-spec : {M : Type 1} → statement M
-update-lookups-spec =
+pub update_lookups_spec : {M : Type 1} → statement M
+update_lookups_spec =
     tie.close
     (tie.spec
     invariant-loop

@@ -5,53 +5,53 @@ use Rattle.byte_tuples.proofs.Stored.{alu-stored}
 use Rattle.byte_tuples.proofs.words.put_alu.Statement.{statement}
 use Rattle.byte_tuples.proofs.words.put_alu.Tie as tie
 
-put-header-requires : tie.Need-put-header-requires
+put-header-requires : tie.Need-put_header-requires
 put-header-requires c κs = omega arith
 
-add-from : tie.Need-overflow-add-from
+add-from : tie.Need-overflow_add-from
 add-from c = omega arith
 
-mul-out : tie.Need-overflow-mul-out
+mul-out : tie.Need-offset_bounds-out-from
 mul-out c = omega arith
 
-slice-write-out : tie.Need-slice-write-out
+slice-write-out : tie.Need-bounds-out-from
 slice-write-out c = omega arith
 
-add-out : tie.Need-overflow-add-out
+add-out : tie.Need-overflow_add-out
 add-out c = omega arith
 
-mul-out-2 : tie.Need-overflow-mul-out-2
+mul-out-2 : tie.Need-offset_bounds-out-from-2
 mul-out-2 c = omega arith
 
-slice-write-out-2 : tie.Need-slice-write-out-2
+slice-write-out-2 : tie.Need-bounds-out-from-2
 slice-write-out-2 c = simp length-set (omega arith)
 
-add-out-2 : tie.Need-overflow-add-out-2
+add-out-2 : tie.Need-overflow_add-out-2
 add-out-2 c = omega arith
 
-mul-out-3 : tie.Need-overflow-mul-out-3
+mul-out-3 : tie.Need-offset_bounds-out-from-3
 mul-out-3 c = omega arith
 
-slice-write-out-3 : tie.Need-slice-write-out-3
+slice-write-out-3 : tie.Need-bounds-out-from-3
 slice-write-out-3 c = simp length-set (omega arith)
 
-add-out-3 : tie.Need-overflow-add-out-3
+add-out-3 : tie.Need-overflow_add-out-3
 add-out-3 c = omega arith
 
-mul-out-4 : tie.Need-overflow-mul-out-4
+mul-out-4 : tie.Need-offset_bounds-out-from-4
 mul-out-4 c = omega arith
 
-slice-write-out-4 : tie.Need-slice-write-out-4
+slice-write-out-4 : tie.Need-bounds-out-from-4
 slice-write-out-4 c = simp length-set (omega arith)
 
-same_length : tie.Need-same-length
+same_length : tie.Need-shape_of-out
 same_length c = simp length-set (omega arith)
 
 returns : tie.Need-returns
-returns c = alu-stored _ _ _ _ _ _ _ _ c.before.before.put-header.ensures
+returns c = alu-stored _ _ _ _ _ _ _ _ c.put_header.ensures
 
-pub put-alu-spec : {M : Type 1} → statement M
-put-alu-spec =
+pub put_alu_spec : {M : Type 1} → statement M
+put_alu_spec =
     tie.close
     (tie.spec
     put-header-requires

@@ -8,62 +8,60 @@ use Rattle.byte_tuples.proofs.Stored.{listed_start, listed-one}
 use Rattle.byte_tuples.proofs.words.put_bytes_lane.Statement.{statement}
 use Rattle.byte_tuples.proofs.words.put_bytes_lane.Tie as tie
 
-abbrev invariant-loop : tie.invariant-loop
+abbrev invariant-loop : tie.invariant-loop-z
 invariant-loop row a b out₀ at z₀ out z = Listed out₀ at (bytes_lane row a b) 8 out z (at + 6 * z)
 
-abbrev decreases-loop : tie.decreases-loop
+abbrev decreases-loop : tie.decreases-loop-z
 decreases-loop row a b out₀ at z₀ out z = 8 - z
 
-loop-holds : tie.Need-loop-init invariant-loop decreases-loop
+loop-holds : tie.Need-loop-z-init invariant-loop decreases-loop
 loop-holds c = listed_start _ _ _ _
 
-mul-put-bytes : tie.Need-overflow-mul-put-bytes invariant-loop decreases-loop
+mul-put-bytes : tie.Need-overflow_mul-z invariant-loop decreases-loop
 mul-put-bytes c = omega arith
 
-add-put-bytes : tie.Need-overflow-add-put-bytes invariant-loop decreases-loop
+add-put-bytes : tie.Need-overflow_add-at invariant-loop decreases-loop
 add-put-bytes c = omega arith
 
-add-put-bytes-2 : tie.Need-overflow-add-put-bytes-2 invariant-loop decreases-loop
+add-put-bytes-2 : tie.Need-overflow_add-a invariant-loop decreases-loop
 add-put-bytes-2 c = omega arith
 
-mul-put-bytes-2 : tie.Need-overflow-mul-put-bytes-2 invariant-loop decreases-loop
+mul-put-bytes-2 : tie.Need-offset_bounds-row-a invariant-loop decreases-loop
 mul-put-bytes-2 c = omega arith
 
-shared-slice-read-put-bytes : tie.Need-shared-slice-read-put-bytes invariant-loop decreases-loop
+shared-slice-read-put-bytes : tie.Need-bounds-row-a invariant-loop decreases-loop
 shared-slice-read-put-bytes c = omega arith
 
-add-put-bytes-3 : tie.Need-overflow-add-put-bytes-3 invariant-loop decreases-loop
+add-put-bytes-3 : tie.Need-overflow_add-b invariant-loop decreases-loop
 add-put-bytes-3 c = omega arith
 
-mul-put-bytes-3 : tie.Need-overflow-mul-put-bytes-3 invariant-loop decreases-loop
+mul-put-bytes-3 : tie.Need-offset_bounds-row-b invariant-loop decreases-loop
 mul-put-bytes-3 c = omega arith
 
-shared-slice-read-put-bytes-2 : tie.Need-shared-slice-read-put-bytes-2 invariant-loop decreases-loop
+shared-slice-read-put-bytes-2 : tie.Need-bounds-row-b invariant-loop decreases-loop
 shared-slice-read-put-bytes-2 c = omega arith
 
-put-bytes-requires : tie.Need-put-bytes-requires invariant-loop decreases-loop
+put-bytes-requires : tie.Need-put_bytes-requires invariant-loop decreases-loop
 put-bytes-requires c κs = omega arith
 
-add-z : tie.Need-overflow-add-z invariant-loop decreases-loop
+add-z : tie.Need-overflow_add-z invariant-loop decreases-loop
 add-z c = omega arith
 
-loop-less : tie.Need-loop-smaller invariant-loop decreases-loop
+loop-less : tie.Need-loop-z-smaller invariant-loop decreases-loop
 loop-less c = omega arith
 
-loop-again : tie.Need-loop-preserved invariant-loop decreases-loop
+loop-again : tie.Need-loop-z-preserved invariant-loop decreases-loop
 loop-again c =
-    let put = c.before.before in
-    let in-loop = put.before.before.before.before in
-    listed-one 2 _ in-loop.before.loop.invariant in-loop.loop-test.true refl refl (omega arith) put.put-bytes.ensures
+    listed-one 2 _ c.loop-z.invariant c.loop-z-test.true refl refl (omega arith) c.put_bytes.ensures
 
-same_length : tie.Need-same-length invariant-loop decreases-loop
+same_length : tie.Need-shape_of-out invariant-loop decreases-loop
 same_length c = omega arith
 
 returns : tie.Need-returns invariant-loop decreases-loop
-returns c = listed-all c.before.loop.invariant c.loop-test.false
+returns c = listed-all c.loop-z.invariant c.loop-z-test.false
 
-pub put-bytes-lane-spec : {M : Type 1} → statement M
-put-bytes-lane-spec =
+pub put_bytes_lane_spec : {M : Type 1} → statement M
+put_bytes_lane_spec =
     tie.close
     (tie.spec
     invariant-loop

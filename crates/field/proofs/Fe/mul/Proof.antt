@@ -7,7 +7,7 @@ use Rattle.field.proofs.Field.{mod-p}
 use Rattle.field.proofs.Fe.mul.Statement.{statement}
 use Rattle.field.proofs.Fe.mul.Tie as tie
 
-product-requires : tie.Need-product-requires
+product-requires : tie.Need-product-w-requires
 product-requires c κs = search rules
 
 reduced-requires : tie.Need-reduced-requires
@@ -15,7 +15,7 @@ reduced-requires c κs = search rules
 
 returns : tie.Need-returns
 returns c =
-    (c.reduced.ensures ∙ ap (λ (n : ℕ). n % p) c.before.product.ensures, subst (λ (n : ℕ). n < p) (sym c.reduced.ensures) (mod-p _))
+    (c.reduced.ensures ∙ ap (λ (n : ℕ). n % p) c.product-w.ensures, subst (λ (n : ℕ). n < p) (sym c.reduced.ensures) (mod-p _))
 
-pub mul-spec : {M : Type 1} → statement M
-mul-spec = tie.close (tie.spec product-requires reduced-requires returns)
+pub mul_spec : {M : Type 1} → statement M
+mul_spec = tie.close (tie.spec product-requires reduced-requires returns)

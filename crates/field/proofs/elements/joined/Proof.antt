@@ -20,40 +20,40 @@ left_below a b h = omega (arith, h, or_add_and a b, and_le_r a b)
 right-below : (a b : ℕ) → bit_or a b < p → b < p
 right-below a b h = omega (arith, h, or_add_and a b, and_le_l a b)
 
-abbrev invariant-loop : tie.invariant-loop
+abbrev invariant-loop : tie.invariant-loop-k
 invariant-loop words n all₀ k₀ all k = (k ≤ n) × (all < p → first_at (not_element words) k ≡ none)
 
-abbrev decreases-loop : tie.decreases-loop
+abbrev decreases-loop : tie.decreases-loop-k
 decreases-loop words n all₀ k₀ all k = n - k
 
-loop-holds : tie.Need-loop-init invariant-loop decreases-loop
+loop-holds : tie.Need-loop-k-init invariant-loop decreases-loop
 loop-holds c = (omega arith, λ h. first-start _)
 
-mul-all : tie.Need-overflow-mul-all invariant-loop decreases-loop
+mul-all : tie.Need-offset_bounds-words-k invariant-loop decreases-loop
 mul-all c = omega arith
 
-shared-slice-read-all : tie.Need-shared-slice-read-all invariant-loop decreases-loop
+shared-slice-read-all : tie.Need-bounds-words-k invariant-loop decreases-loop
 shared-slice-read-all c = omega arith
 
-add-k : tie.Need-overflow-add-k invariant-loop decreases-loop
+add-k : tie.Need-overflow_add-k invariant-loop decreases-loop
 add-k c = omega arith
 
-loop-less : tie.Need-loop-smaller invariant-loop decreases-loop
+loop-less : tie.Need-loop-k-smaller invariant-loop decreases-loop
 loop-less c = omega arith
 
-loop-again : tie.Need-loop-preserved invariant-loop decreases-loop
+loop-again : tie.Need-loop-k-preserved invariant-loop decreases-loop
 unfolding not_element
 loop-again c =
-    let l = c.before.before.loop in
-    let w = word c.before.before.before.args.words.now l.k in
+    let l = c.loop-k in
+    let w = word c.args.words.now l.k in
     (omega arith, λ h. at_more _ _ (l.invariant.1 (left_below l.all w h)) (lt-leb p w (right-below l.all w h)))
 
 returns : tie.Need-returns invariant-loop decreases-loop
 returns c =
-    λ h. at_none _ _ _ c.before.loop.invariant.0 c.loop-test.false (c.before.loop.invariant.1 h)
+    λ h. at_none _ _ _ c.loop-k.invariant.0 c.loop-k-test.false (c.loop-k.invariant.1 h)
 
-pub joined-spec : {M : Type 1} → statement M
-joined-spec =
+pub joined_spec : {M : Type 1} → statement M
+joined_spec =
     tie.close
     (tie.spec
     invariant-loop

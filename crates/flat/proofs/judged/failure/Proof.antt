@@ -8,5 +8,5 @@ returns : tie.Need-returns
 unfolding failure
 returns c = refl
 
-pub failure-spec : {M : Type 1} → statement M
-failure-spec = tie.close (tie.spec returns)
+pub failure_spec : {M : Type 1} → statement M
+failure_spec = tie.close (tie.spec returns)

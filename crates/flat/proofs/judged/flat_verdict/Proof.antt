@@ -5,34 +5,34 @@ use Rattle.flat.specs.FlatJudged.{flat_verdict}
 use Rattle.flat.proofs.judged.flat_verdict.Statement.{statement}
 use Rattle.flat.proofs.judged.flat_verdict.Tie as tie
 
-enum-known-verdict : tie.Need-enum-known-verdict
+enum-known-verdict : tie.Need-enum_known-verdict
 enum-known-verdict c = search rules
 
-enum-known-verdict-2 : tie.Need-enum-known-verdict-2
+enum-known-verdict-2 : tie.Need-enum_known-verdict-in-Value-1
 enum-known-verdict-2 c = search rules
 
 failed-requires : tie.Need-failed-requires
 failed-requires c κs = search rules
 
-enum-known-verdict-3 : tie.Need-enum-known-verdict-3
+enum-known-verdict-3 : tie.Need-enum_known-verdict-in-Lookup-1
 enum-known-verdict-3 c = search rules
 
-failed-requires-2 : tie.Need-failed-requires-2
+failed-requires-2 : tie.Need-failed-requires-in-Lookup
 failed-requires-2 c κs = search rules
 
-enum-known-verdict-4 : tie.Need-enum-known-verdict-4
+enum-known-verdict-4 : tie.Need-enum_known-verdict-in-Repeated-1
 enum-known-verdict-4 c = search rules
 
 failure-requires : tie.Need-failure-requires
 failure-requires c κs = search rules
 
-enum-known-verdict-5 : tie.Need-enum-known-verdict-5
+enum-known-verdict-5 : tie.Need-enum_known-verdict-in-Unbalanced-1
 enum-known-verdict-5 c = search rules
 
-failed-requires-3 : tie.Need-failed-requires-3
+failed-requires-3 : tie.Need-failed-requires-in-Unbalanced
 failed-requires-3 c κs = search rules
 
-enum-known-verdict-6 : tie.Need-enum-known-verdict-6
+enum-known-verdict-6 : tie.Need-enum_known-verdict-in-Refused-1
 enum-known-verdict-6 c = search rules
 
 number-requires : tie.Need-number-requires
@@ -41,32 +41,32 @@ number-requires c κs = search rules
 detail-requires : tie.Need-detail-requires
 detail-requires c κs = search rules
 
-returns : tie.Need-returns
+returns : tie.Need-returns-in-Holds
 unfolding flat_verdict
-returns c = rw c.before.verdict.given.1
+returns c = rw c.in-Holds.is
 
-returns-2 : tie.Need-returns-2
+returns-2 : tie.Need-returns-in-Value
 unfolding flat_verdict
-returns-2 c = c.failed.ensures ∙ ap flat_verdict (sym c.before.before.verdict2.given.1)
+returns-2 c = c.failed.ensures ∙ ap flat_verdict (sym c.in-Value.is)
 
-returns-3 : tie.Need-returns-3
+returns-3 : tie.Need-returns-in-Lookup
 unfolding flat_verdict
-returns-3 c = c.failed2.ensures ∙ ap flat_verdict (sym c.before.before.verdict3.given.1)
+returns-3 c = c.failed-in-Lookup.ensures ∙ ap flat_verdict (sym c.in-Lookup.is)
 
-returns-4 : tie.Need-returns-4
+returns-4 : tie.Need-returns-in-Repeated
 unfolding flat_verdict
-returns-4 c = c.failure.ensures ∙ ap flat_verdict (sym c.before.before.verdict4.given.1)
+returns-4 c = c.failure.ensures ∙ ap flat_verdict (sym c.in-Repeated.is)
 
-returns-5 : tie.Need-returns-5
+returns-5 : tie.Need-returns-in-Unbalanced
 unfolding flat_verdict
-returns-5 c = c.failed3.ensures ∙ ap flat_verdict (sym c.before.before.verdict5.given.1)
+returns-5 c = c.failed-in-Unbalanced.ensures ∙ ap flat_verdict (sym c.in-Unbalanced.is)
 
-returns-6 : tie.Need-returns-6
+returns-6 : tie.Need-returns-in-Refused
 unfolding flat_verdict
-returns-6 c = rw (c.before.before.before.verdict6.given.1, c.before.number.ensures, c.detail.ensures)
+returns-6 c = rw (c.in-Refused.is, c.number.ensures, c.detail.ensures)
 
-pub flat-verdict-spec : {M : Type 1} → statement M
-flat-verdict-spec =
+pub flat_verdict_spec : {M : Type 1} → statement M
+flat_verdict_spec =
     tie.close
     (tie.spec
     enum-known-verdict

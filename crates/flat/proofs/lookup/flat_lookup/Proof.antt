@@ -4,22 +4,22 @@ use Rattle.flat.specs.FlatLookup.{flat_lookup}
 use Rattle.flat.proofs.lookup.flat_lookup.Statement.{statement}
 use Rattle.flat.proofs.lookup.flat_lookup.Tie as tie
 
-enum-known-answer : tie.Need-enum-known-answer
+enum-known-answer : tie.Need-enum_known-answer
 enum-known-answer c = search rules
 
-lookup-type-index-requires : tie.Need-lookup-type-index-requires
+lookup-type-index-requires : tie.Need-lookup_type_index-requires
 lookup-type-index-requires c κs = search rules
 
-cast-t8 : tie.Need-overflow-cast-t8
+cast-t8 : tie.Need-overflow_cast-result
 cast-t8 c = search rules
 
-cast-t9 : tie.Need-overflow-cast-t9
+cast-t9 : tie.Need-overflow_cast-result-in-Is
 cast-t9 c = search rules
 
-cast-t10 : tie.Need-overflow-cast-t10
+cast-t10 : tie.Need-overflow_cast-result-in-Is-2
 cast-t10 c = search rules
 
-enum-known-answer-2 : tie.Need-enum-known-answer-2
+enum-known-answer-2 : tie.Need-enum_known-answer-in-Refused-1
 enum-known-answer-2 c = search rules
 
 number-requires : tie.Need-number-requires
@@ -28,16 +28,16 @@ number-requires c κs = search rules
 detail-requires : tie.Need-detail-requires
 detail-requires c κs = search rules
 
-returns : tie.Need-returns
+returns : tie.Need-returns-in-Is
 unfolding flat_lookup
-returns c = rw (c.before.before.before.before.before.answer.given.1, c.before.before.before.lookup-type-index.ensures)
+returns c = rw (c.in-Is.is, c.lookup_type_index.ensures)
 
-returns-2 : tie.Need-returns-2
+returns-2 : tie.Need-returns-in-Refused
 unfolding flat_lookup
-returns-2 c = rw (c.before.before.before.answer2.given.1, c.before.number.ensures, c.detail.ensures)
+returns-2 c = rw (c.in-Refused.is, c.number.ensures, c.detail.ensures)
 
-pub flat-lookup-spec : {M : Type 1} → statement M
-flat-lookup-spec =
+pub flat_lookup_spec : {M : Type 1} → statement M
+flat_lookup_spec =
     tie.close
     (tie.spec
     enum-known-answer

@@ -10,16 +10,16 @@ use Rattle.flat.proofs.reader.cursor_of.Tie as tie
 reading-requires : tie.Need-reading-requires
 reading-requires c κs = search rules
 
-returns : tie.Need-returns
+returns : tie.Need-returns-then-c-eq1
 unfolding cursor_of
-returns c = c.reading.ensures ∙ simp (eq-eqb _ _ c.before.if1.true)
+returns c = c.reading.ensures ∙ simp (eq-eqb _ _ c.if-c-eq1.true)
 
-refusal-of-requires : tie.Need-refusal-of-requires
+refusal-of-requires : tie.Need-refusal_of-requires
 refusal-of-requires c κs = search rules
 
-returns-2 : tie.Need-returns-2
+returns-2 : tie.Need-returns
 unfolding cursor_of
-returns-2 c = ap Refused c.refusal-of.ensures ∙ simp (ne_eqb _ _ c.before.if1.false)
+returns-2 c = ap Refused c.refusal_of.ensures ∙ simp (ne_eqb _ _ c.if-c-eq1.false)
 
-pub cursor-of-spec : {M : Type 1} → statement M
-cursor-of-spec = tie.close (tie.spec reading-requires returns refusal-of-requires returns-2)
+pub cursor_of_spec : {M : Type 1} → statement M
+cursor_of_spec = tie.close (tie.spec reading-requires returns refusal-of-requires returns-2)

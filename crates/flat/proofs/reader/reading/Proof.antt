@@ -8,5 +8,5 @@ returns : tie.Need-returns
 unfolding reading_of
 returns c = refl
 
-pub reading-spec : {M : Type 1} → statement M
-reading-spec = tie.close (tie.spec returns)
+pub reading_spec : {M : Type 1} → statement M
+reading_spec = tie.close (tie.spec returns)

@@ -6,5 +6,5 @@ use Rattle.is_wh.proofs.IsWhKey.of_dword.Tie as tie
 returns : tie.Need-returns
 returns c = refl
 
-pub of-dword-spec : {M : Type 1} → statement M
-of-dword-spec = tie.close (tie.spec returns)
+pub of_dword_spec : {M : Type 1} → statement M
+of_dword_spec = tie.close (tie.spec returns)

@@ -6,13 +6,13 @@ use borrow.Author.Rules.{rules}
 use Rattle.is_wh.proofs.parts.pair.Statement.{statement}
 use Rattle.is_wh.proofs.parts.pair.Tie as tie
 
-slice-write-out : tie.Need-slice-write-out
+slice-write-out : tie.Need-bounds-out-0
 slice-write-out c = search rules
 
-slice-write-out-2 : tie.Need-slice-write-out-2
+slice-write-out-2 : tie.Need-bounds-out-1
 slice-write-out-2 c = search rules
 
-same_length : tie.Need-same-length
+same_length : tie.Need-shape_of-out
 same_length c = search rules
 
 returns : tie.Need-returns

@@ -6,14 +6,14 @@ use borrow.Author.Rules.{rules}
 use Rattle.is_wh.proofs.parts.send_one.Statement.{statement}
 use Rattle.is_wh.proofs.parts.send_one.Tie as tie
 
-slice-write-out : tie.Need-slice-write-out
+slice-write-out : tie.Need-bounds-out-0
 slice-write-out c = search rules
 
-same_length : tie.Need-same-length
+same_length : tie.Need-shape_of-out
 same_length c = search rules
 
 returns : tie.Need-returns
 returns c = (refl, sets-overwrite _ (_ ∷ []) c.requires)
 
-pub send-one-spec : {M : Type 1} → statement M
-send-one-spec = tie.close (tie.spec slice-write-out same_length returns)
+pub send_one_spec : {M : Type 1} → statement M
+send_one_spec = tie.close (tie.spec slice-write-out same_length returns)

@@ -10,48 +10,38 @@ use Rattle.is_wh_counts.proofs.Searching.{search-at, search-nowhere, nothing-cha
 use Rattle.is_wh_counts.proofs.checks.first_charged.Statement.{statement}
 use Rattle.is_wh_counts.proofs.checks.first_charged.Tie as tie
 
-returns : tie.Need-returns
-returns c = let a = c.before.before.before.args in nothing-charged a.rows.now a.counters.now c.if1.true
+returns : tie.Need-returns-then-n-eq0
+returns c = let a = c.args in nothing-charged a.rows.now a.counters.now c.if-n-eq0.true
 
-table-height-requires : tie.Need-table-height-requires
+table-height-requires : tie.Need-table_height-h-requires
 table-height-requires c κs = search rules
 
-lower-by-rows-requires : tie.Need-lower-by-rows-requires
+lower-by-rows-requires : tie.Need-lower_by_rows-least-requires
 lower-by-rows-requires c κs = search rules
 
-sub-lower-some : tie.Need-overflow-sub-lower-some
+sub-lower-some : tie.Need-overflow_sub-h
 sub-lower-some c =
-    let h = c.before in
-    let s = h.before.before.before.before in
-    omega (arith, h.table-height.ensures, height-ge 4 (length s.args.rows.now / 3))
+    omega (arith, c.table_height-h.ensures, height-ge 4 (length c.args.rows.now / 3))
 
-lower-some-requires : tie.Need-lower-some-requires
+lower-some-requires : tie.Need-lower_some-first-requires
 lower-some-requires c κs = search rules
 
-returns-2 : tie.Need-returns-2
+returns-2 : tie.Need-returns-then-first-lt-NUM_COUNTERS
 returns-2 c =
-    let low = c.before in
-    let all = low.before in
-    let h = all.before in
-    let s = h.before.before.before.before in
-    let C = s.args.counters.now in
-    let n = length s.args.rows.now / 3 in
-    search-at s.args.rows.now C s.requires.0 h.before.if1.false h.table-height.ensures
-    (low.lower-some.ensures ∙ ap (lower_some C 5 (h.table-height.result - n)) all.lower-by-rows.ensures) c.if2.true
+    let C = c.args.counters.now in
+    let n = length c.args.rows.now / 3 in
+    search-at c.args.rows.now C c.requires.0 c.if-n-eq0.false c.table_height-h.ensures
+    (c.lower_some-first.ensures ∙ ap (lower_some C 5 (c.table_height-h.result - n)) c.lower_by_rows-least.ensures) c.if-first-lt-NUM_COUNTERS.true
 
-returns-3 : tie.Need-returns-3
+returns-3 : tie.Need-returns
 returns-3 c =
-    let low = c.before in
-    let all = low.before in
-    let h = all.before in
-    let s = h.before.before.before.before in
-    let C = s.args.counters.now in
-    let n = length s.args.rows.now / 3 in
-    search-nowhere s.args.rows.now C s.requires.0 h.before.if1.false h.table-height.ensures
-    (low.lower-some.ensures ∙ ap (lower_some C 5 (h.table-height.result - n)) all.lower-by-rows.ensures) c.if2.false
+    let C = c.args.counters.now in
+    let n = length c.args.rows.now / 3 in
+    search-nowhere c.args.rows.now C c.requires.0 c.if-n-eq0.false c.table_height-h.ensures
+    (c.lower_some-first.ensures ∙ ap (lower_some C 5 (c.table_height-h.result - n)) c.lower_by_rows-least.ensures) c.if-first-lt-NUM_COUNTERS.false
 
-pub first-charged-spec : {M : Type 1} → statement M
-first-charged-spec =
+pub first_charged_spec : {M : Type 1} → statement M
+first_charged_spec =
     tie.close
     (tie.spec
     returns

@@ -13,71 +13,71 @@ use Rattle.is_wh_rows.proofs.Refusals.{dedup-entries, dedup-room, key-bad, keys-
 use Rattle.is_wh_rows.proofs.checks.check_keys.Statement.{statement}
 use Rattle.is_wh_rows.proofs.checks.check_keys.Tie as tie
 
-abbrev Keys : tie.After-check-entries → List ℕ
-Keys k = k.before.before.args.keys.now
+abbrev Keys : tie.After-check_entries → List ℕ
+Keys k = k.args.keys.now
 
 -- how many keys, and that they are whole
-entries : (k : tie.After-enum-told) → (length (Keys k.before.before) / 2 ≤ MAX-KEYS) × (length (Keys k.before.before) % 2 ≡ 0) × (accepted ≡ accepted)
-entries k = entries-passed 2 (Keys k.before.before) accepted (is-done _ (sym k.enum_told.given.1 ∙ k.before.before.check-entries.ensures))
+entries : (k : tie.In_default) → (length (Keys k.before) / 2 ≤ MAX-KEYS) × (length (Keys k.before) % 2 ≡ 0) × (accepted ≡ accepted)
+entries k = entries-passed 2 (Keys k.before) accepted (is-done _ (sym k.in_default.is ∙ k.check_entries.ensures))
 
-check-entries-requires : tie.Need-check-entries-requires
+check-entries-requires : tie.Need-check_entries-requires
 check-entries-requires c κs = search rules
 
-enum-known-refusal : tie.Need-enum-known-refusal
+enum-known-refusal : tie.Need-enum_known-refusal
 enum-known-refusal c = search rules
 
-returns : tie.Need-returns
-returns c = answers (dedup-entries _ _ _ _ (is-refused _ (sym c.before.refusal.given.1 ∙ c.before.before.before.check-entries.ensures)))
+returns : tie.Need-returns-in-Refused
+returns c = answers (dedup-entries _ _ _ _ (is-refused _ (sym c.in-Refused.is ∙ c.check_entries.ensures)))
 
-enum_told : tie.Need-enum-told
+enum_told : tie.Need-enum_told-1
 enum_told c = search rules
 
-check-room-requires : tie.Need-check-room-requires
+check-room-requires : tie.Need-check_room-requires
 check-room-requires c κs = (entries c).0
 
-enum-known-refusal-2 : tie.Need-enum-known-refusal-2
+enum-known-refusal-2 : tie.Need-enum_known-refusal-in-Refused-check_room
 enum-known-refusal-2 c = search rules
 
-returns-2 : tie.Need-returns-2
+returns-2 : tie.Need-returns-in-Refused-check_room
 returns-2 c =
-    let r = c.before.before.before in
-    let a = entries r.before in
-    answers (dedup-room _ _ _ _ a.0 a.1 (is-refused _ (sym c.before.refusal2.given.1 ∙ r.check-room.ensures)))
+    let r = c.before in
+    let a = entries c.before.before in
+    answers (dedup-room _ _ _ _ a.0 a.1 (is-refused _ (sym c.in-Refused-check_room.is ∙ c.check_room.ensures)))
 
-enum-told-2 : tie.Need-enum-told-2
+enum-told-2 : tie.Need-enum_told-in_default-check_room
 enum-told-2 c = search rules
 
-first-bad-requires : tie.Need-first-bad-requires
+first-bad-requires : tie.Need-first_bad-requires
 first-bad-requires c κs = search rules
 
-enum-known-k : tie.Need-enum-known-k
+enum-known-k : tie.Need-enum_known-k
 enum-known-k c = search rules
 
-returns-3 : tie.Need-returns-3
+returns-3 : tie.Need-returns-in-At
 returns-3 c =
-    let f = c.before.before.before in
+    let f = c.before in
     let t = f.before in
-    let r = t.before.before in
-    let a = entries r.before in
+    let r = t.before in
+    let a = entries c.before.before.before.before in
     answers
-    (key-bad _ _ _ _ a.0 a.1 (is-done _ (sym t.enum-told2.given.1 ∙ r.check-room.ensures)) _
-    (place_at _ (sym c.before.k.given.1 ∙ f.first-bad.ensures)))
+    (key-bad _ _ _ _ a.0 a.1 (is-done _ (sym c.in_default-check_room.is ∙ c.check_room.ensures)) _
+    (place_at _ (sym c.in-At.is ∙ c.first_bad.ensures)))
 
-enum-told-3 : tie.Need-enum-told-3
+enum-told-3 : tie.Need-enum_told-in_default-first_bad
 enum-told-3 c = search rules
 
-returns-4 : tie.Need-returns-4
+returns-4 : tie.Need-returns
 returns-4 c =
-    let f = c.before.before in
+    let f = c.before in
     let t = f.before in
-    let r = t.before.before in
-    let a = entries r.before in
+    let r = t.before in
+    let a = entries c.before.before.before.before in
     accepts
-    (keys-pass _ _ _ _ a.0 a.1 (is-done _ (sym t.enum-told2.given.1 ∙ r.check-room.ensures))
-    (place-nowhere _ (sym c.enum-told3.given.1 ∙ f.first-bad.ensures)))
+    (keys-pass _ _ _ _ a.0 a.1 (is-done _ (sym c.in_default-check_room.is ∙ c.check_room.ensures))
+    (place-nowhere _ (sym c.in_default-first_bad.is ∙ c.first_bad.ensures)))
 
-pub check-keys-spec : {M : Type 1} → statement M
-check-keys-spec =
+pub check_keys_spec : {M : Type 1} → statement M
+check_keys_spec =
     tie.close
     (tie.spec
     check-entries-requires

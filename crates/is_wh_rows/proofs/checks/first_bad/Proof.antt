@@ -11,48 +11,46 @@ use Rattle.is_wh_rows.proofs.Lists.{is-bad, not-bad}
 use Rattle.is_wh_rows.proofs.checks.first_bad.Statement.{statement}
 use Rattle.is_wh_rows.proofs.checks.first_bad.Tie as tie
 
-abbrev invariant-loop : tie.invariant-loop
+abbrev invariant-loop : tie.invariant-loop-k
 invariant-loop list size k₀ k = (k ≤ length list) × (first (at_index (bad_at size list)) k ≡ none)
 
-abbrev decreases-loop : tie.decreases-loop
+abbrev decreases-loop : tie.decreases-loop-k
 decreases-loop list size k₀ k = length list - k
 
-loop-holds : tie.Need-loop-init invariant-loop decreases-loop
+loop-holds : tie.Need-loop-k-init invariant-loop decreases-loop
 loop-holds c = (omega arith, first-start _)
 
-rem-limit-of : tie.Need-nonzero-rem-limit-of invariant-loop decreases-loop
+rem-limit-of : tie.Need-nonzero_rem-k invariant-loop decreases-loop
 rem-limit-of c = omega arith
 
-limit-of-requires : tie.Need-limit-of-requires invariant-loop decreases-loop
+limit-of-requires : tie.Need-limit_of-limit-requires invariant-loop decreases-loop
 limit-of-requires c κs = tt
 
-mul-if1 : tie.Need-overflow-mul-if1 invariant-loop decreases-loop
+mul-if1 : tie.Need-offset_bounds-list-k invariant-loop decreases-loop
 mul-if1 c = omega arith
 
-shared-slice-read-if1 : tie.Need-shared-slice-read-if1 invariant-loop decreases-loop
+shared-slice-read-if1 : tie.Need-bounds-list-k invariant-loop decreases-loop
 shared-slice-read-if1 c = omega arith
 
-returns : tie.Need-returns invariant-loop decreases-loop
+returns : tie.Need-returns-then-limit-list invariant-loop decreases-loop
 returns c =
-    let l = c.before.before in
-    sym (ap place_of (at-hit _ _ _ l.before.loop-test.true l.before.before.loop.invariant.1 (is-bad _ _ _ _ l.limit-of.ensures c.if1.true)))
+    sym (ap place_of (at-hit _ _ _ c.loop-k-test.true c.loop-k.invariant.1 (is-bad _ _ _ _ c.limit_of-limit.ensures c.if-limit-list.true)))
 
-add-k : tie.Need-overflow-add-k invariant-loop decreases-loop
+add-k : tie.Need-overflow_add-k invariant-loop decreases-loop
 add-k c = omega arith
 
-loop-less : tie.Need-loop-smaller invariant-loop decreases-loop
+loop-less : tie.Need-loop-k-smaller invariant-loop decreases-loop
 loop-less c = omega arith
 
-loop-again : tie.Need-loop-preserved invariant-loop decreases-loop
+loop-again : tie.Need-loop-k-preserved invariant-loop decreases-loop
 loop-again c =
-    let l = c.before.before in
-    (omega arith, at_more _ _ l.before.before.loop.invariant.1 (not-bad _ _ _ _ l.limit-of.ensures c.if1.false))
+    (omega arith, at_more _ _ c.loop-k.invariant.1 (not-bad _ _ _ _ c.limit_of-limit.ensures c.if-limit-list.false))
 
-returns-2 : tie.Need-returns-2 invariant-loop decreases-loop
-returns-2 c = sym (ap place_of (at_none _ _ _ c.before.loop.invariant.0 c.loop-test.false c.before.loop.invariant.1))
+returns-2 : tie.Need-returns invariant-loop decreases-loop
+returns-2 c = sym (ap place_of (at_none _ _ _ c.loop-k.invariant.0 c.loop-k-test.false c.loop-k.invariant.1))
 
-pub first-bad-spec : {M : Type 1} → statement M
-first-bad-spec =
+pub first_bad_spec : {M : Type 1} → statement M
+first_bad_spec =
     tie.close
     (tie.spec
     invariant-loop

@@ -7,28 +7,27 @@ use Rattle.job.proofs.Refusals.{first-refused, words-decide}
 use Rattle.job.proofs.checks.check_job.Statement.{statement}
 use Rattle.job.proofs.checks.check_job.Tie as tie
 
-check-counts-requires : tie.Need-check-counts-requires
+check-counts-requires : tie.Need-check_counts-requires
 check-counts-requires c κs = search rules
 
-enum-known-refusal : tie.Need-enum-known-refusal
+enum-known-refusal : tie.Need-enum_known-refusal
 enum-known-refusal c = search rules
 
-returns : tie.Need-returns
-returns c = answers (first-refused _ _ _ _ _ (is-refused _ (sym c.before.refusal.given.1 ∙ c.before.before.before.check-counts.ensures)))
+returns : tie.Need-returns-in-Refused
+returns c = answers (first-refused _ _ _ _ _ (is-refused _ (sym c.in-Refused.is ∙ c.check_counts.ensures)))
 
-enum_told : tie.Need-enum-told
+enum_told : tie.Need-enum_told-1
 enum_told c = search rules
 
-check-words-requires : tie.Need-check-words-requires
+check-words-requires : tie.Need-check_words-requires
 check-words-requires c κs = search rules
 
-returns-2 : tie.Need-returns-2
+returns-2 : tie.Need-returns
 returns-2 c =
-    let t = c.before in
-    c.check-words.ensures ∙ ap answer_of (words-decide _ _ _ _ _ (is-done _ (sym t.enum_told.given.1 ∙ t.before.before.check-counts.ensures)))
+    c.check_words.ensures ∙ ap answer_of (words-decide _ _ _ _ _ (is-done _ (sym c.in_default.is ∙ c.check_counts.ensures)))
 
-pub check-job-spec : {M : Type 1} → statement M
-check-job-spec =
+pub check_job_spec : {M : Type 1} → statement M
+check_job_spec =
     tie.close
     (tie.spec
     check-counts-requires

@@ -12,59 +12,59 @@ use Rattle.job.proofs.Within.{first-refused, scratch-refused, spare-refused, wor
 use Rattle.job.proofs.checks.check_job_within.Statement.{statement}
 use Rattle.job.proofs.checks.check_job_within.Tie as tie
 
-abbrev start : tie.After-enum-told → tie.Start
-start t = t.before.before.before.before.before.before
+abbrev start : tie.In_default → tie.Start
+start t = t.before.before.before.before.before
 
 -- the checks of `job` before the words passed
-first : (t : tie.After-enum-told) →
+first : (t : tie.In_default) →
     not_job (start t).args.nr (start t).args.core.now (start t).args.round.now (start t).args.counts.now (start t).args.room accepted ≡ none
-first t = is-done _ (sym t.enum_told.given.1 ∙ t.before.before.check-counts.ensures)
+first t = is-done _ (sym t.in_default.is ∙ t.check_counts.ensures)
 
-check-counts-requires : tie.Need-check-counts-requires
+check-counts-requires : tie.Need-check_counts-requires
 check-counts-requires c κs = search rules
 
-enum-known-refusal : tie.Need-enum-known-refusal
+enum-known-refusal : tie.Need-enum_known-refusal
 enum-known-refusal c = search rules
 
-returns : tie.Need-returns
-returns c = answers (first-refused _ _ _ _ _ _ _ (is-refused _ (sym c.before.refusal.given.1 ∙ c.before.before.before.check-counts.ensures)))
+returns : tie.Need-returns-in-Refused
+returns c = answers (first-refused _ _ _ _ _ _ _ (is-refused _ (sym c.in-Refused.is ∙ c.check_counts.ensures)))
 
-enum_told : tie.Need-enum-told
+enum_told : tie.Need-enum_told-1
 enum_told c = search rules
 
-place-count-requires : tie.Need-place-count-requires
+place-count-requires : tie.Need-place_count-n-requires
 place-count-requires c κs = search rules
 
-returns-2 : tie.Need-returns-2
+returns-2 : tie.Need-returns-then-scratch-n
 returns-2 c =
     let k = c.before in
-    let e = k.place-count.ensures in
+    let e = c.place_count-n.ensures in
     ap (λ (n : ℕ). Refused (TooShort n)) e
-    ∙ answers (scratch-refused _ _ _ _ _ _ _ (first k.before) (subst (λ (n : ℕ). (start k.before).args.scratch < n) e c.if1.true))
+    ∙ answers (scratch-refused _ _ _ _ _ _ _ (first c.before.before) (subst (λ (n : ℕ). (start c.before.before).args.scratch < n) e c.if-scratch-n.true))
 
-returns-3 : tie.Need-returns-3
+returns-3 : tie.Need-returns-then-spare-n
 returns-3 c =
     let k = c.before.before in
-    let e = k.place-count.ensures in
+    let e = c.place_count-n.ensures in
     ap (λ (n : ℕ). Refused (TooShort n)) e
     ∙ answers
-    (spare-refused _ _ _ _ _ _ _ (first k.before) (subst (λ (n : ℕ). n ≤ (start k.before).args.scratch) e c.before.if1.false)
-    (subst (λ (n : ℕ). (start k.before).args.spare < n) e c.if2.true))
+    (spare-refused _ _ _ _ _ _ _ (first c.before.before.before) (subst (λ (n : ℕ). n ≤ (start c.before.before.before).args.scratch) e c.if-scratch-n.false)
+    (subst (λ (n : ℕ). (start c.before.before.before).args.spare < n) e c.if-spare-n.true))
 
-check-words-requires : tie.Need-check-words-requires
+check-words-requires : tie.Need-check_words-requires
 check-words-requires c κs = search rules
 
-returns-4 : tie.Need-returns-4
+returns-4 : tie.Need-returns
 returns-4 c =
     let k = c.before.before.before in
-    let e = k.place-count.ensures in
-    c.check-words.ensures
+    let e = c.place_count-n.ensures in
+    c.check_words.ensures
     ∙ ap answer_of
-    (words_last _ _ _ _ _ _ _ (first k.before) (subst (λ (n : ℕ). n ≤ (start k.before).args.scratch) e c.before.before.if1.false)
-    (subst (λ (n : ℕ). n ≤ (start k.before).args.spare) e c.before.if2.false))
+    (words_last _ _ _ _ _ _ _ (first c.before.before.before.before) (subst (λ (n : ℕ). n ≤ (start c.before.before.before.before).args.scratch) e c.if-scratch-n.false)
+    (subst (λ (n : ℕ). n ≤ (start c.before.before.before.before).args.spare) e c.if-spare-n.false))
 
-pub check-job-within-spec : {M : Type 1} → statement M
-check-job-within-spec =
+pub check_job_within_spec : {M : Type 1} → statement M
+check_job_within_spec =
     tie.close
     (tie.spec
     check-counts-requires

@@ -11,30 +11,30 @@ use Rattle.judge_within.proofs.Wanted.{core-active, round-active}
 use Rattle.judge_within.proofs.places.is_active_place.Statement.{statement}
 use Rattle.judge_within.proofs.places.is_active_place.Tie as tie
 
-core-places-requires : tie.Need-core-places-requires
+core-places-requires : tie.Need-core_places-n-requires
 core-places-requires c κs = search rules
 
-is-active-requires : tie.Need-is-active-requires
+is-active-requires : tie.Need-is_active-requires
 is-active-requires c κs =
-    let a = c.before.before.before.before.args in
-    core-in a.core.now a.round.now a.p (omega (arith, c.before.core-places.ensures))
+    let a = c.args in
+    core-in a.core.now a.round.now a.p (omega (arith, c.core_places-n.ensures))
 
-returns : tie.Need-returns
+returns : tie.Need-returns-then-p-n
 returns c =
-    let a = c.before.before.before.before.before.args in
-    c.is-active.ensures ∙ core-active a.core.now a.round.now a.p (omega (arith, c.before.before.core-places.ensures))
+    let a = c.args in
+    c.is_active.ensures ∙ core-active a.core.now a.round.now a.p (omega (arith, c.core_places-n.ensures))
 
-is-active-requires-2 : tie.Need-is-active-requires-2
+is-active-requires-2 : tie.Need-is_active-requires-2
 is-active-requires-2 c κs =
-    let a = c.before.before.before.before.args in
-    let e = c.before.core-places.ensures in
-    subst (λ (n : ℕ). (a.p - n) / 2 < rows (layout_of Round) a.round.now) (sym e) (round-in a.core.now a.round.now a.p (omega (arith, e)) c.before.before.before.before.requires)
+    let a = c.args in
+    let e = c.core_places-n.ensures in
+    subst (λ (n : ℕ). (a.p - n) / 2 < rows (layout_of Round) a.round.now) (sym e) (round-in a.core.now a.round.now a.p (omega (arith, e)) c.requires)
 
-returns-2 : tie.Need-returns-2
+returns-2 : tie.Need-returns
 returns-2 c =
-    let a = c.before.before.before.before.before.args in
-    let e = c.before.before.core-places.ensures in
-    c.is-active2.ensures ∙ ap (λ (n : ℕ). active (layout_of Round) a.round.now ((a.p - n) / 2)) e ∙ round-active a.core.now a.round.now a.p (omega (arith, e))
+    let a = c.args in
+    let e = c.core_places-n.ensures in
+    c.is_active-2.ensures ∙ ap (λ (n : ℕ). active (layout_of Round) a.round.now ((a.p - n) / 2)) e ∙ round-active a.core.now a.round.now a.p (omega (arith, e))
 
-pub is-active-place-spec : {M : Type 1} → statement M
-is-active-place-spec = tie.close (tie.spec core-places-requires is-active-requires returns is-active-requires-2 returns-2)
+pub is_active_place_spec : {M : Type 1} → statement M
+is_active_place_spec = tie.close (tie.spec core-places-requires is-active-requires returns is-active-requires-2 returns-2)

@@ -6,38 +6,38 @@ use Rattle.judge_within.proofs.Wanted.{all_wanted, late-unwanted, second-unwante
 use Rattle.judge_within.proofs.places.is_wanted.Statement.{statement}
 use Rattle.judge_within.proofs.places.is_wanted.Tie as tie
 
-is-active-place-requires : tie.Need-is-active-place-requires
+is-active-place-requires : tie.Need-is_active_place-requires
 is-active-place-requires c κs = search rules
 
-returns : tie.Need-returns
+returns : tie.Need-returns-then-whole
 returns c =
-    let a = c.before.before.before.before.args in
-    c.is-active-place.ensures ∙ all_wanted a.core.now a.round.now a.p a.whole c.before.if1.true
+    let a = c.args in
+    c.is_active_place.ensures ∙ all_wanted a.core.now a.round.now a.p a.whole c.if-whole.true
 
-core-places-requires : tie.Need-core-places-requires
+core-places-requires : tie.Need-core_places-requires
 core-places-requires c κs = search rules
 
-returns-2 : tie.Need-returns-2
+returns-2 : tie.Need-returns-then-p-core_places
 returns-2 c =
-    let a = c.before.before.before.before.before.args in
-    late-unwanted a.core.now a.round.now a.p a.whole c.before.before.if1.false (omega (arith, c.before.core-places.ensures))
+    let a = c.args in
+    late-unwanted a.core.now a.round.now a.p a.whole c.if-whole.false (omega (arith, c.core_places.ensures))
 
-returns-3 : tie.Need-returns-3
+returns-3 : tie.Need-returns-then-p-ne0
 returns-3 c =
-    let a = c.before.before.before.before.before.before.args in
-    second-unwanted a.core.now a.round.now a.p a.whole c.before.before.before.if1.false (omega (arith, c.before.before.core-places.ensures)) c.if3.true
+    let a = c.args in
+    second-unwanted a.core.now a.round.now a.p a.whole c.if-whole.false (omega (arith, c.core_places.ensures)) c.if-p-ne0.true
 
-is-active-place-requires-2 : tie.Need-is-active-place-requires-2
+is-active-place-requires-2 : tie.Need-is_active_place-requires-2
 is-active-place-requires-2 c κs = search rules
 
-returns-4 : tie.Need-returns-4
+returns-4 : tie.Need-returns
 returns-4 c =
-    let a = c.before.before.before.before.before.before.before.args in
-    c.is-active-place2.ensures
-    ∙ first-wanted a.core.now a.round.now a.p a.whole c.before.before.before.before.if1.false (omega (arith, c.before.before.before.core-places.ensures)) c.before.if3.false
+    let a = c.args in
+    c.is_active_place-2.ensures
+    ∙ first-wanted a.core.now a.round.now a.p a.whole c.if-whole.false (omega (arith, c.core_places.ensures)) c.if-p-ne0.false
 
-pub is-wanted-spec : {M : Type 1} → statement M
-is-wanted-spec =
+pub is_wanted_spec : {M : Type 1} → statement M
+is_wanted_spec =
     tie.close
     (tie.spec
     is-active-place-requires

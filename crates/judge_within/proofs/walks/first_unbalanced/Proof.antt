@@ -10,59 +10,50 @@ use Rattle.judge_within.proofs.Steps.{unbalanced-start, unbalanced-at, unbalance
 use Rattle.judge_within.proofs.walks.first_unbalanced.Statement.{statement}
 use Rattle.judge_within.proofs.walks.first_unbalanced.Tie as tie
 
-abbrev invariant-loop : tie.invariant-loop
+abbrev invariant-loop : tie.invariant-loop-start
 invariant-loop nr core round places n least₀ start₀ least start = (start ≤ length places) × (start < length places → Apart (place_tuple nr core round) places start) × LowestTo nr core round places start least
 
-abbrev decreases-loop : tie.decreases-loop
+abbrev decreases-loop : tie.decreases-loop-start
 decreases-loop nr core round places n least₀ start₀ least start = length places - start
 
-place-count-requires : tie.Need-place-count-requires invariant-loop decreases-loop
+place-count-requires : tie.Need-place_count-n-requires invariant-loop decreases-loop
 place-count-requires c κs = tt
 
-loop-holds : tie.Need-loop-init invariant-loop decreases-loop
+loop-holds : tie.Need-loop-start-init invariant-loop decreases-loop
 loop-holds c =
-    let s = c.before.before.before.before in
-    (omega arith, λ l. apart-first _ _, unbalanced-start _ _ _ s.args.places.now _ c.place-count.ensures)
+    (omega arith, λ l. apart-first _ _, unbalanced-start _ _ _ c.args.places.now _ c.place_count-n.ensures)
 
-group-from-requires : tie.Need-group-from-requires invariant-loop decreases-loop
+group-from-requires : tie.Need-group_from-g-requires invariant-loop decreases-loop
 group-from-requires c κs =
-    let l = c.before in
-    let s = l.before.before.before.before.before in
-    (s.requires, c.loop-test.true, l.loop.invariant.1 c.loop-test.true)
+    (c.requires, c.loop-start-test.true, c.loop-start.invariant.1 c.loop-start-test.true)
 
-mul-lower : tie.Need-overflow-mul-lower invariant-loop decreases-loop
+mul-lower : tie.Need-offset_bounds-places-start invariant-loop decreases-loop
 mul-lower c = omega arith
 
-shared-slice-read-lower : tie.Need-shared-slice-read-lower invariant-loop decreases-loop
+shared-slice-read-lower : tie.Need-bounds-places-start invariant-loop decreases-loop
 shared-slice-read-lower c = omega arith
 
-lower-requires : tie.Need-lower-requires invariant-loop decreases-loop
+lower-requires : tie.Need-lower-least-requires invariant-loop decreases-loop
 lower-requires c κs = tt
 
-loop-less : tie.Need-loop-smaller invariant-loop decreases-loop
+loop-less : tie.Need-loop-start-smaller invariant-loop decreases-loop
 loop-less c = omega arith
 
-loop-again : tie.Need-loop-preserved invariant-loop decreases-loop
+loop-again : tie.Need-loop-start-preserved invariant-loop decreases-loop
 loop-again c =
-    let l = c.before.before.before.before in
-    let s = l.before.before.before.before.before in
-    let g = c.before.before.group-from.ensures in
-    (g.inside, g.next, lowest-after _ _ _ _ s.requires _ _ _ _ _ l.loop.invariant.2 g c.before.before.before.loop-test.true c.lower.ensures)
+    let g = c.group_from-g.ensures in
+    (g.inside, g.next, lowest-after _ _ _ _ c.requires _ _ _ _ _ c.loop-start.invariant.2 g c.loop-start-test.true c.lower-least.ensures)
 
-returns : tie.Need-returns invariant-loop decreases-loop
+returns : tie.Need-returns-then-least-n invariant-loop decreases-loop
 returns c =
-    let l = c.before.before in
-    let s = l.before.before.before.before.before in
-    unbalanced-at _ _ _ _ s.requires _ _ _ l.before.place-count.ensures l.loop.invariant.2 c.before.loop-test.false c.if1.true
+    unbalanced-at _ _ _ _ c.requires _ _ _ c.place_count-n.ensures c.loop-start.invariant.2 c.loop-start-test.false c.if-least-n.true
 
-returns-2 : tie.Need-returns-2 invariant-loop decreases-loop
+returns-2 : tie.Need-returns invariant-loop decreases-loop
 returns-2 c =
-    let l = c.before.before in
-    let s = l.before.before.before.before.before in
-    unbalanced-none _ _ _ _ s.requires _ _ _ l.before.place-count.ensures l.loop.invariant.2 c.before.loop-test.false c.if1.false
+    unbalanced-none _ _ _ _ c.requires _ _ _ c.place_count-n.ensures c.loop-start.invariant.2 c.loop-start-test.false c.if-least-n.false
 
-pub first-unbalanced-spec : {M : Type 1} → statement M
-first-unbalanced-spec =
+pub first_unbalanced_spec : {M : Type 1} → statement M
+first_unbalanced_spec =
     tie.close
     (tie.spec
     invariant-loop

@@ -7,25 +7,25 @@ use Rattle.judge_scan.proofs.Scan.{row-long}
 use Rattle.judge_within.proofs.walks.same_stamps.Statement.{statement}
 use Rattle.judge_within.proofs.walks.same_stamps.Tie as tie
 
-row-at-requires : tie.Need-row-at-requires
+row-at-requires : tie.Need-row_at-x-requires
 unfolding layout_of
-row-at-requires c κs = c.before.requires.0
+row-at-requires c κs = c.requires.0
 
-row-at-requires-2 : tie.Need-row-at-requires-2
+row-at-requires-2 : tie.Need-row_at-y-requires
 unfolding layout_of
-row-at-requires-2 c κs = c.before.before.requires.1
+row-at-requires-2 c κs = c.requires.1
 
-same-stamp-requires : tie.Need-same-stamp-requires
+same-stamp-requires : tie.Need-same_stamp-requires
 unfolding layout_of
 same-stamp-requires c κs =
-    let h = row-long _ _ _ _ c.before.row-at.ensures in
-    let g = row-long _ _ _ _ c.row-at2.ensures in
+    let h = row-long _ _ _ _ c.row_at-x.ensures in
+    let g = row-long _ _ _ _ c.row_at-y.ensures in
     (omega arith, omega arith)
 
 returns : tie.Need-returns
 unfolding layout_of
-returns c = c.same-stamp.ensures ∙ (λ i. same_stamp (c.before.before.row-at.ensures i) (c.before.row-at2.ensures i))
+returns c = c.same_stamp.ensures ∙ (λ i. same_stamp (c.row_at-x.ensures i) (c.row_at-y.ensures i))
 
-pub same-stamps-spec : {M : Type 1} → statement M
-same-stamps-spec =
+pub same_stamps_spec : {M : Type 1} → statement M
+same_stamps_spec =
     tie.close (tie.spec row-at-requires row-at-requires-2 same-stamp-requires returns)

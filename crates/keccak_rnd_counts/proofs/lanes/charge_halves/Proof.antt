@@ -9,73 +9,70 @@ use Rattle.keccak_rnd_counts.proofs.Charging.{Parts, parts_none, parts-elements,
 use Rattle.keccak_rnd_counts.proofs.lanes.charge_halves.Statement.{statement}
 use Rattle.keccak_rnd_counts.proofs.lanes.charge_halves.Tie as tie
 
-abbrev invariant-loop : tie.invariant-loop
+abbrev invariant-loop : tie.invariant-loop-h
 invariant-loop counters₀ a h₀ counters h = Parts 4 (λ h. one ((byte_at a (2 * h) + byte_at a (2 * h + 1) * 256) * 10 + 3)) counters₀ counters h
 
-abbrev decreases-loop : tie.decreases-loop
+abbrev decreases-loop : tie.decreases-loop-h
 decreases-loop counters₀ a h₀ counters h = 4 - h
 
-loop-holds : tie.Need-loop-init invariant-loop decreases-loop
-loop-holds c = parts_none c.before.requires
+loop-holds : tie.Need-loop-h-init invariant-loop decreases-loop
+loop-holds c = parts_none c.requires
 
-mul-x : tie.Need-overflow-mul-x invariant-loop decreases-loop
+mul-x : tie.Need-overflow_mul-x invariant-loop decreases-loop
 mul-x c = omega arith
 
-mul-x-2 : tie.Need-overflow-mul-x-2 invariant-loop decreases-loop
+mul-x-2 : tie.Need-overflow_mul-x-in-loop-h invariant-loop decreases-loop
 mul-x-2 c = omega arith
 
-shr-x : tie.Need-overflow-shr-x invariant-loop decreases-loop
+shr-x : tie.Need-overflow_shr-x invariant-loop decreases-loop
 shr-x c = omega arith
 
-mul-y : tie.Need-overflow-mul-y invariant-loop decreases-loop
+mul-y : tie.Need-overflow_mul-y invariant-loop decreases-loop
 mul-y c = omega arith
 
-add-y : tie.Need-overflow-add-y invariant-loop decreases-loop
+add-y : tie.Need-overflow_add-y invariant-loop decreases-loop
 add-y c = omega arith
 
-mul-y-2 : tie.Need-overflow-mul-y-2 invariant-loop decreases-loop
+mul-y-2 : tie.Need-overflow_mul-y-in-loop-h invariant-loop decreases-loop
 mul-y-2 c = omega arith
 
-shr-y : tie.Need-overflow-shr-y invariant-loop decreases-loop
+shr-y : tie.Need-overflow_shr-y invariant-loop decreases-loop
 shr-y c = omega arith
 
-mul-charge-word : tie.Need-overflow-mul-charge-word invariant-loop decreases-loop
+mul-charge-word : tie.Need-overflow_mul-y-in-loop-h-2 invariant-loop decreases-loop
 mul-charge-word c = omega arith
 
-add-charge-word : tie.Need-overflow-add-charge-word invariant-loop decreases-loop
+add-charge-word : tie.Need-overflow_add-x invariant-loop decreases-loop
 add-charge-word c = omega arith
 
-mul-charge-word-2 : tie.Need-overflow-mul-charge-word-2 invariant-loop decreases-loop
+mul-charge-word-2 : tie.Need-overflow_mul-x-in-loop-h-2 invariant-loop decreases-loop
 mul-charge-word-2 c = omega arith
 
-add-charge-word-2 : tie.Need-overflow-add-charge-word-2 invariant-loop decreases-loop
+add-charge-word-2 : tie.Need-overflow_add-x-in-loop-h invariant-loop decreases-loop
 add-charge-word-2 c = omega arith
 
-charge-word-requires : tie.Need-charge-word-requires invariant-loop decreases-loop
-charge-word-requires c κs = may_add _ (parts-elements c.before.before.loop.invariant) (omega arith)
+charge-word-requires : tie.Need-charge_word-requires invariant-loop decreases-loop
+charge-word-requires c κs = may_add _ (parts-elements c.loop-h.invariant) (omega arith)
 
-add-h : tie.Need-overflow-add-h invariant-loop decreases-loop
+add-h : tie.Need-overflow_add-h invariant-loop decreases-loop
 add-h c = omega arith
 
-loop-less : tie.Need-loop-smaller invariant-loop decreases-loop
+loop-less : tie.Need-loop-h-smaller invariant-loop decreases-loop
 loop-less c = omega arith
 
-loop-again : tie.Need-loop-preserved invariant-loop decreases-loop
+loop-again : tie.Need-loop-h-preserved invariant-loop decreases-loop
 loop-again c =
-    let r = c.before.before in
-    let t = r.before.before in
-    let l = t.before in
-    parts_more l.loop.invariant t.loop-test.true (one-charged _ (parts-elements l.loop.invariant) (omega arith) r.charge-word.ensures)
+    parts_more c.loop-h.invariant c.loop-h-test.true (one-charged _ (parts-elements c.loop-h.invariant) (omega arith) c.charge_word.ensures)
 
-same_length : tie.Need-same-length invariant-loop decreases-loop
+same_length : tie.Need-shape_of-counters invariant-loop decreases-loop
 same_length c = search rules
 
 returns : tie.Need-returns invariant-loop decreases-loop
 unfolding halves_add
-returns c = parts_all c.before.loop.invariant c.loop-test.false
+returns c = parts_all c.loop-h.invariant c.loop-h-test.false
 
-pub charge-halves-spec : {M : Type 1} → statement M
-charge-halves-spec =
+pub charge_halves_spec : {M : Type 1} → statement M
+charge_halves_spec =
     tie.close
     (tie.spec
     invariant-loop

@@ -9,66 +9,62 @@ use Rattle.keccak_rnd_counts.proofs.Charging.{Parts, parts_none, parts-elements,
 use Rattle.keccak_rnd_counts.proofs.lanes.charge_lane.Statement.{statement}
 use Rattle.keccak_rnd_counts.proofs.lanes.charge_lane.Tie as tie
 
-abbrev invariant-loop : tie.invariant-loop
+abbrev invariant-loop : tie.invariant-loop-z
 invariant-loop counters₀ kind a b z₀ counters z = (kind < 10) × Parts 8 (λ z. one ((byte_at a z + byte_at b z * 256) * 10 + kind)) counters₀ counters z
 
-abbrev decreases-loop : tie.decreases-loop
+abbrev decreases-loop : tie.decreases-loop-z
 decreases-loop counters₀ kind a b z₀ counters z = 8 - z
 
-loop-holds : tie.Need-loop-init invariant-loop decreases-loop
-loop-holds c = (c.before.requires.1, parts_none c.before.requires.0)
+loop-holds : tie.Need-loop-z-init invariant-loop decreases-loop
+loop-holds c = (c.requires.1, parts_none c.requires.0)
 
-mul-x : tie.Need-overflow-mul-x invariant-loop decreases-loop
+mul-x : tie.Need-overflow_mul-x invariant-loop decreases-loop
 mul-x c = omega arith
 
-shr-x : tie.Need-overflow-shr-x invariant-loop decreases-loop
+shr-x : tie.Need-overflow_shr-x invariant-loop decreases-loop
 shr-x c = omega arith
 
-mul-y : tie.Need-overflow-mul-y invariant-loop decreases-loop
+mul-y : tie.Need-overflow_mul-y invariant-loop decreases-loop
 mul-y c = omega arith
 
-shr-y : tie.Need-overflow-shr-y invariant-loop decreases-loop
+shr-y : tie.Need-overflow_shr-y invariant-loop decreases-loop
 shr-y c = omega arith
 
-mul-charge-word : tie.Need-overflow-mul-charge-word invariant-loop decreases-loop
+mul-charge-word : tie.Need-overflow_mul-y-in-loop-z invariant-loop decreases-loop
 mul-charge-word c = omega arith
 
-add-charge-word : tie.Need-overflow-add-charge-word invariant-loop decreases-loop
+add-charge-word : tie.Need-overflow_add-x invariant-loop decreases-loop
 add-charge-word c = omega arith
 
-mul-charge-word-2 : tie.Need-overflow-mul-charge-word-2 invariant-loop decreases-loop
+mul-charge-word-2 : tie.Need-overflow_mul-x-in-loop-z invariant-loop decreases-loop
 mul-charge-word-2 c = omega arith
 
-add-charge-word-2 : tie.Need-overflow-add-charge-word-2 invariant-loop decreases-loop
+add-charge-word-2 : tie.Need-overflow_add-x-in-loop-z invariant-loop decreases-loop
 add-charge-word-2 c = omega arith
 
-charge-word-requires : tie.Need-charge-word-requires invariant-loop decreases-loop
+charge-word-requires : tie.Need-charge_word-requires invariant-loop decreases-loop
 charge-word-requires c κs =
-    let l = c.before.before in
-    may_add _ (parts-elements l.loop.invariant.1) (omega (arith, l.loop.invariant.0))
+    may_add _ (parts-elements c.loop-z.invariant.1) (omega (arith, c.loop-z.invariant.0))
 
-add-z : tie.Need-overflow-add-z invariant-loop decreases-loop
+add-z : tie.Need-overflow_add-z invariant-loop decreases-loop
 add-z c = omega arith
 
-loop-less : tie.Need-loop-smaller invariant-loop decreases-loop
+loop-less : tie.Need-loop-z-smaller invariant-loop decreases-loop
 loop-less c = omega arith
 
-loop-again : tie.Need-loop-preserved invariant-loop decreases-loop
+loop-again : tie.Need-loop-z-preserved invariant-loop decreases-loop
 loop-again c =
-    let r = c.before.before in
-    let t = r.before.before in
-    let l = t.before in
-    (l.loop.invariant.0, parts_more l.loop.invariant.1 t.loop-test.true (one-charged _ (parts-elements l.loop.invariant.1) (omega (arith, l.loop.invariant.0)) r.charge-word.ensures))
+    (c.loop-z.invariant.0, parts_more c.loop-z.invariant.1 c.loop-z-test.true (one-charged _ (parts-elements c.loop-z.invariant.1) (omega (arith, c.loop-z.invariant.0)) c.charge_word.ensures))
 
-same_length : tie.Need-same-length invariant-loop decreases-loop
+same_length : tie.Need-shape_of-counters invariant-loop decreases-loop
 same_length c = search rules
 
 returns : tie.Need-returns invariant-loop decreases-loop
 unfolding lane_adds
-returns c = parts_all c.before.loop.invariant.1 c.loop-test.false
+returns c = parts_all c.loop-z.invariant.1 c.loop-z-test.false
 
-pub charge-lane-spec : {M : Type 1} → statement M
-charge-lane-spec =
+pub charge_lane_spec : {M : Type 1} → statement M
+charge_lane_spec =
     tie.close
     (tie.spec
     invariant-loop

@@ -7,38 +7,36 @@ use Rattle.keccak_rnd_counts.proofs.Charging.{Parts, parts_none, parts-elements,
 use Rattle.keccak_rnd_counts.proofs.steps.charge_turns.Statement.{statement}
 use Rattle.keccak_rnd_counts.proofs.steps.charge_turns.Tie as tie
 
-abbrev invariant-loop : tie.invariant-loop
+abbrev invariant-loop : tie.invariant-loop-x
 invariant-loop counters₀ cs x₀ counters x = Parts 5 (turn_adds cs) counters₀ counters x
 
-abbrev decreases-loop : tie.decreases-loop
+abbrev decreases-loop : tie.decreases-loop-x
 decreases-loop counters₀ cs x₀ counters x = 5 - x
 
-loop-holds : tie.Need-loop-init invariant-loop decreases-loop
-loop-holds c = parts_none c.before.requires
+loop-holds : tie.Need-loop-x-init invariant-loop decreases-loop
+loop-holds c = parts_none c.requires
 
-charge-turn-requires : tie.Need-charge-turn-requires invariant-loop decreases-loop
-charge-turn-requires c κs = (parts-elements c.before.before.loop.invariant, omega arith)
+charge-turn-requires : tie.Need-charge_turn-requires invariant-loop decreases-loop
+charge-turn-requires c κs = (parts-elements c.loop-x.invariant, omega arith)
 
-add-x : tie.Need-overflow-add-x invariant-loop decreases-loop
+add-x : tie.Need-overflow_add-x invariant-loop decreases-loop
 add-x c = omega arith
 
-loop-less : tie.Need-loop-smaller invariant-loop decreases-loop
+loop-less : tie.Need-loop-x-smaller invariant-loop decreases-loop
 loop-less c = omega arith
 
-loop-again : tie.Need-loop-preserved invariant-loop decreases-loop
+loop-again : tie.Need-loop-x-preserved invariant-loop decreases-loop
 loop-again c =
-    let r = c.before.before in
-    let t = r.before.before in
-    parts_more t.before.loop.invariant t.loop-test.true r.charge-turn.ensures
+    parts_more c.loop-x.invariant c.loop-x-test.true c.charge_turn.ensures
 
-same_length : tie.Need-same-length invariant-loop decreases-loop
+same_length : tie.Need-shape_of-counters invariant-loop decreases-loop
 same_length c = search rules
 
 returns : tie.Need-returns invariant-loop decreases-loop
-returns c = parts_all c.before.loop.invariant c.loop-test.false
+returns c = parts_all c.loop-x.invariant c.loop-x-test.false
 
-pub charge-turns-spec : {M : Type 1} → statement M
-charge-turns-spec =
+pub charge_turns_spec : {M : Type 1} → statement M
+charge_turns_spec =
     tie.close
     (tie.spec
     invariant-loop

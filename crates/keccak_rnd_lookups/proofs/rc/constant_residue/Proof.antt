@@ -10,48 +10,46 @@ use Rattle.residue.proofs.Or.{or-start, or-more, or-end}
 use Rattle.keccak_rnd_lookups.proofs.rc.constant_residue.Statement.{statement}
 use Rattle.keccak_rnd_lookups.proofs.rc.constant_residue.Tie as tie
 
-abbrev invariant-loop : tie.invariant-loop
+abbrev invariant-loop : tie.invariant-loop-b
 invariant-loop row constant off₀ b₀ off b = (b ≤ 8) × (off ≡ or_all b (λ b. bit_xor (byte_at constant b) (word row (1463 + b))))
 
-abbrev decreases-loop : tie.decreases-loop
+abbrev decreases-loop : tie.decreases-loop-b
 decreases-loop row constant off₀ b₀ off b = 8 - b
 
-loop-holds : tie.Need-loop-init invariant-loop decreases-loop
+loop-holds : tie.Need-loop-b-init invariant-loop decreases-loop
 loop-holds c = (omega arith, or-start _)
 
-mul-byte : tie.Need-overflow-mul-byte invariant-loop decreases-loop
+mul-byte : tie.Need-overflow_mul-byte invariant-loop decreases-loop
 mul-byte c = omega arith
 
-shr-byte : tie.Need-overflow-shr-byte invariant-loop decreases-loop
+shr-byte : tie.Need-overflow_shr-byte invariant-loop decreases-loop
 shr-byte c = omega arith
 
-add-off : tie.Need-overflow-add-off invariant-loop decreases-loop
+add-off : tie.Need-overflow_add-off invariant-loop decreases-loop
 add-off c = omega arith
 
-mul-off : tie.Need-overflow-mul-off invariant-loop decreases-loop
+mul-off : tie.Need-offset_bounds-row-b invariant-loop decreases-loop
 mul-off c = omega arith
 
-shared-slice-read-off : tie.Need-shared-slice-read-off invariant-loop decreases-loop
+shared-slice-read-off : tie.Need-bounds-row-b invariant-loop decreases-loop
 shared-slice-read-off c = omega arith
 
-add-b : tie.Need-overflow-add-b invariant-loop decreases-loop
+add-b : tie.Need-overflow_add-b invariant-loop decreases-loop
 add-b c = omega arith
 
-loop-less : tie.Need-loop-smaller invariant-loop decreases-loop
+loop-less : tie.Need-loop-b-smaller invariant-loop decreases-loop
 loop-less c = omega arith
 
-loop-again : tie.Need-loop-preserved invariant-loop decreases-loop
+loop-again : tie.Need-loop-b-preserved invariant-loop decreases-loop
 loop-again c =
-    let l = c.before.before in
-    let s = l.before in
-    (omega arith, or-more (λ b. bit_xor (byte_at s.args.constant b) (word s.args.row.now (1463 + b))) _ _ l.loop.invariant.1)
+    (omega arith, or-more (λ b. bit_xor (byte_at c.args.constant b) (word c.args.row.now (1463 + b))) _ _ c.loop-b.invariant.1)
 
 returns : tie.Need-returns invariant-loop decreases-loop
 unfolding constant_residue
-returns c = or-end _ _ 8 _ c.before.loop.invariant.0 c.loop-test.false c.before.loop.invariant.1
+returns c = or-end _ _ 8 _ c.loop-b.invariant.0 c.loop-b-test.false c.loop-b.invariant.1
 
-pub constant-residue-spec : {M : Type 1} → statement M
-constant-residue-spec =
+pub constant_residue_spec : {M : Type 1} → statement M
+constant_residue_spec =
     tie.close
     (tie.spec
     invariant-loop

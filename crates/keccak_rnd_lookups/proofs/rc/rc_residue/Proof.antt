@@ -5,31 +5,30 @@ use Rattle.keccak_rnd_lookups.proofs.Joins.{rc-past, rc-known}
 use Rattle.keccak_rnd_lookups.proofs.rc.rc_residue.Statement.{statement}
 use Rattle.keccak_rnd_lookups.proofs.rc.rc_residue.Tie as tie
 
-shared-slice-read-if1 : tie.Need-shared-slice-read-if1
+shared-slice-read-if1 : tie.Need-bounds-row-1479
 shared-slice-read-if1 c = search rules
 
-returns : tie.Need-returns
-returns c = idle _ c.if1.true
+returns : tie.Need-returns-then-row-eq0
+returns c = idle _ c.if-row-eq0.true
 
-shared-slice-read-round : tie.Need-shared-slice-read-round
+shared-slice-read-round : tie.Need-bounds-row-2
 shared-slice-read-round c = search rules
 
-returns-2 : tie.Need-returns-2
-returns-2 c = rc-past c.before.before.before.before.before.args.row.now c.before.before.if1.false c.if2.true
+returns-2 : tie.Need-returns-then-round-ge32
+returns-2 c = rc-past c.args.row.now c.if-row-eq0.false c.if-round-ge32.true
 
-round-constant-requires : tie.Need-round-constant-requires
+round-constant-requires : tie.Need-round_constant-constant-requires
 round-constant-requires c κs = search rules
 
-constant-residue-requires : tie.Need-constant-residue-requires
+constant-residue-requires : tie.Need-constant_residue-requires
 constant-residue-requires c κs = search rules
 
-returns-3 : tie.Need-returns-3
+returns-3 : tie.Need-returns
 returns-3 c =
-    let two = c.before.before in
-    rc-known two.before.before.before.before.before.args.row.now two.before.before.if1.false two.if2.false c.before.round-constant.ensures c.constant-residue.ensures
+    rc-known c.args.row.now c.if-row-eq0.false c.if-round-ge32.false c.round_constant-constant.ensures c.constant_residue.ensures
 
-pub rc-residue-spec : {M : Type 1} → statement M
-rc-residue-spec =
+pub rc_residue_spec : {M : Type 1} → statement M
+rc_residue_spec =
     tie.close
     (tie.spec
     shared-slice-read-if1

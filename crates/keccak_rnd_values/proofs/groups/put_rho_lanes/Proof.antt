@@ -7,41 +7,41 @@ use Rattle.keccak_rnd_values.proofs.Parts.{filled-four}
 use Rattle.keccak_rnd_values.proofs.groups.put_rho_lanes.Statement.{statement}
 use Rattle.keccak_rnd_values.proofs.groups.put_rho_lanes.Tie as tie
 
-abbrev invariant-loop : tie.invariant-loop
+abbrev invariant-loop : tie.invariant-loop-y
 invariant-loop row x out₀ at y₀ out y = Filled out₀ at 20 (λ i. rho_value row x (i / 4) (i % 4)) out (4 * y)
 
-abbrev decreases-loop : tie.decreases-loop
+abbrev decreases-loop : tie.decreases-loop-y
 decreases-loop row x out₀ at y₀ out y = 5 - y
 
-loop-holds : tie.Need-loop-init invariant-loop decreases-loop
+loop-holds : tie.Need-loop-y-init invariant-loop decreases-loop
 loop-holds c = filled_none _ _ _ _
 
-mul-put-rho-lane : tie.Need-overflow-mul-put-rho-lane invariant-loop decreases-loop
+mul-put-rho-lane : tie.Need-overflow_mul-y invariant-loop decreases-loop
 mul-put-rho-lane c = omega arith
 
-add-put-rho-lane : tie.Need-overflow-add-put-rho-lane invariant-loop decreases-loop
+add-put-rho-lane : tie.Need-overflow_add-at invariant-loop decreases-loop
 add-put-rho-lane c = omega arith
 
-put-rho-lane-requires : tie.Need-put-rho-lane-requires invariant-loop decreases-loop
-put-rho-lane-requires c κs = let s = c.before.before.before.before.before in (s.requires.0, s.requires.1, omega arith, omega arith)
+put-rho-lane-requires : tie.Need-put_rho_lane-requires invariant-loop decreases-loop
+put-rho-lane-requires c κs = (c.requires.0, c.requires.1, omega arith, omega arith)
 
-add-y : tie.Need-overflow-add-y invariant-loop decreases-loop
+add-y : tie.Need-overflow_add-y invariant-loop decreases-loop
 add-y c = omega arith
 
-loop-less : tie.Need-loop-smaller invariant-loop decreases-loop
+loop-less : tie.Need-loop-y-smaller invariant-loop decreases-loop
 loop-less c = omega arith
 
-loop-again : tie.Need-loop-preserved invariant-loop decreases-loop
-loop-again c = let a = c.before.before.before.before.before.before.before.before.args in filled-four _ (rho_value a.row.now a.x) c.before.before.before.before.before.loop.invariant (omega arith) c.before.before.put-rho-lane.ensures
+loop-again : tie.Need-loop-y-preserved invariant-loop decreases-loop
+loop-again c = let a = c.args in filled-four _ (rho_value a.row.now a.x) c.loop-y.invariant (omega arith) c.put_rho_lane.ensures
 
-same_length : tie.Need-same-length invariant-loop decreases-loop
+same_length : tie.Need-shape_of-out invariant-loop decreases-loop
 same_length c = omega arith
 
 returns : tie.Need-returns invariant-loop decreases-loop
-returns c = filled-all c.before.loop.invariant (omega arith)
+returns c = filled-all c.loop-y.invariant (omega arith)
 
-pub put-rho-lanes-spec : {M : Type 1} → statement M
-put-rho-lanes-spec =
+pub put_rho_lanes_spec : {M : Type 1} → statement M
+put_rho_lanes_spec =
     tie.close
     (tie.spec
     invariant-loop

@@ -7,41 +7,41 @@ use Rattle.keccak_rnd_values.proofs.Parts.{filled-four}
 use Rattle.keccak_rnd_values.proofs.groups.put_theta_values.Statement.{statement}
 use Rattle.keccak_rnd_values.proofs.groups.put_theta_values.Tie as tie
 
-abbrev invariant-loop : tie.invariant-loop
+abbrev invariant-loop : tie.invariant-loop-x
 invariant-loop row out₀ x₀ out x = Filled out₀ 20 20 (λ i. theta_value row (i / 4) (i % 4)) out (4 * x)
 
-abbrev decreases-loop : tie.decreases-loop
+abbrev decreases-loop : tie.decreases-loop-x
 decreases-loop row out₀ x₀ out x = 5 - x
 
-loop-holds : tie.Need-loop-init invariant-loop decreases-loop
+loop-holds : tie.Need-loop-x-init invariant-loop decreases-loop
 loop-holds c = filled_none _ _ _ _
 
-mul-put-theta-column : tie.Need-overflow-mul-put-theta-column invariant-loop decreases-loop
+mul-put-theta-column : tie.Need-overflow_mul-x invariant-loop decreases-loop
 mul-put-theta-column c = omega arith
 
-add-put-theta-column : tie.Need-overflow-add-put-theta-column invariant-loop decreases-loop
+add-put-theta-column : tie.Need-overflow_add-x invariant-loop decreases-loop
 add-put-theta-column c = omega arith
 
-put-theta-column-requires : tie.Need-put-theta-column-requires invariant-loop decreases-loop
-put-theta-column-requires c κs = let s = c.before.before.before.before.before in (s.requires.0, omega arith, omega arith)
+put-theta-column-requires : tie.Need-put_theta_column-requires invariant-loop decreases-loop
+put-theta-column-requires c κs = (c.requires.0, omega arith, omega arith)
 
-add-x : tie.Need-overflow-add-x invariant-loop decreases-loop
+add-x : tie.Need-overflow_add-x-in-loop-x invariant-loop decreases-loop
 add-x c = omega arith
 
-loop-less : tie.Need-loop-smaller invariant-loop decreases-loop
+loop-less : tie.Need-loop-x-smaller invariant-loop decreases-loop
 loop-less c = omega arith
 
-loop-again : tie.Need-loop-preserved invariant-loop decreases-loop
-loop-again c = filled-four _ (theta_value c.before.before.before.before.before.before.before.before.args.row.now) c.before.before.before.before.before.loop.invariant (omega arith) c.before.before.put-theta-column.ensures
+loop-again : tie.Need-loop-x-preserved invariant-loop decreases-loop
+loop-again c = filled-four _ (theta_value c.args.row.now) c.loop-x.invariant (omega arith) c.put_theta_column.ensures
 
-same_length : tie.Need-same-length invariant-loop decreases-loop
+same_length : tie.Need-shape_of-out invariant-loop decreases-loop
 same_length c = omega arith
 
 returns : tie.Need-returns invariant-loop decreases-loop
-returns c = filled-all c.before.loop.invariant (omega arith)
+returns c = filled-all c.loop-x.invariant (omega arith)
 
-pub put-theta-values-spec : {M : Type 1} → statement M
-put-theta-values-spec =
+pub put_theta_values_spec : {M : Type 1} → statement M
+put_theta_values_spec =
     tie.close
     (tie.spec
     invariant-loop

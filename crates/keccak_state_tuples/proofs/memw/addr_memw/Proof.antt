@@ -13,54 +13,46 @@ use Rattle.keccak_state_tuples.proofs.Accesses.{register, addr-stored, memw-part
 use Rattle.keccak_state_tuples.proofs.memw.addr_memw.Statement.{statement}
 use Rattle.keccak_state_tuples.proofs.memw.addr_memw.Tie as tie
 
-from-dword-bl-requires : tie.Need-from-dword-bl-requires
+from-dword-bl-requires : tie.Need-from_dword_bl-requires
 from-dword-bl-requires c κs = search rules
 
-add-words-requires : tie.Need-add-words-requires
+add-words-requires : tie.Need-add_words-addr-requires
 add-words-requires c κs =
-    let s = c.before.before.before in
-    let row = s.args.row.now in
-    made_in row c.from-dword-bl.ensures (bl-in row 486 s.requires.0 2 (omega arith))
+    let row = c.args.row.now in
+    made_in row c.from_dword_bl.ensures (bl-in row 486 c.requires.0 2 (omega arith))
 
-put-register-requires : tie.Need-put-register-requires
+put-register-requires : tie.Need-put_register-requires
 put-register-requires c κs = search rules
 
-put-place-requires : tie.Need-put-place-requires
+put-place-requires : tie.Need-put_place-requires
 put-place-requires c κs = search rules
 
-put-register-requires-2 : tie.Need-put-register-requires-2
+put-register-requires-2 : tie.Need-put_register-requires-2
 put-register-requires-2 c κs = search rules
 
-put-access-requires : tie.Need-put-access-requires
+put-access-requires : tie.Need-put_access-requires
 put-access-requires c κs = search rules
 
-shared-slice-read-t17 : tie.Need-shared-slice-read-t17
+shared-slice-read-t17 : tie.Need-bounds-row-485
 shared-slice-read-t17 c = search rules
 
-same_length : tie.Need-same-length
+same_length : tie.Need-shape_of-out
 same_length c = search rules
 
 returns : tie.Need-returns
 returns c =
-    let access = c.before.before.before in
-    let new = access.before.before.before.before in
-    let place = new.before.before.before.before in
-    let old = place.before.before.before.before in
-    let words = old.before.before in
-    let made = words.before in
-    let s = made.before.before.before in
-    let row = s.args.row.now in
-    let e = words.add_words.ensures.0 ∙ ap (words_on row) made.from-dword-bl.ensures in
-    let value = register words.add_words.result.lo words.add_words.result.hi in (
+    let row = c.args.row.now in
+    let e = c.add_words-addr.ensures.0 ∙ ap (words_on row) c.from_dword_bl.ensures in
+    let value = register c.add_words-addr.result.lo c.add_words-addr.result.hi in (
       addr-answer row,
-      addr-stored row s.args.out.now s.requires.1
-          (ap (λ (w : AddWords). w.lo) e ∙ bytes-lo row (s.requires.0.below 2 (omega arith)))
-          (ap (λ (w : AddWords). w.hi) e ∙ bytes-hi row (s.requires.0.below 6 (omega arith)))
-          (memw-parts s.args.out.now _ _ _ value value (word row 0 ∷ word row 1 ∷ 1 ∷ 0 ∷ 0 ∷ []) 1 20 0 refl refl old.put-register.ensures place.put-place.ensures new.put-register2.ensures access.put-access.ensures),
+      addr-stored row c.args.out.now c.requires.1
+          (ap (λ (w : AddWords). w.lo) e ∙ bytes-lo row (c.requires.0.below 2 (omega arith)))
+          (ap (λ (w : AddWords). w.hi) e ∙ bytes-hi row (c.requires.0.below 6 (omega arith)))
+          (memw-parts c.args.out.now _ _ _ value value (word row 0 ∷ word row 1 ∷ 1 ∷ 0 ∷ 0 ∷ []) 1 20 0 refl refl c.put_register.ensures c.put_place.ensures c.put_register-2.ensures c.put_access.ensures),
     )
 
-pub addr-memw-spec : {M : Type 1} → statement M
-addr-memw-spec =
+pub addr_memw_spec : {M : Type 1} → statement M
+addr_memw_spec =
     tie.close
     (tie.spec
     from-dword-bl-requires

@@ -14,39 +14,36 @@ use Rattle.keccak_state_tuples.proofs.memw.put_access.Tie as tie
 dword-requires : tie.Need-dword-requires
 dword-requires c κs = search rules
 
-add-words-requires : tie.Need-add-words-requires
+add-words-requires : tie.Need-add_words-timestamp-requires
 add-words-requires c κs =
-    let s = c.before.before.before in
-    let row = s.args.row.now in
-    made_in row c.dword.ensures (dword-in row 486 s.requires.1 0 (omega arith))
+    let row = c.args.row.now in
+    made_in row c.dword.ensures (dword-in row 486 c.requires.1 0 (omega arith))
 
-slice-write-out : tie.Need-slice-write-out
+slice-write-out : tie.Need-bounds-out-19
 slice-write-out c = search rules
 
-slice-write-out-2 : tie.Need-slice-write-out-2
+slice-write-out-2 : tie.Need-bounds-out-20
 slice-write-out-2 c = simp length-set (omega arith)
 
-slice-write-out-3 : tie.Need-slice-write-out-3
+slice-write-out-3 : tie.Need-bounds-out-21
 slice-write-out-3 c = simp length-set (omega arith)
 
-slice-write-out-4 : tie.Need-slice-write-out-4
+slice-write-out-4 : tie.Need-bounds-out-22
 slice-write-out-4 c = simp length-set (omega arith)
 
-slice-write-out-5 : tie.Need-slice-write-out-5
+slice-write-out-5 : tie.Need-bounds-out-23
 slice-write-out-5 c = search rules
 
-same_length : tie.Need-same-length
+same_length : tie.Need-shape_of-out
 same_length c = search rules
 
 returns : tie.Need-returns
 returns c =
-    let made = c.before in
-    let s = made.before.before.before in
-    let row = s.args.row.now in
-    ap (λ (w : AddWords). sets s.args.out.now 19 (w.lo ∷ w.hi ∷ s.args.write2 ∷ 0 ∷ s.args.write8 ∷ [])) (c.add_words.ensures.0 ∙ ap (words_on row) made.dword.ensures)
+    let row = c.args.row.now in
+    ap (λ (w : AddWords). sets c.args.out.now 19 (w.lo ∷ w.hi ∷ c.args.write2 ∷ 0 ∷ c.args.write8 ∷ [])) (c.add_words-timestamp.ensures.0 ∙ ap (words_on row) c.dword.ensures)
 
-pub put-access-spec : {M : Type 1} → statement M
-put-access-spec =
+pub put_access_spec : {M : Type 1} → statement M
+put_access_spec =
     tie.close
     (tie.spec
     dword-requires

@@ -5,18 +5,18 @@ use Rattle.flat.specs.Flat.{flat_answer}
 use Rattle.keccak_tables.proofs.core_calls.keccak_tables_generate_keccak_trace.Statement.{statement}
 use Rattle.keccak_tables.proofs.core_calls.keccak_tables_generate_keccak_trace.Tie as tie
 
-generate-keccak-trace-requires : tie.Need-generate-keccak-trace-requires
+generate-keccak-trace-requires : tie.Need-generate_keccak_trace-requires
 generate-keccak-trace-requires c κs = search rules
 
-flat-answer-requires : tie.Need-flat-answer-requires
+flat-answer-requires : tie.Need-flat_answer-requires
 flat-answer-requires c κs = search rules
 
-same_length : tie.Need-same-length
+same_length : tie.Need-shape_of-table
 same_length c = search rules
 
 returns : tie.Need-returns
-returns c = let inner = c.before.before.before.generate-keccak-trace.ensures in (c.flat-answer.ensures ∙ ap flat_answer inner.0, inner.1)
+returns c = let inner = c.generate_keccak_trace.ensures in (c.flat_answer.ensures ∙ ap flat_answer inner.0, inner.1)
 
-pub keccak-tables-generate-keccak-trace-spec : {M : Type 1} → statement M
-keccak-tables-generate-keccak-trace-spec =
+pub keccak_tables_generate_keccak_trace_spec : {M : Type 1} → statement M
+keccak_tables_generate_keccak_trace_spec =
     tie.close (tie.spec generate-keccak-trace-requires flat-answer-requires same_length returns)

@@ -5,18 +5,18 @@ use Rattle.flat.specs.Flat.{flat_answer}
 use Rattle.keccak_tables.proofs.core_calls.keccak_tables_keccak_rows.Statement.{statement}
 use Rattle.keccak_tables.proofs.core_calls.keccak_tables_keccak_rows.Tie as tie
 
-keccak-rows-requires : tie.Need-keccak-rows-requires
+keccak-rows-requires : tie.Need-keccak_rows-requires
 keccak-rows-requires c κs = search rules
 
-flat-answer-requires : tie.Need-flat-answer-requires
+flat-answer-requires : tie.Need-flat_answer-requires
 flat-answer-requires c κs = search rules
 
-same_length : tie.Need-same-length
+same_length : tie.Need-shape_of-table
 same_length c = search rules
 
 returns : tie.Need-returns
-returns c = let inner = c.before.before.before.keccak-rows.ensures in (c.flat-answer.ensures ∙ ap flat_answer inner.0, inner.1)
+returns c = let inner = c.keccak_rows.ensures in (c.flat_answer.ensures ∙ ap flat_answer inner.0, inner.1)
 
-pub keccak-tables-keccak-rows-spec : {M : Type 1} → statement M
-keccak-tables-keccak-rows-spec =
+pub keccak_tables_keccak_rows_spec : {M : Type 1} → statement M
+keccak_tables_keccak_rows_spec =
     tie.close (tie.spec keccak-rows-requires flat-answer-requires same_length returns)

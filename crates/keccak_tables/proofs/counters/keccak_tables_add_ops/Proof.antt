@@ -5,18 +5,18 @@ use Rattle.flat.specs.Flat.{flat_answer}
 use Rattle.keccak_tables.proofs.counters.keccak_tables_add_ops.Statement.{statement}
 use Rattle.keccak_tables.proofs.counters.keccak_tables_add_ops.Tie as tie
 
-add-ops-requires : tie.Need-add-ops-requires
+add-ops-requires : tie.Need-add_ops-requires
 add-ops-requires c κs = search rules
 
-flat-answer-requires : tie.Need-flat-answer-requires
+flat-answer-requires : tie.Need-flat_answer-requires
 flat-answer-requires c κs = search rules
 
-same_length : tie.Need-same-length
+same_length : tie.Need-shape_of-counters
 same_length c = search rules
 
 returns : tie.Need-returns
-returns c = let inner = c.before.before.before.add-ops.ensures in (c.flat-answer.ensures ∙ ap flat_answer inner.0, inner.1)
+returns c = let inner = c.add_ops.ensures in (c.flat_answer.ensures ∙ ap flat_answer inner.0, inner.1)
 
-pub keccak-tables-add-ops-spec : {M : Type 1} → statement M
-keccak-tables-add-ops-spec =
+pub keccak_tables_add_ops_spec : {M : Type 1} → statement M
+keccak_tables_add_ops_spec =
     tie.close (tie.spec add-ops-requires flat-answer-requires same_length returns)

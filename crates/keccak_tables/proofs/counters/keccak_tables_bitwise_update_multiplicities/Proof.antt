@@ -5,18 +5,18 @@ use Rattle.flat.specs.Flat.{flat_answer}
 use Rattle.keccak_tables.proofs.counters.keccak_tables_bitwise_update_multiplicities.Statement.{statement}
 use Rattle.keccak_tables.proofs.counters.keccak_tables_bitwise_update_multiplicities.Tie as tie
 
-update-multiplicities-requires : tie.Need-update-multiplicities-requires
+update-multiplicities-requires : tie.Need-update_multiplicities-requires
 update-multiplicities-requires c κs = search rules
 
-flat-answer-requires : tie.Need-flat-answer-requires
+flat-answer-requires : tie.Need-flat_answer-requires
 flat-answer-requires c κs = search rules
 
-same_length : tie.Need-same-length
+same_length : tie.Need-shape_of-table
 same_length c = search rules
 
 returns : tie.Need-returns
-returns c = let inner = c.before.before.before.update-multiplicities.ensures in (c.flat-answer.ensures ∙ ap flat_answer inner.0, inner.1)
+returns c = let inner = c.update_multiplicities.ensures in (c.flat_answer.ensures ∙ ap flat_answer inner.0, inner.1)
 
-pub keccak-tables-bitwise-update-multiplicities-spec : {M : Type 1} → statement M
-keccak-tables-bitwise-update-multiplicities-spec =
+pub keccak_tables_bitwise_update_multiplicities_spec : {M : Type 1} → statement M
+keccak_tables_bitwise_update_multiplicities_spec =
     tie.close (tie.spec update-multiplicities-requires flat-answer-requires same_length returns)

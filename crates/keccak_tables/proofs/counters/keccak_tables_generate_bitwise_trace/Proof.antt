@@ -5,18 +5,18 @@ use Rattle.flat.specs.Flat.{flat_answer}
 use Rattle.keccak_tables.proofs.counters.keccak_tables_generate_bitwise_trace.Statement.{statement}
 use Rattle.keccak_tables.proofs.counters.keccak_tables_generate_bitwise_trace.Tie as tie
 
-generate-bitwise-trace-requires : tie.Need-generate-bitwise-trace-requires
+generate-bitwise-trace-requires : tie.Need-generate_bitwise_trace-requires
 generate-bitwise-trace-requires c κs = search rules
 
-flat-answer-requires : tie.Need-flat-answer-requires
+flat-answer-requires : tie.Need-flat_answer-requires
 flat-answer-requires c κs = search rules
 
-same_length : tie.Need-same-length
+same_length : tie.Need-shape_of-table
 same_length c = search rules
 
 returns : tie.Need-returns
-returns c = let inner = c.before.before.before.generate-bitwise-trace.ensures in (c.flat-answer.ensures ∙ ap flat_answer inner.0, inner.1)
+returns c = let inner = c.generate_bitwise_trace.ensures in (c.flat_answer.ensures ∙ ap flat_answer inner.0, inner.1)
 
-pub keccak-tables-generate-bitwise-trace-spec : {M : Type 1} → statement M
-keccak-tables-generate-bitwise-trace-spec =
+pub keccak_tables_generate_bitwise_trace_spec : {M : Type 1} → statement M
+keccak_tables_generate_bitwise_trace_spec =
     tie.close (tie.spec generate-bitwise-trace-requires flat-answer-requires same_length returns)

@@ -5,18 +5,18 @@ use Rattle.flat.specs.Flat.{flat_answer}
 use Rattle.keccak_tables.proofs.evaluators.keccak_tables_keccak_bus_interactions.Statement.{statement}
 use Rattle.keccak_tables.proofs.evaluators.keccak_tables_keccak_bus_interactions.Tie as tie
 
-bus-interactions-requires : tie.Need-bus-interactions-requires
+bus-interactions-requires : tie.Need-bus_interactions-requires
 bus-interactions-requires c κs = search rules
 
-flat-answer-requires : tie.Need-flat-answer-requires
+flat-answer-requires : tie.Need-flat_answer-requires
 flat-answer-requires c κs = search rules
 
-same_length : tie.Need-same-length
+same_length : tie.Need-shape_of-out
 same_length c = search rules
 
 returns : tie.Need-returns
-returns c = let inner = c.before.before.before.bus-interactions.ensures in (c.flat-answer.ensures ∙ ap flat_answer inner.0, inner.1)
+returns c = let inner = c.bus_interactions.ensures in (c.flat_answer.ensures ∙ ap flat_answer inner.0, inner.1)
 
-pub keccak-tables-keccak-bus-interactions-spec : {M : Type 1} → statement M
-keccak-tables-keccak-bus-interactions-spec =
+pub keccak_tables_keccak_bus_interactions_spec : {M : Type 1} → statement M
+keccak_tables_keccak_bus_interactions_spec =
     tie.close (tie.spec bus-interactions-requires flat-answer-requires same_length returns)

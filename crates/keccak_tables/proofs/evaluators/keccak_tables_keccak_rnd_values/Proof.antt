@@ -5,18 +5,18 @@ use Rattle.flat.specs.Flat.{flat_answer}
 use Rattle.keccak_tables.proofs.evaluators.keccak_tables_keccak_rnd_values.Statement.{statement}
 use Rattle.keccak_tables.proofs.evaluators.keccak_tables_keccak_rnd_values.Tie as tie
 
-round-values-requires : tie.Need-round-values-requires
+round-values-requires : tie.Need-round_values-requires
 round-values-requires c κs = search rules
 
-flat-answer-requires : tie.Need-flat-answer-requires
+flat-answer-requires : tie.Need-flat_answer-requires
 flat-answer-requires c κs = search rules
 
-same_length : tie.Need-same-length
+same_length : tie.Need-shape_of-out
 same_length c = search rules
 
 returns : tie.Need-returns
-returns c = let inner = c.before.before.before.round-values.ensures in (c.flat-answer.ensures ∙ ap flat_answer inner.0, inner.1)
+returns c = let inner = c.round_values.ensures in (c.flat_answer.ensures ∙ ap flat_answer inner.0, inner.1)
 
-pub keccak-tables-keccak-rnd-values-spec : {M : Type 1} → statement M
-keccak-tables-keccak-rnd-values-spec =
+pub keccak_tables_keccak_rnd_values_spec : {M : Type 1} → statement M
+keccak_tables_keccak_rnd_values_spec =
     tie.close (tie.spec round-values-requires flat-answer-requires same_length returns)

@@ -8,15 +8,15 @@ use Rattle.keccak_tables.proofs.job_calls.keccak_tables_job.Tie as tie
 job-requires : tie.Need-job-requires
 job-requires c κs = search rules
 
-flat-answer-requires : tie.Need-flat-answer-requires
+flat-answer-requires : tie.Need-flat_answer-requires
 flat-answer-requires c κs = search rules
 
-same_length : tie.Need-same-length
+same_length : tie.Need-shape_of-report
 same_length c = search rules
 
 returns : tie.Need-returns
-returns c = let inner = c.before.before.before.job.ensures in (c.flat-answer.ensures ∙ ap flat_answer inner.0, inner.1)
+returns c = let inner = c.job.ensures in (c.flat_answer.ensures ∙ ap flat_answer inner.0, inner.1)
 
-pub keccak-tables-job-spec : {M : Type 1} → statement M
-keccak-tables-job-spec =
+pub keccak_tables_job_spec : {M : Type 1} → statement M
+keccak_tables_job_spec =
     tie.close (tie.spec job-requires flat-answer-requires same_length returns)

@@ -8,11 +8,11 @@ use Rattle.keccak_tables.proofs.judge_calls.keccak_tables_verdict.Tie as tie
 verdict-requires : tie.Need-verdict-requires
 verdict-requires c κs = search rules
 
-flat-verdict-requires : tie.Need-flat-verdict-requires
+flat-verdict-requires : tie.Need-flat_verdict-requires
 flat-verdict-requires c κs = search rules
 
 returns : tie.Need-returns
-returns c = c.flat-verdict.ensures ∙ ap flat_verdict c.before.verdict.ensures
+returns c = c.flat_verdict.ensures ∙ ap flat_verdict c.verdict.ensures
 
-pub keccak-tables-verdict-spec : {M : Type 1} → statement M
-keccak-tables-verdict-spec = tie.close (tie.spec verdict-requires flat-verdict-requires returns)
+pub keccak_tables_verdict_spec : {M : Type 1} → statement M
+keccak_tables_verdict_spec = tie.close (tie.spec verdict-requires flat-verdict-requires returns)

@@ -5,23 +5,23 @@ use Rattle.flat.specs.FlatJudged.{flat_verdict}
 use Rattle.keccak_tables.proofs.judge_calls.keccak_tables_verdict_within.Statement.{statement}
 use Rattle.keccak_tables.proofs.judge_calls.keccak_tables_verdict_within.Tie as tie
 
-verdict-within-requires : tie.Need-verdict-within-requires
+verdict-within-requires : tie.Need-verdict_within-requires
 verdict-within-requires c κs = search rules
 
-flat-verdict-requires : tie.Need-flat-verdict-requires
+flat-verdict-requires : tie.Need-flat_verdict-requires
 flat-verdict-requires c κs = search rules
 
-same_length : tie.Need-same-length
+same_length : tie.Need-shape_of-scratch
 same_length c = search rules
 
-same-length-2 : tie.Need-same-length-2
+same-length-2 : tie.Need-shape_of-spare
 same-length-2 c = search rules
 
 returns : tie.Need-returns
 returns c =
-    let inner = c.before.before.before.before.before.verdict-within.ensures in
-    (c.flat-verdict.ensures ∙ ap flat_verdict inner.0, inner.1)
+    let inner = c.verdict_within.ensures in
+    (c.flat_verdict.ensures ∙ ap flat_verdict inner.0, inner.1)
 
-pub keccak-tables-verdict-within-spec : {M : Type 1} → statement M
-keccak-tables-verdict-within-spec =
+pub keccak_tables_verdict_within_spec : {M : Type 1} → statement M
+keccak_tables_verdict_within_spec =
     tie.close (tie.spec verdict-within-requires flat-verdict-requires same_length same-length-2 returns)

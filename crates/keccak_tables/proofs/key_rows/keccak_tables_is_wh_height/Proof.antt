@@ -5,15 +5,15 @@ use Rattle.flat.specs.Flat.{flat_number}
 use Rattle.keccak_tables.proofs.key_rows.keccak_tables_is_wh_height.Statement.{statement}
 use Rattle.keccak_tables.proofs.key_rows.keccak_tables_is_wh_height.Tie as tie
 
-is-wh-height-requires : tie.Need-is-wh-height-requires
+is-wh-height-requires : tie.Need-is_wh_height-requires
 is-wh-height-requires c κs = search rules
 
-flat-number-requires : tie.Need-flat-number-requires
+flat-number-requires : tie.Need-flat_number-requires
 flat-number-requires c κs = search rules
 
 returns : tie.Need-returns
-returns c = c.flat-number.ensures ∙ ap flat_number c.before.is-wh-height.ensures
+returns c = c.flat_number.ensures ∙ ap flat_number c.is_wh_height.ensures
 
-pub keccak-tables-is-wh-height-spec : {M : Type 1} → statement M
-keccak-tables-is-wh-height-spec =
+pub keccak_tables_is_wh_height_spec : {M : Type 1} → statement M
+keccak_tables_is_wh_height_spec =
     tie.close (tie.spec is-wh-height-requires flat-number-requires returns)

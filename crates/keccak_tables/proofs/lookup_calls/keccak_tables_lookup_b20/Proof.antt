@@ -8,12 +8,12 @@ use Rattle.keccak_tables.proofs.lookup_calls.keccak_tables_lookup_b20.Tie as tie
 b20-requires : tie.Need-b20-requires
 b20-requires c κs = search rules
 
-flat-lookup-requires : tie.Need-flat-lookup-requires
+flat-lookup-requires : tie.Need-flat_lookup-requires
 flat-lookup-requires c κs = search rules
 
 returns : tie.Need-returns
-returns c = c.flat-lookup.ensures ∙ ap flat_lookup c.before.b20.ensures
+returns c = c.flat_lookup.ensures ∙ ap flat_lookup c.b20.ensures
 
-pub keccak-tables-lookup-b20-spec : {M : Type 1} → statement M
-keccak-tables-lookup-b20-spec =
+pub keccak_tables_lookup_b20_spec : {M : Type 1} → statement M
+keccak_tables_lookup_b20_spec =
     tie.close (tie.spec b20-requires flat-lookup-requires returns)

@@ -3,23 +3,23 @@ use borrow.Author.Rules.{rules}
 use Rattle.keccak_tables.proofs.lookup_calls.keccak_tables_lookup_new.Statement.{statement}
 use Rattle.keccak_tables.proofs.lookup_calls.keccak_tables_lookup_new.Tie as tie
 
-kind-at-requires : tie.Need-kind-at-requires
+kind-at-requires : tie.Need-kind_at-requires
 kind-at-requires c κs = search rules
 
 new-requires : tie.Need-new-requires
 new-requires c κs = search rules
 
-of-kind-requires : tie.Need-of-kind-requires
+of-kind-requires : tie.Need-of_kind-requires
 of-kind-requires c κs = search rules
 
-flat-lookup-requires : tie.Need-flat-lookup-requires
+flat-lookup-requires : tie.Need-flat_lookup-requires
 flat-lookup-requires c κs = search rules
 
 returns : tie.Need-returns
 returns c =
-    rw (c.flat-lookup.ensures, c.before.of-kind.ensures, c.before.before.new.ensures, c.before.before.before.kind_at.ensures)
+    rw (c.flat_lookup.ensures, c.of_kind.ensures, c.new.ensures, c.kind_at.ensures)
 
-pub keccak-tables-lookup-new-spec : {M : Type 1} → statement M
-keccak-tables-lookup-new-spec =
+pub keccak_tables_lookup_new_spec : {M : Type 1} → statement M
+keccak_tables_lookup_new_spec =
     tie.close
     (tie.spec kind-at-requires new-requires of-kind-requires flat-lookup-requires returns)

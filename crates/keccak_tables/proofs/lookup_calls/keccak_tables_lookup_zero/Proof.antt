@@ -8,12 +8,12 @@ use Rattle.keccak_tables.proofs.lookup_calls.keccak_tables_lookup_zero.Tie as ti
 zero-requires : tie.Need-zero-requires
 zero-requires c κs = search rules
 
-flat-lookup-requires : tie.Need-flat-lookup-requires
+flat-lookup-requires : tie.Need-flat_lookup-requires
 flat-lookup-requires c κs = search rules
 
 returns : tie.Need-returns
-returns c = c.flat-lookup.ensures ∙ ap flat_lookup c.before.zero.ensures
+returns c = c.flat_lookup.ensures ∙ ap flat_lookup c.zero.ensures
 
-pub keccak-tables-lookup-zero-spec : {M : Type 1} → statement M
-keccak-tables-lookup-zero-spec =
+pub keccak_tables_lookup_zero_spec : {M : Type 1} → statement M
+keccak_tables_lookup_zero_spec =
     tie.close (tie.spec zero-requires flat-lookup-requires returns)

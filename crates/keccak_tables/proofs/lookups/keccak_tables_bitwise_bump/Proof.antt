@@ -8,15 +8,15 @@ use Rattle.keccak_tables.proofs.lookups.keccak_tables_bitwise_bump.Tie as tie
 bump-requires : tie.Need-bump-requires
 bump-requires c κs = search rules
 
-flat-answer-requires : tie.Need-flat-answer-requires
+flat-answer-requires : tie.Need-flat_answer-requires
 flat-answer-requires c κs = search rules
 
-same_length : tie.Need-same-length
+same_length : tie.Need-shape_of-counters
 same_length c = search rules
 
 returns : tie.Need-returns
-returns c = let inner = c.before.before.before.bump.ensures in (c.flat-answer.ensures ∙ ap flat_answer inner.0, inner.1)
+returns c = let inner = c.bump.ensures in (c.flat_answer.ensures ∙ ap flat_answer inner.0, inner.1)
 
-pub keccak-tables-bitwise-bump-spec : {M : Type 1} → statement M
-keccak-tables-bitwise-bump-spec =
+pub keccak_tables_bitwise_bump_spec : {M : Type 1} → statement M
+keccak_tables_bitwise_bump_spec =
     tie.close (tie.spec bump-requires flat-answer-requires same_length returns)

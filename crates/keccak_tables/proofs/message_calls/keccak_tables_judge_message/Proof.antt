@@ -5,14 +5,14 @@ use Rattle.flat.specs.FlatJudged.{flat_reply}
 use Rattle.keccak_tables.proofs.message_calls.keccak_tables_judge_message.Statement.{statement}
 use Rattle.keccak_tables.proofs.message_calls.keccak_tables_judge_message.Tie as tie
 
-judge-message-requires : tie.Need-judge-message-requires
+judge-message-requires : tie.Need-judge_message-requires
 judge-message-requires c κs = search rules
 
-flat-reply-requires : tie.Need-flat-reply-requires
+flat-reply-requires : tie.Need-flat_reply-requires
 flat-reply-requires c κs = search rules
 
 returns : tie.Need-returns
-returns c = c.flat-reply.ensures ∙ ap flat_reply c.before.judge-message.ensures
+returns c = c.flat_reply.ensures ∙ ap flat_reply c.judge_message.ensures
 
-pub keccak-tables-judge-message-spec : {M : Type 1} → statement M
-keccak-tables-judge-message-spec = tie.close (tie.spec judge-message-requires flat-reply-requires returns)
+pub keccak_tables_judge_message_spec : {M : Type 1} → statement M
+keccak_tables_judge_message_spec = tie.close (tie.spec judge-message-requires flat-reply-requires returns)

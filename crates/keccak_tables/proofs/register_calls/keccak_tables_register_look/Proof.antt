@@ -8,18 +8,18 @@ use Rattle.keccak_tables.proofs.register_calls.keccak_tables_register_look.Tie a
 look-requires : tie.Need-look-requires
 look-requires c κs = search rules
 
-flat-answer-requires : tie.Need-flat-answer-requires
+flat-answer-requires : tie.Need-flat_answer-requires
 flat-answer-requires c κs = search rules
 
-same_length : tie.Need-same-length
+same_length : tie.Need-shape_of-copy
 same_length c = search rules
 
-same-length-2 : tie.Need-same-length-2
+same-length-2 : tie.Need-shape_of-out
 same-length-2 c = search rules
 
 returns : tie.Need-returns
-returns c = let inner = c.before.before.before.before.before.look.ensures in (c.flat-answer.ensures ∙ ap flat_answer inner.0, inner.1)
+returns c = let inner = c.look.ensures in (c.flat_answer.ensures ∙ ap flat_answer inner.0, inner.1)
 
-pub keccak-tables-register-look-spec : {M : Type 1} → statement M
-keccak-tables-register-look-spec =
+pub keccak_tables_register_look_spec : {M : Type 1} → statement M
+keccak_tables_register_look_spec =
     tie.close (tie.spec look-requires flat-answer-requires same_length same-length-2 returns)

@@ -5,19 +5,19 @@ use Rattle.flat.specs.Flat.{flat_answer}
 use Rattle.keccak_tables.proofs.round_calls.keccak_tables_generate_keccak_rnd_trace.Statement.{statement}
 use Rattle.keccak_tables.proofs.round_calls.keccak_tables_generate_keccak_rnd_trace.Tie as tie
 
-generate-keccak-rnd-trace-requires : tie.Need-generate-keccak-rnd-trace-requires
+generate-keccak-rnd-trace-requires : tie.Need-generate_keccak_rnd_trace-requires
 generate-keccak-rnd-trace-requires c κs = search rules
 
-flat-answer-requires : tie.Need-flat-answer-requires
+flat-answer-requires : tie.Need-flat_answer-requires
 flat-answer-requires c κs = search rules
 
-same_length : tie.Need-same-length
+same_length : tie.Need-shape_of-table
 same_length c = search rules
 
 returns : tie.Need-returns
-returns c = let inner = c.before.before.before.generate-keccak-rnd-trace.ensures in (c.flat-answer.ensures ∙ ap flat_answer inner.0, inner.1)
+returns c = let inner = c.generate_keccak_rnd_trace.ensures in (c.flat_answer.ensures ∙ ap flat_answer inner.0, inner.1)
 
-pub keccak-tables-generate-keccak-rnd-trace-spec : {M : Type 1} → statement M
-keccak-tables-generate-keccak-rnd-trace-spec =
+pub keccak_tables_generate_keccak_rnd_trace_spec : {M : Type 1} → statement M
+keccak_tables_generate_keccak_rnd_trace_spec =
     tie.close
     (tie.spec generate-keccak-rnd-trace-requires flat-answer-requires same_length returns)

@@ -5,15 +5,15 @@ use Rattle.flat.specs.Flat.{flat_number}
 use Rattle.keccak_tables.proofs.round_calls.keccak_tables_keccak_rnd_height.Statement.{statement}
 use Rattle.keccak_tables.proofs.round_calls.keccak_tables_keccak_rnd_height.Tie as tie
 
-keccak-rnd-height-requires : tie.Need-keccak-rnd-height-requires
+keccak-rnd-height-requires : tie.Need-keccak_rnd_height-requires
 keccak-rnd-height-requires c κs = search rules
 
-flat-number-requires : tie.Need-flat-number-requires
+flat-number-requires : tie.Need-flat_number-requires
 flat-number-requires c κs = search rules
 
 returns : tie.Need-returns
-returns c = c.flat-number.ensures ∙ ap flat_number c.before.keccak-rnd-height.ensures
+returns c = c.flat_number.ensures ∙ ap flat_number c.keccak_rnd_height.ensures
 
-pub keccak-tables-keccak-rnd-height-spec : {M : Type 1} → statement M
-keccak-tables-keccak-rnd-height-spec =
+pub keccak_tables_keccak_rnd_height_spec : {M : Type 1} → statement M
+keccak_tables_keccak_rnd_height_spec =
     tie.close (tie.spec keccak-rnd-height-requires flat-number-requires returns)

@@ -5,18 +5,18 @@ use Rattle.flat.specs.Flat.{flat_answer}
 use Rattle.keccak_tables.proofs.round_calls.keccak_tables_keccak_rnd_row.Statement.{statement}
 use Rattle.keccak_tables.proofs.round_calls.keccak_tables_keccak_rnd_row.Tie as tie
 
-keccak-rnd-row-requires : tie.Need-keccak-rnd-row-requires
+keccak-rnd-row-requires : tie.Need-keccak_rnd_row-requires
 keccak-rnd-row-requires c κs = search rules
 
-flat-answer-requires : tie.Need-flat-answer-requires
+flat-answer-requires : tie.Need-flat_answer-requires
 flat-answer-requires c κs = search rules
 
-same_length : tie.Need-same-length
+same_length : tie.Need-shape_of-row
 same_length c = search rules
 
 returns : tie.Need-returns
-returns c = let inner = c.before.before.before.keccak-rnd-row.ensures in (c.flat-answer.ensures ∙ ap flat_answer inner.0, inner.1)
+returns c = let inner = c.keccak_rnd_row.ensures in (c.flat_answer.ensures ∙ ap flat_answer inner.0, inner.1)
 
-pub keccak-tables-keccak-rnd-row-spec : {M : Type 1} → statement M
-keccak-tables-keccak-rnd-row-spec =
+pub keccak_tables_keccak_rnd_row_spec : {M : Type 1} → statement M
+keccak_tables_keccak_rnd_row_spec =
     tie.close (tie.spec keccak-rnd-row-requires flat-answer-requires same_length returns)

@@ -5,15 +5,15 @@ use Rattle.flat.specs.Flat.{flat_number}
 use Rattle.keccak_tables.proofs.round_calls.keccak_tables_padding_are_bytes.Statement.{statement}
 use Rattle.keccak_tables.proofs.round_calls.keccak_tables_padding_are_bytes.Tie as tie
 
-padding-are-bytes-requires : tie.Need-padding-are-bytes-requires
+padding-are-bytes-requires : tie.Need-padding_are_bytes-requires
 padding-are-bytes-requires c κs = search rules
 
-flat-number-requires : tie.Need-flat-number-requires
+flat-number-requires : tie.Need-flat_number-requires
 flat-number-requires c κs = search rules
 
 returns : tie.Need-returns
-returns c = c.flat-number.ensures ∙ ap flat_number c.before.padding-are-bytes.ensures
+returns c = c.flat_number.ensures ∙ ap flat_number c.padding_are_bytes.ensures
 
-pub keccak-tables-padding-are-bytes-spec : {M : Type 1} → statement M
-keccak-tables-padding-are-bytes-spec =
+pub keccak_tables_padding_are_bytes_spec : {M : Type 1} → statement M
+keccak_tables_padding_are_bytes_spec =
     tie.close (tie.spec padding-are-bytes-requires flat-number-requires returns)

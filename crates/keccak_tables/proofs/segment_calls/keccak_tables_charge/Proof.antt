@@ -8,15 +8,15 @@ use Rattle.keccak_tables.proofs.segment_calls.keccak_tables_charge.Tie as tie
 charge-requires : tie.Need-charge-requires
 charge-requires c κs = search rules
 
-flat-answer-requires : tie.Need-flat-answer-requires
+flat-answer-requires : tie.Need-flat_answer-requires
 flat-answer-requires c κs = search rules
 
-same_length : tie.Need-same-length
+same_length : tie.Need-shape_of-counters
 same_length c = search rules
 
 returns : tie.Need-returns
-returns c = let inner = c.before.before.before.charge.ensures in (c.flat-answer.ensures ∙ ap flat_answer inner.0, inner.1)
+returns c = let inner = c.charge.ensures in (c.flat_answer.ensures ∙ ap flat_answer inner.0, inner.1)
 
-pub keccak-tables-charge-spec : {M : Type 1} → statement M
-keccak-tables-charge-spec =
+pub keccak_tables_charge_spec : {M : Type 1} → statement M
+keccak_tables_charge_spec =
     tie.close (tie.spec charge-requires flat-answer-requires same_length returns)

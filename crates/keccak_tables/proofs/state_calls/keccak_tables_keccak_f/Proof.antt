@@ -5,18 +5,18 @@ use Rattle.flat.specs.Flat.{flat_answer}
 use Rattle.keccak_tables.proofs.state_calls.keccak_tables_keccak_f.Statement.{statement}
 use Rattle.keccak_tables.proofs.state_calls.keccak_tables_keccak_f.Tie as tie
 
-keccak-f-requires : tie.Need-keccak-f-requires
+keccak-f-requires : tie.Need-keccak_f-requires
 keccak-f-requires c κs = search rules
 
-flat-answer-requires : tie.Need-flat-answer-requires
+flat-answer-requires : tie.Need-flat_answer-requires
 flat-answer-requires c κs = search rules
 
-same_length : tie.Need-same-length
+same_length : tie.Need-shape_of-state
 same_length c = search rules
 
 returns : tie.Need-returns
-returns c = let inner = c.before.before.before.keccak-f.ensures in (c.flat-answer.ensures ∙ ap flat_answer inner.0, inner.1)
+returns c = let inner = c.keccak_f.ensures in (c.flat_answer.ensures ∙ ap flat_answer inner.0, inner.1)
 
-pub keccak-tables-keccak-f-spec : {M : Type 1} → statement M
-keccak-tables-keccak-f-spec =
+pub keccak_tables_keccak_f_spec : {M : Type 1} → statement M
+keccak_tables_keccak_f_spec =
     tie.close (tie.spec keccak-f-requires flat-answer-requires same_length returns)

@@ -5,18 +5,18 @@ use borrow.Author.Rules.{rules}
 use Rattle.keccak_tables.proofs.tally_calls.keccak_tables_write_operations.Statement.{statement}
 use Rattle.keccak_tables.proofs.tally_calls.keccak_tables_write_operations.Tie as tie
 
-write-operations-requires : tie.Need-write-operations-requires
+write-operations-requires : tie.Need-write_operations-requires
 write-operations-requires c κs = search rules
 
-flat-answer-requires : tie.Need-flat-answer-requires
+flat-answer-requires : tie.Need-flat_answer-requires
 flat-answer-requires c κs = search rules
 
-same_length : tie.Need-same-length
+same_length : tie.Need-shape_of-file
 same_length c = search rules
 
 returns : tie.Need-returns
-returns c = let inner = c.before.before.before.write-operations.ensures in (c.flat-answer.ensures ∙ ap flat_answer inner.0, inner.1)
+returns c = let inner = c.write_operations.ensures in (c.flat_answer.ensures ∙ ap flat_answer inner.0, inner.1)
 
-pub keccak-tables-write-operations-spec : {M : Type 1} → statement M
-keccak-tables-write-operations-spec =
+pub keccak_tables_write_operations_spec : {M : Type 1} → statement M
+keccak_tables_write_operations_spec =
     tie.close (tie.spec write-operations-requires flat-answer-requires same_length returns)

@@ -6,5 +6,5 @@ use Rattle.keccak_tuples.proofs.address.sent.Tie as tie
 returns : tie.Need-returns
 returns c = refl
 
-pub sent-spec : {M : Type 1} → statement M
-sent-spec = tie.close (tie.spec returns)
+pub sent_spec : {M : Type 1} → statement M
+sent_spec = tie.close (tie.spec returns)

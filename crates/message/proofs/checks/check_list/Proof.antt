@@ -8,23 +8,23 @@ use Rattle.message.specs.Message.{judged_refusal}
 use Rattle.message.proofs.checks.check_list.Statement.{statement}
 use Rattle.message.proofs.checks.check_list.Tie as tie
 
-add-t8 : tie.Need-overflow-add-t8
+add-t8 : tie.Need-overflow_add-result
 add-t8 c = search rules
 
-returns : tie.Need-returns
+returns : tie.Need-returns-then-ops-gt-MAX_OPS
 unfolding judged_refusal
-returns c = answers (refuse-yes _ _ (lt-ltb _ _ c.if1.true))
+returns c = answers (refuse-yes _ _ (lt-ltb _ _ c.if-ops-gt-MAX_OPS.true))
 
-returns-2 : tie.Need-returns-2
+returns-2 : tie.Need-returns-then-n-gt-MAX_MESSAGE
 unfolding judged_refusal
-returns-2 c = answers (refuse-no _ (le-ltb _ _ c.before.if1.false) (refuse-yes _ _ (lt-ltb _ _ c.if2.true)))
+returns-2 c = answers (refuse-no _ (le-ltb _ _ c.if-ops-gt-MAX_OPS.false) (refuse-yes _ _ (lt-ltb _ _ c.if-n-gt-MAX_MESSAGE.true)))
 
-check-operations-requires : tie.Need-check-operations-requires
+check-operations-requires : tie.Need-check_operations-requires
 check-operations-requires c κs = search rules
 
-returns-3 : tie.Need-returns-3
+returns-3 : tie.Need-returns
 unfolding judged_refusal refuse_if
-returns-3 c = c.check-operations.ensures ∙ ap answer_of (sym (refuse-no _ (le-ltb _ _ c.before.before.if1.false) (refuse-no _ (le-ltb _ _ c.before.if2.false) refl)))
+returns-3 c = c.check_operations.ensures ∙ ap answer_of (sym (refuse-no _ (le-ltb _ _ c.if-ops-gt-MAX_OPS.false) (refuse-no _ (le-ltb _ _ c.if-n-gt-MAX_MESSAGE.false) refl)))
 
-pub check-list-spec : {M : Type 1} → statement M
-check-list-spec = tie.close (tie.spec add-t8 returns returns-2 check-operations-requires returns-3)
+pub check_list_spec : {M : Type 1} → statement M
+check_list_spec = tie.close (tie.spec add-t8 returns returns-2 check-operations-requires returns-3)

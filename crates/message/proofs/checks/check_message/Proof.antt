@@ -13,55 +13,50 @@ use Rattle.message.specs.Message.{message_refusal}
 use Rattle.message.proofs.checks.check_message.Statement.{statement}
 use Rattle.message.proofs.checks.check_message.Tie as tie
 
-returns : tie.Need-returns
+returns : tie.Need-returns-then-n-gt-MAX_MESSAGE
 unfolding message_refusal
-returns c = answers (refuse-yes _ _ (lt-ltb _ _ c.if1.true))
+returns c = answers (refuse-yes _ _ (lt-ltb _ _ c.if-n-gt-MAX_MESSAGE.true))
 
-is-late-requires : tie.Need-is-late-requires
+is-late-requires : tie.Need-is_late-requires
 is-late-requires c κs = search rules
 
-returns-2 : tie.Need-returns-2
+returns-2 : tie.Need-returns-then-is_late
 unfolding message_refusal
 returns-2 c =
-    let late = c.before in
-    answers (refuse-no _ (le-ltb _ _ late.before.if1.false) (refuse-yes _ _ (sym late.is-late.ensures ∙ c.if2.true)))
+    answers (refuse-no _ (le-ltb _ _ c.if-n-gt-MAX_MESSAGE.false) (refuse-yes _ _ (sym c.is_late.ensures ∙ c.if-is_late.true)))
 
-block-count-requires : tie.Need-block-count-requires
+block-count-requires : tie.Need-block_count-needed-requires
 block-count-requires c κs = search rules
 
-mul-needed : tie.Need-overflow-mul-needed
+mul-needed : tie.Need-overflow_mul-needed
 mul-needed c = search rules
 
-returns-3 : tie.Need-returns-3
+returns-3 : tie.Need-returns-then-room-needed
 unfolding message_refusal
 returns-3 c =
-    let count = c.before in
-    let late = count.before.before in
-    let short : late.before.before.before.args.room < blocks late.before.before.before.args.message.now * 53 = omega (arith, count.block-count.ensures) in
+    let short : c.args.room < blocks c.args.message.now * 53 = omega (arith, c.block_count-needed.ensures) in
     answers
-    (refuse-no _ (le-ltb _ _ late.before.if1.false)
-    (refuse-no _ (sym late.is-late.ensures ∙ count.before.if2.false)
+    (refuse-no _ (le-ltb _ _ c.if-n-gt-MAX_MESSAGE.false)
+    (refuse-no _ (sym c.is_late.ensures ∙ c.if-is_late.false)
     (refuse-yes _ _ (lt-ltb _ _ short)
-    ∙ ap (λ (n : ℕ). some (TooShort (n * 53))) (sym count.block-count.ensures))))
+    ∙ ap (λ (n : ℕ). some (TooShort (n * 53))) (sym c.block_count-needed.ensures))))
 
-check-address-requires : tie.Need-check-address-requires
+check-address-requires : tie.Need-check_address-requires
 check-address-requires c κs = search rules
 
-returns-4 : tie.Need-returns-4
+returns-4 : tie.Need-returns
 unfolding message_refusal
 returns-4 c =
-    let count = c.before.before in
-    let late = count.before.before in
-    let long : blocks late.before.before.before.args.message.now * 53 ≤ late.before.before.before.args.room = omega (arith, count.block-count.ensures) in
-    c.check-address.ensures
+    let long : blocks c.args.message.now * 53 ≤ c.args.room = omega (arith, c.block_count-needed.ensures) in
+    c.check_address.ensures
     ∙ ap answer_of
     (sym
-    (refuse-no _ (le-ltb _ _ late.before.if1.false)
-    (refuse-no _ (sym late.is-late.ensures ∙ count.before.if2.false)
+    (refuse-no _ (le-ltb _ _ c.if-n-gt-MAX_MESSAGE.false)
+    (refuse-no _ (sym c.is_late.ensures ∙ c.if-is_late.false)
     (refuse-no _ (le-ltb _ _ long) refl))))
 
-pub check-message-spec : {M : Type 1} → statement M
-check-message-spec =
+pub check_message_spec : {M : Type 1} → statement M
+check_message_spec =
     tie.close
     (tie.spec
     returns

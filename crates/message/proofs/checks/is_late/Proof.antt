@@ -9,21 +9,20 @@ use Rattle.message.proofs.Late.{late_is}
 use Rattle.message.proofs.checks.is_late.Statement.{statement}
 use Rattle.message.proofs.checks.is_late.Tie as tie
 
-block-count-requires : tie.Need-block-count-requires
+block-count-requires : tie.Need-block_count-requires
 block-count-requires c κs = search rules
 
-sub_more : tie.Need-overflow-sub-more
+sub_more : tie.Need-overflow_sub-more
 sub_more c = search rules
 
-sub-result : tie.Need-overflow-sub-result
+sub-result : tie.Need-overflow_sub-result
 sub-result c = search rules
 
 returns : tie.Need-returns
 unfolding is_late
 returns c =
-    let start = c.before.before in
-    late_is (c.block-count.result - 1) start.args.timestamp (omega arith)
-    ∙ ap (λ (n : ℕ). leb (2 ^ 64) (start.args.timestamp + (n - 1))) c.block-count.ensures
+    late_is (c.block_count.result - 1) c.args.timestamp (omega arith)
+    ∙ ap (λ (n : ℕ). leb (2 ^ 64) (c.args.timestamp + (n - 1))) c.block_count.ensures
 
-pub is-late-spec : {M : Type 1} → statement M
-is-late-spec = tie.close (tie.spec block-count-requires sub_more sub-result returns)
+pub is_late_spec : {M : Type 1} → statement M
+is_late_spec = tie.close (tie.spec block-count-requires sub_more sub-result returns)

@@ -8,56 +8,55 @@ use Rattle.op_list.proofs.RecordAgain.{word_in}
 use Rattle.op_list.proofs.record.read_words.Statement.{statement}
 use Rattle.op_list.proofs.record.read_words.Tie as tie
 
-abbrev invariant-loop : tie.invariant-loop
+abbrev invariant-loop : tie.invariant-loop-j
 invariant-loop bytes from ops₀ at j₀ ops j = Filled ops₀ at 52 (record_word (drop from bytes)) ops j
 
-abbrev decreases-loop : tie.decreases-loop
+abbrev decreases-loop : tie.decreases-loop-j
 decreases-loop bytes from ops₀ at j₀ ops j = 52 - j
 
-loop-holds : tie.Need-loop-init invariant-loop decreases-loop
+loop-holds : tie.Need-loop-j-init invariant-loop decreases-loop
 loop-holds c = filled_none _ _ _ _
 
-add-word-at : tie.Need-overflow-add-word-at invariant-loop decreases-loop
+add-word-at : tie.Need-overflow_add-from invariant-loop decreases-loop
 add-word-at c = omega arith
 
-mul-word-at : tie.Need-overflow-mul-word-at invariant-loop decreases-loop
+mul-word-at : tie.Need-overflow_mul-j invariant-loop decreases-loop
 mul-word-at c = omega arith
 
-add-word-at-2 : tie.Need-overflow-add-word-at-2 invariant-loop decreases-loop
+add-word-at-2 : tie.Need-overflow_add-from-in-loop-j invariant-loop decreases-loop
 add-word-at-2 c = omega arith
 
-word-at-requires : tie.Need-word-at-requires invariant-loop decreases-loop
+word-at-requires : tie.Need-word_at-requires invariant-loop decreases-loop
 word-at-requires c κs = omega arith
 
-add-ops : tie.Need-overflow-add-ops invariant-loop decreases-loop
+add-ops : tie.Need-overflow_add-ops invariant-loop decreases-loop
 add-ops c = omega arith
 
-mul-ops : tie.Need-overflow-mul-ops invariant-loop decreases-loop
+mul-ops : tie.Need-offset_bounds-ops-at invariant-loop decreases-loop
 mul-ops c = omega arith
 
-slice-write-ops : tie.Need-slice-write-ops invariant-loop decreases-loop
+slice-write-ops : tie.Need-bounds-ops-at invariant-loop decreases-loop
 slice-write-ops c = omega arith
 
-add-j : tie.Need-overflow-add-j invariant-loop decreases-loop
+add-j : tie.Need-overflow_add-j invariant-loop decreases-loop
 add-j c = omega arith
 
-loop-less : tie.Need-loop-smaller invariant-loop decreases-loop
+loop-less : tie.Need-loop-j-smaller invariant-loop decreases-loop
 loop-less c = omega arith
 
-loop-again : tie.Need-loop-preserved invariant-loop decreases-loop
+loop-again : tie.Need-loop-j-preserved invariant-loop decreases-loop
 loop-again c =
-    let at = c.before.before in
-    let a = at.before.before.before.args in
-    filled_more _ at.loop.invariant c.before.loop-test.true (word_in a.bytes.now a.from at.loop.j c.before.loop-test.true c.word_at.ensures)
+    let a = c.args in
+    filled_more _ c.loop-j.invariant c.loop-j-test.true (word_in a.bytes.now a.from c.loop-j.j c.loop-j-test.true c.word_at.ensures)
 
-same_length : tie.Need-same-length invariant-loop decreases-loop
+same_length : tie.Need-shape_of-ops invariant-loop decreases-loop
 same_length c = omega arith
 
 returns : tie.Need-returns invariant-loop decreases-loop
-returns c = filled-all c.before.loop.invariant c.loop-test.false
+returns c = filled-all c.loop-j.invariant c.loop-j-test.false
 
-pub read-words-spec : {M : Type 1} → statement M
-read-words-spec =
+pub read_words_spec : {M : Type 1} → statement M
+read_words_spec =
     tie.close
     (tie.spec
     invariant-loop

@@ -4,19 +4,19 @@ use borrow.Author.Rules.{rules}
 use Rattle.op_reader.proofs.step.count_segment.Statement.{statement}
 use Rattle.op_reader.proofs.step.count_segment.Tie as tie
 
-lesser-requires : tie.Need-lesser-requires
+lesser-requires : tie.Need-lesser-least-requires
 lesser-requires c κs = search rules
 
-greater-requires : tie.Need-greater-requires
+greater-requires : tie.Need-greater-greatest-requires
 greater-requires c κs = search rules
 
-returns : tie.Need-returns
+returns : tie.Need-returns-then-marked
 unfolding counted
-returns c = simp c.if1.true (cc)
+returns c = simp c.if-marked.true (cc)
 
-returns-2 : tie.Need-returns-2
+returns-2 : tie.Need-returns
 unfolding counted
-returns-2 c = simp c.if1.false (cc)
+returns-2 c = simp c.if-marked.false (cc)
 
-pub count-segment-spec : {M : Type 1} → statement M
-count-segment-spec = tie.close (tie.spec lesser-requires greater-requires returns returns-2)
+pub count_segment_spec : {M : Type 1} → statement M
+count_segment_spec = tie.close (tie.spec lesser-requires greater-requires returns returns-2)

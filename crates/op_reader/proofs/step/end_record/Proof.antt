@@ -8,17 +8,17 @@ use borrow.Author.Rules.{rules}
 use Rattle.op_reader.proofs.step.end_record.Statement.{statement}
 use Rattle.op_reader.proofs.step.end_record.Tie as tie
 
-returns : tie.Need-returns
-returns c = simp (lt-ltb _ _ c.if1.true)
+returns : tie.Need-returns-then-addr-gt-LAST_ADDRESS
+returns c = simp (lt-ltb _ _ c.if-addr-gt-LAST_ADDRESS.true)
 
-count-record-requires : tie.Need-count-record-requires
+count-record-requires : tie.Need-count_record-requires
 count-record-requires c κs = search rules
 
-none-begun-requires : tie.Need-none-begun-requires
+none-begun-requires : tie.Need-none_begun-requires
 none-begun-requires c κs = search rules
 
-returns-2 : tie.Need-returns-2
-returns-2 c = simp (le-ltb _ _ c.before.before.if1.false) (ap₂ (λ (w : Whole) (p : Begun). Reading w p) c.before.count-record.ensures c.none-begun.ensures)
+returns-2 : tie.Need-returns
+returns-2 c = simp (le-ltb _ _ c.if-addr-gt-LAST_ADDRESS.false) (ap₂ (λ (w : Whole) (p : Begun). Reading w p) c.count_record.ensures c.none_begun.ensures)
 
-pub end-record-spec : {M : Type 1} → statement M
-end-record-spec = tie.close (tie.spec returns count-record-requires none-begun-requires returns-2)
+pub end_record_spec : {M : Type 1} → statement M
+end_record_spec = tie.close (tie.spec returns count-record-requires none-begun-requires returns-2)

@@ -4,13 +4,13 @@ use borrow.Author.Tests.{eq-eqb, ne_eqb}
 use Rattle.op_reader.proofs.step.is_mark.Statement.{statement}
 use Rattle.op_reader.proofs.step.is_mark.Tie as tie
 
-returns : tie.Need-returns
+returns : tie.Need-returns-then-b-eq-PLAIN_MARK
 unfolding is_mark
-returns c = simp (eq-eqb _ _ c.if1.true)
+returns c = simp (eq-eqb _ _ c.if-b-eq-PLAIN_MARK.true)
 
-returns-2 : tie.Need-returns-2
+returns-2 : tie.Need-returns
 unfolding is_mark
-returns-2 c = simp (ne_eqb _ _ c.if1.false)
+returns-2 c = simp (ne_eqb _ _ c.if-b-eq-PLAIN_MARK.false)
 
-pub is-mark-spec : {M : Type 1} → statement M
-is-mark-spec = tie.close (tie.spec returns returns-2)
+pub is_mark_spec : {M : Type 1} → statement M
+is_mark_spec = tie.close (tie.spec returns returns-2)

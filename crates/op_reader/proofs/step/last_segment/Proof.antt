@@ -6,16 +6,16 @@ use borrow.Author.Rules.{rules}
 use Rattle.op_reader.proofs.step.last_segment.Statement.{statement}
 use Rattle.op_reader.proofs.step.last_segment.Tie as tie
 
-shift-in-requires : tie.Need-shift-in-requires
+shift-in-requires : tie.Need-shift_in-requires
 shift-in-requires c κs = search rules
 
-returns : tie.Need-returns
+returns : tie.Need-returns-then-marked
 unfolding segment_by
-returns c = simp c.before.if1.true (ap (λ (x : ℕ). x / 4294967296) c.shift_in.ensures)
+returns c = simp c.if-marked.true (ap (λ (x : ℕ). x / 4294967296) c.shift_in.ensures)
 
-returns-2 : tie.Need-returns-2
+returns-2 : tie.Need-returns
 unfolding segment_by
-returns-2 c = simp c.if1.false
+returns-2 c = simp c.if-marked.false
 
-pub last-segment-spec : {M : Type 1} → statement M
-last-segment-spec = tie.close (tie.spec shift-in-requires returns returns-2)
+pub last_segment_spec : {M : Type 1} → statement M
+last_segment_spec = tie.close (tie.spec shift-in-requires returns returns-2)

@@ -7,11 +7,11 @@ use Rattle.op_reader.proofs.step.mark_at.Tie as tie
 wide-requires : tie.Need-wide-requires
 wide-requires c κs = search rules
 
-returns : tie.Need-returns
-returns c = simp (eq-eqb _ _ c.before.if1.true) c.wide.ensures
+returns : tie.Need-returns-then-at-eq1
+returns c = simp (eq-eqb _ _ c.if-at-eq1.true) c.wide.ensures
 
-returns-2 : tie.Need-returns-2
-returns-2 c = simp (ne_eqb _ _ c.if1.false)
+returns-2 : tie.Need-returns
+returns-2 c = simp (ne_eqb _ _ c.if-at-eq1.false)
 
-pub mark-at-spec : {M : Type 1} → statement M
-mark-at-spec = tie.close (tie.spec wide-requires returns returns-2)
+pub mark_at_spec : {M : Type 1} → statement M
+mark_at_spec = tie.close (tie.spec wide-requires returns returns-2)

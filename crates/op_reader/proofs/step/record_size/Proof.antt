@@ -3,13 +3,13 @@ use Rattle.op_file.specs.File.{record_size}
 use Rattle.op_reader.proofs.step.record_size.Statement.{statement}
 use Rattle.op_reader.proofs.step.record_size.Tie as tie
 
-returns : tie.Need-returns
+returns : tie.Need-returns-then-marked
 unfolding record_size
-returns c = simp c.if1.true
+returns c = simp c.if-marked.true
 
-returns-2 : tie.Need-returns-2
+returns-2 : tie.Need-returns-else-marked
 unfolding record_size
-returns-2 c = simp c.if1.false
+returns-2 c = simp c.if-marked.false
 
-pub record-size-spec : {M : Type 1} → statement M
-record-size-spec = tie.close (tie.spec returns returns-2)
+pub record_size_spec : {M : Type 1} → statement M
+record_size_spec = tie.close (tie.spec returns returns-2)

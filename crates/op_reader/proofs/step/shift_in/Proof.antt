@@ -8,15 +8,15 @@ use Rattle.op_reader.proofs.step.shift_in.Tie as tie
 wide-requires : tie.Need-wide-requires
 wide-requires c κs = search rules
 
-mul-result : tie.Need-overflow-mul-result
+mul-result : tie.Need-overflow_mul-result
 mul-result c = search rules
 
-add-result : tie.Need-overflow-add-result
+add-result : tie.Need-overflow_add-result
 add-result c = search rules
 
 returns : tie.Need-returns
 unfolding shifted
 returns c = omega arith
 
-pub shift-in-spec : {M : Type 1} → statement M
-shift-in-spec = tie.close (tie.spec wide-requires mul-result add-result returns)
+pub shift_in_spec : {M : Type 1} → statement M
+shift_in_spec = tie.close (tie.spec wide-requires mul-result add-result returns)

@@ -12,46 +12,46 @@ use Rattle.keccak.specs.Row.{OP-WORDS}
 use Rattle.operations.proofs.checks.first_above.Statement.{statement}
 use Rattle.operations.proofs.checks.first_above.Tie as tie
 
-abbrev invariant-loop : tie.invariant-loop
+abbrev invariant-loop : tie.invariant-loop-i
 invariant-loop ops n place limit i₀ i = (i ≤ n) × (first (at_index (λ j. ltb limit (word ops (OP-WORDS * j + place)))) i ≡ none)
 
-abbrev decreases-loop : tie.decreases-loop
+abbrev decreases-loop : tie.decreases-loop-i
 decreases-loop ops n place limit i₀ i = n - i
 
-loop-holds : tie.Need-loop-init invariant-loop decreases-loop
+loop-holds : tie.Need-loop-i-init invariant-loop decreases-loop
 loop-holds c = (omega arith, first-start _)
 
-mul-if1 : tie.Need-overflow-mul-if1 invariant-loop decreases-loop
+mul-if1 : tie.Need-overflow_mul-i invariant-loop decreases-loop
 mul-if1 c = omega arith
 
-add-if1 : tie.Need-overflow-add-if1 invariant-loop decreases-loop
+add-if1 : tie.Need-overflow_add-i invariant-loop decreases-loop
 add-if1 c = omega arith
 
-mul-if1-2 : tie.Need-overflow-mul-if1-2 invariant-loop decreases-loop
+mul-if1-2 : tie.Need-offset_bounds-ops-i invariant-loop decreases-loop
 mul-if1-2 c = omega arith
 
-shared-slice-read-if1 : tie.Need-shared-slice-read-if1 invariant-loop decreases-loop
+shared-slice-read-if1 : tie.Need-bounds-ops-i invariant-loop decreases-loop
 shared-slice-read-if1 c = omega arith
 
-returns : tie.Need-returns invariant-loop decreases-loop
+returns : tie.Need-returns-then-ops-i invariant-loop decreases-loop
 returns c =
-    let l = c.before.before.before.loop in
-    sym (ap place_of (at-hit _ _ _ c.before.before.loop-test.true l.invariant.1 (lt-ltb _ _ c.if1.true)))
+    let l = c.loop-i in
+    sym (ap place_of (at-hit _ _ _ c.loop-i-test.true l.invariant.1 (lt-ltb _ _ c.if-ops-i.true)))
 
-add-i : tie.Need-overflow-add-i invariant-loop decreases-loop
+add-i : tie.Need-overflow_add-i-in-loop-i invariant-loop decreases-loop
 add-i c = omega arith
 
-loop-less : tie.Need-loop-smaller invariant-loop decreases-loop
+loop-less : tie.Need-loop-i-smaller invariant-loop decreases-loop
 loop-less c = omega arith
 
-loop-again : tie.Need-loop-preserved invariant-loop decreases-loop
-loop-again c = (omega arith, at_more _ _ c.before.before.before.loop.invariant.1 (le-ltb _ _ c.if1.false))
+loop-again : tie.Need-loop-i-preserved invariant-loop decreases-loop
+loop-again c = (omega arith, at_more _ _ c.loop-i.invariant.1 (le-ltb _ _ c.if-ops-i.false))
 
-returns-2 : tie.Need-returns-2 invariant-loop decreases-loop
-returns-2 c = sym (ap place_of (at_none _ _ _ c.before.loop.invariant.0 c.loop-test.false c.before.loop.invariant.1))
+returns-2 : tie.Need-returns invariant-loop decreases-loop
+returns-2 c = sym (ap place_of (at_none _ _ _ c.loop-i.invariant.0 c.loop-i-test.false c.loop-i.invariant.1))
 
-pub first-above-spec : {M : Type 1} → statement M
-first-above-spec =
+pub first_above_spec : {M : Type 1} → statement M
+first_above_spec =
     tie.close
     (tie.spec
     invariant-loop

@@ -5,14 +5,14 @@ use Rattle.keccak.proofs.Height.{height-below, height-above}
 use Rattle.operations.proofs.heights.table_height.Statement.{statement}
 use Rattle.operations.proofs.heights.table_height.Tie as tie
 
-next-power-of-two-requires : tie.Need-next-power-of-two-requires
+next-power-of-two-requires : tie.Need-next_power_of_two-power-requires
 next-power-of-two-requires c κs = search rules
 
-returns : tie.Need-returns
-returns c = height-below _ c.before.next-power-of-two.ensures c.if1.true
+returns : tie.Need-returns-then-power-floor
+returns c = height-below _ c.next_power_of_two-power.ensures c.if-power-floor.true
 
-returns-2 : tie.Need-returns-2
-returns-2 c = height-above _ c.before.next-power-of-two.ensures c.if1.false
+returns-2 : tie.Need-returns
+returns-2 c = height-above _ c.next_power_of_two-power.ensures c.if-power-floor.false
 
-pub table-height-spec : {M : Type 1} → statement M
-table-height-spec = tie.close (tie.spec next-power-of-two-requires returns returns-2)
+pub table_height_spec : {M : Type 1} → statement M
+table_height_spec = tie.close (tie.spec next-power-of-two-requires returns returns-2)

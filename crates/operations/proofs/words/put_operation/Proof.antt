@@ -8,29 +8,26 @@ use borrow.Author.Rules.{rules}
 use Rattle.operations.proofs.words.put_operation.Statement.{statement}
 use Rattle.operations.proofs.words.put_operation.Tie as tie
 
-operation-words-requires : tie.Need-operation-words-requires
+operation-words-requires : tie.Need-operation_words-words-requires
 operation-words-requires c κs = search rules
 
-slice-aggregate-put-words : tie.Need-slice-aggregate-put-words
+slice-aggregate-put-words : tie.Need-slice_bounds-put_words-end
 slice-aggregate-put-words c = search rules
 
-put-words-requires : tie.Need-put-words-requires
+put-words-requires : tie.Need-put_words-requires
 put-words-requires c κs = search rules
 
-same_length : tie.Need-same-length
+same_length : tie.Need-shape_of-ops
 same_length c = search rules
 
 returns : tie.Need-returns
 returns c =
-    let put = c.before.before in
-    let made = put.before.before in
-    let start = made.before.before.before in
-    let words = made.before.operation-words in
+    let words = c.operation_words-words in
     let n : length words.result ≡ 53 = search rules in
-    put.put-words.ensures ∙ ap (sets start.args.ops.now start.args.at) (sym (list-tab words.result 53 n) ∙ words.ensures)
+    c.put_words.ensures ∙ ap (sets c.args.ops.now c.args.at) (sym (list-tab words.result 53 n) ∙ words.ensures)
 
-pub put-operation-spec : {M : Type 1} → statement M
-put-operation-spec =
+pub put_operation_spec : {M : Type 1} → statement M
+put_operation_spec =
     tie.close
     (tie.spec
     operation-words-requires

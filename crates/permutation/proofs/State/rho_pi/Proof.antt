@@ -3,11 +3,11 @@ use borrow.Author.Rules.{rules}
 use Rattle.permutation.proofs.State.rho_pi.Statement.{statement}
 use Rattle.permutation.proofs.State.rho_pi.Tie as tie
 
-rho-pi-requires : tie.Need-rho-pi-requires
+rho-pi-requires : tie.Need-rho_pi-lanes-requires
 rho-pi-requires c κs = search rules
 
 returns : tie.Need-returns
-returns c = c.rho-pi.ensures
+returns c = c.rho_pi-lanes.ensures
 
-pub rho-pi-spec : {M : Type 1} → statement M
-rho-pi-spec = tie.close (tie.spec rho-pi-requires returns)
+pub rho_pi_spec : {M : Type 1} → statement M
+rho_pi_spec = tie.close (tie.spec rho-pi-requires returns)

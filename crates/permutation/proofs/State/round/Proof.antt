@@ -15,26 +15,25 @@ use Rattle.permutation.proofs.State.round.Tie as tie
 theta-requires : tie.Need-theta-requires
 theta-requires c κs = search rules
 
-rho-pi-requires : tie.Need-rho-pi-requires
+rho-pi-requires : tie.Need-rho_pi-moved-requires
 rho-pi-requires c κs = search rules
 
 chi-requires : tie.Need-chi-requires
 chi-requires c κs = search rules
 
-iota-requires : tie.Need-iota-requires
+iota-requires : tie.Need-iota-lanes-requires
 iota-requires c κs = search rules
 
 returns : tie.Need-returns
 unfolding rnd_l
 returns c =
-    let start = c.before.before.before.before.before in
-    let s = start.args.self.lanes in
-    let r = start.args.r in
+    let s = c.args.self.lanes in
+    let r = c.args.r in
     let fits : (i : ℕ) → Fits w64 (get_or s i 0) = λ i. search rules in
-    let e : c.iota.result ≡ rnd_l s r =
-    c.iota.ensures
-    ∙ ap (iota_l r) (c.before.chi.ensures ∙ ap chi_l (c.before.before.rho-pi.ensures ∙ ap rho_pi_l c.before.before.before.theta.ensures)) in
-    (e, subst (λ (t : List ℕ). Agree (bits t) (rnd (bits s) r)) (sym e) (rnd-agree r start.requires s (λ i h. (fits i).fits)))
+    let e : c.iota-lanes.result ≡ rnd_l s r =
+    c.iota-lanes.ensures
+    ∙ ap (iota_l r) (c.chi.ensures ∙ ap chi_l (c.rho_pi-moved.ensures ∙ ap rho_pi_l c.theta.ensures)) in
+    (e, subst (λ (t : List ℕ). Agree (bits t) (rnd (bits s) r)) (sym e) (rnd-agree r c.requires s (λ i h. (fits i).fits)))
 
-pub round-spec : {M : Type 1} → statement M
-round-spec = tie.close (tie.spec theta-requires rho-pi-requires chi-requires iota-requires returns)
+pub round_spec : {M : Type 1} → statement M
+round_spec = tie.close (tie.spec theta-requires rho-pi-requires chi-requires iota-requires returns)

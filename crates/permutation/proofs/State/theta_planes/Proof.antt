@@ -3,11 +3,11 @@ use borrow.Author.Rules.{rules}
 use Rattle.permutation.proofs.State.theta_planes.Statement.{statement}
 use Rattle.permutation.proofs.State.theta_planes.Tie as tie
 
-theta-planes-requires : tie.Need-theta-planes-requires
+theta-planes-requires : tie.Need-theta_planes-lanes-requires
 theta-planes-requires c κs = search rules
 
 returns : tie.Need-returns
-returns c = c.theta-planes.ensures
+returns c = c.theta_planes-lanes.ensures
 
-pub theta-planes-spec : {M : Type 1} → statement M
-theta-planes-spec = tie.close (tie.spec theta-planes-requires returns)
+pub theta_planes_spec : {M : Type 1} → statement M
+theta_planes_spec = tie.close (tie.spec theta-planes-requires returns)

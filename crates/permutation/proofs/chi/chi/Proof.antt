@@ -6,19 +6,19 @@ use Rattle.fips202.proofs.Steps.{planes-grid}
 use Rattle.permutation.proofs.chi.chi.Statement.{statement}
 use Rattle.permutation.proofs.chi.chi.Tie as tie
 
-chi-plane-requires : tie.Need-chi-plane-requires
+chi-plane-requires : tie.Need-chi_plane-requires
 chi-plane-requires c κs = search rules
 
-chi-plane-requires-2 : tie.Need-chi-plane-requires-2
+chi-plane-requires-2 : tie.Need-chi_plane-requires-2
 chi-plane-requires-2 c κs = search rules
 
-chi-plane-requires-3 : tie.Need-chi-plane-requires-3
+chi-plane-requires-3 : tie.Need-chi_plane-requires-3
 chi-plane-requires-3 c κs = search rules
 
-chi-plane-requires-4 : tie.Need-chi-plane-requires-4
+chi-plane-requires-4 : tie.Need-chi_plane-requires-4
 chi-plane-requires-4 c κs = search rules
 
-chi-plane-requires-5 : tie.Need-chi-plane-requires-5
+chi-plane-requires-5 : tie.Need-chi_plane-requires-5
 chi-plane-requires-5 c κs = search rules
 
 joined-requires : tie.Need-joined-requires
@@ -27,16 +27,11 @@ joined-requires c κs = search rules
 returns : tie.Need-returns
 unfolding chi_l
 returns c =
-    let c5 = c.before in
-    let c4 = c5.before in
-    let c3 = c4.before in
-    let c2 = c3.before in
-    let c1 = c2.before in
     c.joined.ensures
-    ∙ planes-grid (chi_at c1.before.args.a) c1.chi-plane.ensures c2.chi-plane2.ensures c3.chi-plane3.ensures c4.chi-plane4.ensures c5.chi-plane5.ensures
+    ∙ planes-grid (chi_at c.args.a) c.chi_plane.ensures c.chi_plane-2.ensures c.chi_plane-3.ensures c.chi_plane-4.ensures c.chi_plane-5.ensures
 
-pub chi-spec : {M : Type 1} → statement M
-chi-spec =
+pub chi_spec : {M : Type 1} → statement M
+chi_spec =
     tie.close
     (tie.spec
     chi-plane-requires

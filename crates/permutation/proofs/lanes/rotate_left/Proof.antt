@@ -35,21 +35,21 @@ joined n k h l =
     subst (λ (k : ℕ). bit_or (n * 2 ^ k % 2 ^ 64) (n / 2 ^ ((64 - k) % 64)) ≡ n * 2 ^ k % 2 ^ 64 + n / 2 ^ (64 - k)) e (unrotated n l))
     (λ pos. rotated n k pos h l)
 
-shl-result : tie.Need-overflow-shl-result
+shl-result : tie.Need-overflow_shl-result
 shl-result c = search rules
 
-sub-result : tie.Need-overflow-sub-result
+sub-result : tie.Need-overflow_sub-result
 sub-result c = search rules
 
-cast-result : tie.Need-overflow-cast-result
+cast-result : tie.Need-overflow_cast-result-2
 cast-result c = search rules
 
-shr-result : tie.Need-overflow-shr-result
+shr-result : tie.Need-overflow_shr-result
 shr-result c = search rules
 
 returns : tie.Need-returns
 unfolding rot
 returns c = joined c.args.lane c.args.k c.requires (omega arith)
 
-pub rotate-left-spec : {M : Type 1} → statement M
-rotate-left-spec = tie.close (tie.spec shl-result sub-result cast-result shr-result returns)
+pub rotate_left_spec : {M : Type 1} → statement M
+rotate_left_spec = tie.close (tie.spec shl-result sub-result cast-result shr-result returns)

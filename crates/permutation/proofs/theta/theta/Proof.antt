@@ -11,19 +11,18 @@ use Rattle.permutation.proofs.theta.theta.Tie as tie
 parities-requires : tie.Need-parities-requires
 parities-requires c κs = search rules
 
-theta-d-requires : tie.Need-theta-d-requires
+theta-d-requires : tie.Need-theta_d-requires
 theta-d-requires c κs = search rules
 
-theta-planes-requires : tie.Need-theta-planes-requires
+theta-planes-requires : tie.Need-theta_planes-requires
 theta-planes-requires c κs = search rules
 
 returns : tie.Need-returns
 unfolding theta_l
 returns c =
-    let start = c.before.before.before in
-    c.theta-planes.ensures
-    ∙ ap (λ (d : List ℕ). grid (theta_at start.args.a d))
-    (c.before.theta-d.ensures ∙ ap (λ (c : List ℕ). tab 5 (theta_dl c)) c.before.before.parities.ensures)
+    c.theta_planes.ensures
+    ∙ ap (λ (d : List ℕ). grid (theta_at c.args.a d))
+    (c.theta_d.ensures ∙ ap (λ (c : List ℕ). tab 5 (theta_dl c)) c.parities.ensures)
 
-pub theta-spec : {M : Type 1} → statement M
-theta-spec = tie.close (tie.spec parities-requires theta-d-requires theta-planes-requires returns)
+pub theta_spec : {M : Type 1} → statement M
+theta_spec = tie.close (tie.spec parities-requires theta-d-requires theta-planes-requires returns)

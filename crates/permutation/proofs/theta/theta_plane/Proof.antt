@@ -7,57 +7,56 @@ use Rattle.fips202.specs.Lanes.{plane, theta_at}
 use Rattle.permutation.proofs.theta.theta_plane.Statement.{statement}
 use Rattle.permutation.proofs.theta.theta_plane.Tie as tie
 
-abbrev invariant-loop : tie.invariant-loop
+abbrev invariant-loop : tie.invariant-loop-x
 invariant-loop y a d p₀ x₀ p x = (y < 5) × Filled p₀ 0 5 (λ x. theta_at a d x y) p x
 
-abbrev decreases-loop : tie.decreases-loop
+abbrev decreases-loop : tie.decreases-loop-x
 decreases-loop y a d p₀ x₀ p x = 5 - x
 
-loop-holds : tie.Need-loop-init invariant-loop decreases-loop
+loop-holds : tie.Need-loop-x-init invariant-loop decreases-loop
 loop-holds c = (c.requires, filled_none _ _ _ _)
 
-mul-p : tie.Need-overflow-mul-p invariant-loop decreases-loop
+mul-p : tie.Need-overflow_mul-p invariant-loop decreases-loop
 mul-p c = omega arith
 
-add-p : tie.Need-overflow-add-p invariant-loop decreases-loop
+add-p : tie.Need-overflow_add-p invariant-loop decreases-loop
 add-p c = omega arith
 
-mul-p-2 : tie.Need-overflow-mul-p-2 invariant-loop decreases-loop
+mul-p-2 : tie.Need-offset_bounds-a-x invariant-loop decreases-loop
 mul-p-2 c = omega arith
 
-array-read-p : tie.Need-array-read-p invariant-loop decreases-loop
+array-read-p : tie.Need-bounds-a-x invariant-loop decreases-loop
 array-read-p c = omega arith
 
-mul-p-3 : tie.Need-overflow-mul-p-3 invariant-loop decreases-loop
+mul-p-3 : tie.Need-offset_bounds-d-x invariant-loop decreases-loop
 mul-p-3 c = omega arith
 
-array-read-p-2 : tie.Need-array-read-p-2 invariant-loop decreases-loop
+array-read-p-2 : tie.Need-bounds-d-x invariant-loop decreases-loop
 array-read-p-2 c = omega arith
 
-mul-p-4 : tie.Need-overflow-mul-p-4 invariant-loop decreases-loop
+mul-p-4 : tie.Need-offset_bounds-p-x invariant-loop decreases-loop
 mul-p-4 c = omega arith
 
-array-write-p : tie.Need-array-write-p invariant-loop decreases-loop
+array-write-p : tie.Need-bounds-p-x invariant-loop decreases-loop
 array-write-p c = omega arith
 
-add-x : tie.Need-overflow-add-x invariant-loop decreases-loop
+add-x : tie.Need-overflow_step-x invariant-loop decreases-loop
 add-x c = omega arith
 
-loop-less : tie.Need-loop-smaller invariant-loop decreases-loop
+loop-less : tie.Need-loop-x-smaller invariant-loop decreases-loop
 loop-less c = omega arith
 
-loop-again : tie.Need-loop-preserved invariant-loop decreases-loop
+loop-again : tie.Need-loop-x-preserved invariant-loop decreases-loop
 unfolding theta_at
 loop-again c =
-    let at = c.before in
-    (at.loop.invariant.0, filled_next _ at.loop.invariant.1 c.loop-test.true refl)
+    (c.loop-x.invariant.0, filled_next _ c.loop-x.invariant.1 c.loop-x-test.true refl)
 
 returns : tie.Need-returns invariant-loop decreases-loop
 unfolding plane
-returns c = filled-whole c.before.loop.invariant.1 refl c.loop-test.false
+returns c = filled-whole c.loop-x.invariant.1 refl c.loop-x-test.false
 
-pub theta-plane-spec : {M : Type 1} → statement M
-theta-plane-spec =
+pub theta_plane_spec : {M : Type 1} → statement M
+theta_plane_spec =
     tie.close
     (tie.spec
     invariant-loop

@@ -12,57 +12,56 @@ use Rattle.registers.proofs.Accepted.{look_known}
 use Rattle.registers.proofs.beforehand.look.Statement.{statement}
 use Rattle.registers.proofs.beforehand.look.Tie as tie
 
-abbrev first : tie.After-check-register → tie.Start
+abbrev first : tie.After-check_register → tie.Start
 first k = k.before.before.before.before.before.before.before
 
 -- the checks of the call are those that were made
-checks : (k : tie.After-check-register) → let a = (first k).args in
+checks : (k : tie.After-check_register) → let a = (first k).args in
     register_look_refusal a.nr a.floor a.register a.ops.now a.counters.now a.ledgers.now (length a.copy.now) (length a.out.now)
-    ≡ through_refusal (too_short k.before.first_short.result.room k.before.first_short.result.needed) a.nr a.floor a.register a.ops.now a.counters.now a.ledgers.now
+    ≡ through_refusal (too_short k.first_short-room.result.room k.first_short-room.result.needed) a.nr a.floor a.register a.ops.now a.counters.now a.ledgers.now
 checks k =
     let a = (first k).args in
     through-alike _ _ a.nr a.floor a.register a.ops.now a.counters.now a.counters.now a.ledgers.now a.ledgers.now
-    (shorts-same a.ops.now a.counters.now k.before.first_short.ensures) refl refl
+    (shorts-same a.ops.now a.counters.now k.first_short-room.ensures) refl refl
 
 -- and passed
-passed : (t : tie.After-enum-told) → let a = (first t.before.before).args in
+passed : (t : tie.In_default) → let a = (first t.before).args in
     register_look_refusal a.nr a.floor a.register a.ops.now a.counters.now a.ledgers.now (length a.copy.now) (length a.out.now) ≡ none
-passed t = checks t.before.before ∙ is-done _ (sym t.enum_told.given.1 ∙ t.before.before.check-register.ensures)
+passed t = checks t.before ∙ is-done _ (sym t.in_default.is ∙ t.check_register.ensures)
 
-first-short-requires : tie.Need-first-short-requires
+first-short-requires : tie.Need-first_short-room-requires
 first-short-requires c κs = search rules
 
-check-register-requires : tie.Need-check-register-requires
+check-register-requires : tie.Need-check_register-requires
 check-register-requires c κs =
-    let s = c.before.before.before.before.before.before in
-    long-enough 30 (length s.args.counters.now) (length s.args.copy.now) (length s.args.out.now) c.first_short.result.room c.first_short.result.needed c.first_short.ensures
+    long-enough 30 (length c.args.counters.now) (length c.args.copy.now) (length c.args.out.now) c.first_short-room.result.room c.first_short-room.result.needed c.first_short-room.ensures
 
-enum-known-refusal : tie.Need-enum-known-refusal
+enum-known-refusal : tie.Need-enum_known-refusal
 enum-known-refusal c = search rules
 
-returns : tie.Need-returns
+returns : tie.Need-returns-in-Refused
 returns c =
-    let k = c.before.before.before in
-    let e = checks k ∙ is-refused _ (sym c.before.refusal.given.1 ∙ k.check-register.ensures) in
+    let k = c.before in
+    let e = checks k ∙ is-refused _ (sym c.in-Refused.is ∙ c.check_register.ensures) in
     (answers e, (kept _ _ e, kept _ _ e))
 
-enum_told : tie.Need-enum-told
+enum_told : tie.Need-enum_told-1
 enum_told c = search rules
 
-fill-register-look-requires : tie.Need-fill-register-look-requires
+fill-register-look-requires : tie.Need-fill_register_look-requires
 fill-register-look-requires c κs = look_known _ _ _ _ _ _ _ _ (passed c.before.before)
 
-same_length : tie.Need-same-length
+same_length : tie.Need-shape_of-copy
 same_length c = search rules
 
-same-length-2 : tie.Need-same-length-2
+same-length-2 : tie.Need-shape_of-out
 same-length-2 c = search rules
 
-returns-2 : tie.Need-returns-2
+returns-2 : tie.Need-returns
 returns-2 c =
     let a = c.before.before.before.before in
-    let e = passed a.before.before.before in
-    (accepts e, (written _ e a.fill-register-look.ensures.0, written _ e a.fill-register-look.ensures.1))
+    let e = passed c.before.before.before.before.before.before.before in
+    (accepts e, (written _ e c.fill_register_look.ensures.0, written _ e c.fill_register_look.ensures.1))
 
 pub look_spec : {M : Type 1} → statement M
 look_spec =

@@ -1,6 +1,6 @@
 -- `registers::checks::check_ledger` meets its contract: the part is the ledger, and its place in it is told from the first word of all on.
 use mathlib.Core.List.{List}
-use mathlib.Core.Option.{Option, none, some}
+use mathlib.Core.Option.{some}
 use mathlib.Core.Path.{◌≡◌, sym, ap, ◌∙◌}
 use Prim.Native.Nat.{ℕ}
 use native.Mathlib.Omega.{arith}
@@ -15,58 +15,56 @@ use Rattle.registers.proofs.checks.check_ledger.Statement.{statement}
 use Rattle.registers.proofs.checks.check_ledger.Tie as tie
 
 -- the word that is told
-found : (c : tie.After-known-told) → let s = c.before.before.before.before.before.before in first_not_element (ledger_of s.args.ledgers.now s.args.register) 10 ≡ some c.before.k.given.0.0
+found : (c : tie.In-At) → let s = c.before.before.before.before in first_not_element (ledger_of s.args.ledgers.now s.args.register) 10 ≡ some c.in-At.k
 found c =
-    let s = c.before.before.before.before.before.before in
+    let s = c.before.before.before.before in
     ap (λ (w : List ℕ). first_not_element w 10) (sym (part-ledger s.args.ledgers.now s.args.register s.requires))
-    ∙ place_at _ (sym c.before.k.given.1 ∙ c.before.before.before.first-not-element.ensures)
+    ∙ place_at _ (sym c.in-At.is ∙ c.first_not_element.ensures)
 
-mul_at : tie.Need-overflow-mul-at
+mul_at : tie.Need-overflow_mul-at
 mul_at c = search rules
 
-add-end : tie.Need-overflow-add-end
+add-end : tie.Need-overflow_add-end
 add-end c = search rules
 
-mul-first-not-element : tie.Need-overflow-mul-first-not-element
+mul-first-not-element : tie.Need-offset_bounds-ledgers-at
 mul-first-not-element c = search rules
 
-sub-first-not-element : tie.Need-overflow-sub-first-not-element
+sub-first-not-element : tie.Need-slice_bounds-first_not_element-count
 sub-first-not-element c = search rules
 
-part-first-not-element-start : tie.Need-slice-bounds-first-not-element-start
+part-first-not-element-start : tie.Need-slice_bounds-first_not_element-start
 part-first-not-element-start c = search rules
 
-part-first-not-element-end : tie.Need-slice-bounds-first-not-element-end
+part-first-not-element-end : tie.Need-slice_bounds-first_not_element-end
 part-first-not-element-end c = search rules
 
-first-not-element-requires : tie.Need-first-not-element-requires
+first-not-element-requires : tie.Need-first_not_element-requires
 first-not-element-requires c κs = search rules
 
-enum-known-k : tie.Need-enum-known-k
+enum-known-k : tie.Need-enum_known-k
 enum-known-k c = search rules
 
-add-t12 : tie.Need-overflow-add-t12
+add-t12 : tie.Need-overflow_add-result
 add-t12 c =
-    let s = c.before.before.before.before.before.before in
-    let b = (at-found (not_element (ledger_of s.args.ledgers.now s.args.register)) 10 _ (found c)).0 in
+    let b = (at-found (not_element (ledger_of c.args.ledgers.now c.args.register)) 10 _ (found c)).0 in
     omega (arith, b)
 
-returns : tie.Need-returns
+returns : tie.Need-returns-in-At
 returns c = answers (own-refused _ _ _ (found c))
 
-enum_told : tie.Need-enum-told
+enum_told : tie.Need-enum_told-1
 enum_told c = search rules
 
-returns-2 : tie.Need-returns-2
+returns-2 : tie.Need-returns
 returns-2 c =
-    let s = c.before.before.before.before.before in
     accepts
     (own-passed _ _
-    (ap (λ (w : List ℕ). first_not_element w 10) (sym (part-ledger s.args.ledgers.now s.args.register s.requires))
-    ∙ place-nowhere _ (sym c.enum_told.given.1 ∙ c.before.before.first-not-element.ensures)))
+    (ap (λ (w : List ℕ). first_not_element w 10) (sym (part-ledger c.args.ledgers.now c.args.register c.requires))
+    ∙ place-nowhere _ (sym c.in_default.is ∙ c.first_not_element.ensures)))
 
-pub check-ledger-spec : {M : Type 1} → statement M
-check-ledger-spec =
+pub check_ledger_spec : {M : Type 1} → statement M
+check_ledger_spec =
     tie.close
     (tie.spec
     mul_at

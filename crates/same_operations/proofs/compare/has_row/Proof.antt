@@ -7,27 +7,27 @@ use borrow.Author.Rules.{rules}
 use Rattle.same_operations.proofs.compare.has_row.Statement.{statement}
 use Rattle.same_operations.proofs.compare.has_row.Tie as tie
 
-mul-here : tie.Need-overflow-mul-here
+mul-here : tie.Need-overflow_mul-here
 mul-here c = search rules
 
-mul-there : tie.Need-overflow-mul-there
+mul-there : tie.Need-overflow_mul-there
 mul-there c = search rules
 
-same-words-requires : tie.Need-same-words-requires
+same-words-requires : tie.Need-same_words-requires
 same-words-requires c κs = search rules
 
-returns : tie.Need-returns
-returns c = held-no _ _ _ (c.before.same-words.ensures ∙ rows-test _ _ _) (not-true _ c.if1.true)
+returns : tie.Need-returns-then-not-same_words
+returns c = held-no _ _ _ (c.same_words.ensures ∙ rows-test _ _ _) c.if-not-same_words.true
 
-is-active-requires : tie.Need-is-active-requires
+is-active-requires : tie.Need-is_active-requires
 unfolding layout_of
 is-active-requires c κs = search rules
 
-returns-2 : tie.Need-returns-2
+returns-2 : tie.Need-returns
 unfolding layout_of
-returns-2 c = held_by _ _ _ (c.before.before.same-words.ensures ∙ rows-test _ _ _) (not-false _ c.before.if1.false) c.is-active.ensures
+returns-2 c = held_by _ _ _ (c.same_words.ensures ∙ rows-test _ _ _) c.if-not-same_words.false c.is_active.ensures
 
-pub has-row-spec : {M : Type 1} → statement M
-has-row-spec =
+pub has_row_spec : {M : Type 1} → statement M
+has_row_spec =
     tie.close
     (tie.spec mul-here mul-there same-words-requires returns is-active-requires returns-2)

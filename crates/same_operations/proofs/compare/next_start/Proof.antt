@@ -20,25 +20,24 @@ enough st =
 long : (st : tie.Start) → st.args.from + 418 ≤ length st.args.file.now
 long st = omega (arith, enough st, size-least (eqb (get_or st.args.file.now (st.args.from + 1) 0) 80))
 
-add-record-size : tie.Need-overflow-add-record-size
+add-record-size : tie.Need-overflow_add-from
 add-record-size c = search rules
 
-shared-slice-read-record-size : tie.Need-shared-slice-read-record-size
+shared-slice-read-record-size : tie.Need-bounds-file-from
 shared-slice-read-record-size c = omega (arith, long c.before.before)
 
-record-size-requires : tie.Need-record-size-requires
+record-size-requires : tie.Need-record_size-requires
 record-size-requires c κs = search rules
 
-add-result : tie.Need-overflow-add-result
-add-result c = omega (arith, c.record-size.ensures, enough c.before.before.before)
+add-result : tie.Need-overflow_add-result
+add-result c = omega (arith, c.record_size.ensures, enough c.before.before.before)
 
 returns : tie.Need-returns
 returns c =
-    let st = c.before.before.before in
-    ap (λ (n : ℕ). st.args.from + n) (c.record-size.ensures ∙ ap record_size (mark-in st.args.file.now st.args.from))
+    ap (λ (n : ℕ). c.args.from + n) (c.record_size.ensures ∙ ap record_size (mark-in c.args.file.now c.args.from))
 
-pub next-start-spec : {M : Type 1} → statement M
-next-start-spec =
+pub next_start_spec : {M : Type 1} → statement M
+next_start_spec =
     tie.close
     (tie.spec
     add-record-size

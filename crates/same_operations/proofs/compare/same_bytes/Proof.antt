@@ -11,46 +11,46 @@ use Rattle.lists.specs.Select.{words_differ}
 use Rattle.same_operations.proofs.compare.same_bytes.Statement.{statement}
 use Rattle.same_operations.proofs.compare.same_bytes.Tie as tie
 
-abbrev invariant-loop : tie.invariant-loop
+abbrev invariant-loop : tie.invariant-loop-k
 invariant-loop bytes a b n k₀ k = (k ≤ n) × (first (at_index (words_differ bytes a bytes b)) k ≡ none)
 
-abbrev decreases-loop : tie.decreases-loop
+abbrev decreases-loop : tie.decreases-loop-k
 decreases-loop bytes a b n k₀ k = n - k
 
-loop-holds : tie.Need-loop-init invariant-loop decreases-loop
+loop-holds : tie.Need-loop-k-init invariant-loop decreases-loop
 loop-holds c = (omega arith, first-start _)
 
-add-if1 : tie.Need-overflow-add-if1 invariant-loop decreases-loop
+add-if1 : tie.Need-overflow_add-a invariant-loop decreases-loop
 add-if1 c = omega arith
 
-shared-slice-read-if1 : tie.Need-shared-slice-read-if1 invariant-loop decreases-loop
+shared-slice-read-if1 : tie.Need-bounds-bytes-a invariant-loop decreases-loop
 shared-slice-read-if1 c = omega arith
 
-add-if1-2 : tie.Need-overflow-add-if1-2 invariant-loop decreases-loop
+add-if1-2 : tie.Need-overflow_add-b invariant-loop decreases-loop
 add-if1-2 c = omega arith
 
-shared-slice-read-if1-2 : tie.Need-shared-slice-read-if1-2 invariant-loop decreases-loop
+shared-slice-read-if1-2 : tie.Need-bounds-bytes-b invariant-loop decreases-loop
 shared-slice-read-if1-2 c = omega arith
 
-returns : tie.Need-returns invariant-loop decreases-loop
+returns : tie.Need-returns-then-bytes-a invariant-loop decreases-loop
 unfolding words_differ
-returns c = sym (ap not (any-hit _ _ _ c.before.before.before.loop-test.true c.before.before.before.before.loop.invariant.1 (ap not (ne_eqb _ _ c.if1.true))))
+returns c = sym (ap not (any-hit _ _ _ c.loop-k-test.true c.loop-k.invariant.1 (ap not (ne_eqb _ _ c.if-bytes-a.true))))
 
-add-k : tie.Need-overflow-add-k invariant-loop decreases-loop
+add-k : tie.Need-overflow_add-k invariant-loop decreases-loop
 add-k c = omega arith
 
-loop-less : tie.Need-loop-smaller invariant-loop decreases-loop
+loop-less : tie.Need-loop-k-smaller invariant-loop decreases-loop
 loop-less c = omega arith
 
-loop-again : tie.Need-loop-preserved invariant-loop decreases-loop
+loop-again : tie.Need-loop-k-preserved invariant-loop decreases-loop
 unfolding words_differ
-loop-again c = (omega arith, at_more _ _ c.before.before.before.before.loop.invariant.1 (ap not (eq-eqb _ _ c.if1.false)))
+loop-again c = (omega arith, at_more _ _ c.loop-k.invariant.1 (ap not (eq-eqb _ _ c.if-bytes-a.false)))
 
-returns-2 : tie.Need-returns-2 invariant-loop decreases-loop
-returns-2 c = sym (ap not (any_none _ _ _ c.before.loop.invariant.0 c.loop-test.false c.before.loop.invariant.1))
+returns-2 : tie.Need-returns invariant-loop decreases-loop
+returns-2 c = sym (ap not (any_none _ _ _ c.loop-k.invariant.0 c.loop-k-test.false c.loop-k.invariant.1))
 
-pub same-bytes-spec : {M : Type 1} → statement M
-same-bytes-spec =
+pub same_bytes_spec : {M : Type 1} → statement M
+same_bytes_spec =
     tie.close
     (tie.spec
     invariant-loop

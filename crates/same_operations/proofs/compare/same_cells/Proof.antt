@@ -11,52 +11,52 @@ use Rattle.lists.specs.Select.{words_differ}
 use Rattle.same_operations.proofs.compare.same_cells.Statement.{statement}
 use Rattle.same_operations.proofs.compare.same_cells.Tie as tie
 
-abbrev invariant-loop : tie.invariant-loop
+abbrev invariant-loop : tie.invariant-loop-k
 invariant-loop words at bytes from n k₀ k = (k ≤ n) × (first (at_index (words_differ words at bytes from)) k ≡ none)
 
-abbrev decreases-loop : tie.decreases-loop
+abbrev decreases-loop : tie.decreases-loop-k
 decreases-loop words at bytes from n k₀ k = n - k
 
-loop-holds : tie.Need-loop-init invariant-loop decreases-loop
+loop-holds : tie.Need-loop-k-init invariant-loop decreases-loop
 loop-holds c = (omega arith, first-start _)
 
-add-if1 : tie.Need-overflow-add-if1 invariant-loop decreases-loop
+add-if1 : tie.Need-overflow_add-at invariant-loop decreases-loop
 add-if1 c = omega arith
 
-mul-if1 : tie.Need-overflow-mul-if1 invariant-loop decreases-loop
+mul-if1 : tie.Need-offset_bounds-words-at invariant-loop decreases-loop
 mul-if1 c = omega arith
 
-shared-slice-read-if1 : tie.Need-shared-slice-read-if1 invariant-loop decreases-loop
+shared-slice-read-if1 : tie.Need-bounds-words-at invariant-loop decreases-loop
 shared-slice-read-if1 c = omega arith
 
-add_wide : tie.Need-overflow-add-wide invariant-loop decreases-loop
+add_wide : tie.Need-overflow_add-from invariant-loop decreases-loop
 add_wide c = omega arith
 
-shared-slice-read-wide : tie.Need-shared-slice-read-wide invariant-loop decreases-loop
+shared-slice-read-wide : tie.Need-bounds-bytes-from invariant-loop decreases-loop
 shared-slice-read-wide c = omega arith
 
 wide-requires : tie.Need-wide-requires invariant-loop decreases-loop
 wide-requires c κs = tt
 
-returns : tie.Need-returns invariant-loop decreases-loop
+returns : tie.Need-returns-then-words-at invariant-loop decreases-loop
 unfolding words_differ
-returns c = sym (ap not (any-hit _ _ _ c.before.before.before.before.loop-test.true c.before.before.before.before.before.loop.invariant.1 (ap not (ne_eqb _ _ (λ e. c.if1.true (e ∙ sym c.before.wide.ensures))))))
+returns c = sym (ap not (any-hit _ _ _ c.loop-k-test.true c.loop-k.invariant.1 (ap not (ne_eqb _ _ (λ e. c.if-words-at.true (e ∙ sym c.wide.ensures))))))
 
-add-k : tie.Need-overflow-add-k invariant-loop decreases-loop
+add-k : tie.Need-overflow_add-k invariant-loop decreases-loop
 add-k c = omega arith
 
-loop-less : tie.Need-loop-smaller invariant-loop decreases-loop
+loop-less : tie.Need-loop-k-smaller invariant-loop decreases-loop
 loop-less c = omega arith
 
-loop-again : tie.Need-loop-preserved invariant-loop decreases-loop
+loop-again : tie.Need-loop-k-preserved invariant-loop decreases-loop
 unfolding words_differ
-loop-again c = (omega arith, at_more _ _ c.before.before.before.before.before.loop.invariant.1 (ap not (eq-eqb _ _ (c.if1.false ∙ c.before.wide.ensures))))
+loop-again c = (omega arith, at_more _ _ c.loop-k.invariant.1 (ap not (eq-eqb _ _ (c.if-words-at.false ∙ c.wide.ensures))))
 
-returns-2 : tie.Need-returns-2 invariant-loop decreases-loop
-returns-2 c = sym (ap not (any_none _ _ _ c.before.loop.invariant.0 c.loop-test.false c.before.loop.invariant.1))
+returns-2 : tie.Need-returns invariant-loop decreases-loop
+returns-2 c = sym (ap not (any_none _ _ _ c.loop-k.invariant.0 c.loop-k-test.false c.loop-k.invariant.1))
 
-pub same-cells-spec : {M : Type 1} → statement M
-same-cells-spec =
+pub same_cells_spec : {M : Type 1} → statement M
+same_cells_spec =
     tie.close
     (tie.spec
     invariant-loop

@@ -7,13 +7,13 @@ use Rattle.segment_counts.specs.Kinds.{larger}
 use Rattle.segment_counts.proofs.beforehand.larger_of.Statement.{statement}
 use Rattle.segment_counts.proofs.beforehand.larger_of.Tie as tie
 
-returns : tie.Need-returns
+returns : tie.Need-returns-then-a-b
 unfolding larger
-returns c = sym (ap (λ (t : Bool). pick t c.before.args.b c.before.args.a) (lt-ltb _ _ c.if1.true))
+returns c = sym (ap (λ (t : Bool). pick t c.args.b c.args.a) (lt-ltb _ _ c.if-a-b.true))
 
-returns-2 : tie.Need-returns-2
+returns-2 : tie.Need-returns
 unfolding larger
-returns-2 c = sym (ap (λ (t : Bool). pick t c.before.args.b c.before.args.a) (le-ltb _ _ c.if1.false))
+returns-2 c = sym (ap (λ (t : Bool). pick t c.args.b c.args.a) (le-ltb _ _ c.if-a-b.false))
 
-pub larger-of-spec : {M : Type 1} → statement M
-larger-of-spec = tie.close (tie.spec returns returns-2)
+pub larger_of_spec : {M : Type 1} → statement M
+larger_of_spec = tie.close (tie.spec returns returns-2)

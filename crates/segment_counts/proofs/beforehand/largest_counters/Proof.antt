@@ -7,48 +7,42 @@ use Rattle.segment_counts.proofs.Looking.{up_to, up-long, up_none, up_more, up-a
 use Rattle.segment_counts.proofs.beforehand.largest_counters.Statement.{statement}
 use Rattle.segment_counts.proofs.beforehand.largest_counters.Tie as tie
 
-abbrev invariant-loop : tie.invariant-loop
+abbrev invariant-loop : tie.invariant-loop-r
 invariant-loop counters most₀ r₀ most r = (most ≡ up_to counters r) × (r ≤ NUM-ROWS)
 
-abbrev decreases-loop : tie.decreases-loop
+abbrev decreases-loop : tie.decreases-loop-r
 decreases-loop counters most₀ r₀ most r = 1048576 - r
 
-loop-holds : tie.Need-loop-init invariant-loop decreases-loop
-loop-holds c = (up_none c.before.args.counters.now, omega arith)
+loop-holds : tie.Need-loop-r-init invariant-loop decreases-loop
+loop-holds c = (up_none c.args.counters.now, omega arith)
 
-slice-aggregate-raise : tie.Need-slice-aggregate-raise invariant-loop decreases-loop
+slice-aggregate-raise : tie.Need-slice_bounds-raise-end invariant-loop decreases-loop
 slice-aggregate-raise c =
-    let l = c.before.before in
-    sym (up-long l.before.before.args.counters.now l.loop.most l.loop.r l.loop.invariant.0)
+    sym (up-long c.args.counters.now c.loop-r.most c.loop-r.r c.loop-r.invariant.0)
 
-mul-raise : tie.Need-overflow-mul-raise invariant-loop decreases-loop
+mul-raise : tie.Need-overflow_mul-r invariant-loop decreases-loop
 mul-raise c = omega arith
 
 raise-requires : tie.Need-raise-requires invariant-loop decreases-loop
 raise-requires c κs =
-    let l = c.before.before in
-    let s = l.before.before in
-    let e = up-long s.args.counters.now l.loop.most l.loop.r l.loop.invariant.0 in
+    let e = up-long c.args.counters.now c.loop-r.most c.loop-r.r c.loop-r.invariant.0 in
     (omega (arith, e), omega arith)
 
-add_r : tie.Need-overflow-add-r invariant-loop decreases-loop
+add_r : tie.Need-overflow_add-r invariant-loop decreases-loop
 add_r c = omega arith
 
-loop-less : tie.Need-loop-smaller invariant-loop decreases-loop
+loop-less : tie.Need-loop-r-smaller invariant-loop decreases-loop
 loop-less c = omega arith
 
-loop-again : tie.Need-loop-preserved invariant-loop decreases-loop
+loop-again : tie.Need-loop-r-preserved invariant-loop decreases-loop
 loop-again c =
-    let a = c.before in
-    let l = a.before.before.before in
-    let s = l.before.before in
-    (up_more s.args.counters.now l.loop.most a.raise.new.0 l.loop.r l.loop.invariant.0 a.raise.ensures, omega arith)
+    (up_more c.args.counters.now c.loop-r.most c.raise.new.most c.loop-r.r c.loop-r.invariant.0 c.raise.ensures, omega arith)
 
 returns : tie.Need-returns invariant-loop decreases-loop
-returns c = up-all _ _ _ c.before.loop.invariant.0 c.before.loop.invariant.1 c.loop-test.false
+returns c = up-all _ _ _ c.loop-r.invariant.0 c.loop-r.invariant.1 c.loop-r-test.false
 
-pub largest-counters-spec : {M : Type 1} → statement M
-largest-counters-spec =
+pub largest_counters_spec : {M : Type 1} → statement M
+largest_counters_spec =
     tie.close
     (tie.spec
     invariant-loop

@@ -9,47 +9,45 @@ use Rattle.segment_counts.proofs.Refusals.{look-checks, look-passed, long-enough
 use Rattle.segment_counts.proofs.beforehand.look.Statement.{statement}
 use Rattle.segment_counts.proofs.beforehand.look.Tie as tie
 
-abbrev start : tie.After-enum-told → tie.Start
-start t = t.before.before.before.before.before.before.before.before
+abbrev start : tie.In_default → tie.Start
+start t = t.before.before.before.before.before.before.before
 
 -- the checks passed
-passed : (t : tie.After-enum-told) → look_refusal (start t).args.nr (start t).args.floor (start t).args.ops.now (start t).args.counters.now (length (start t).args.copy.now) (length (start t).args.out.now) ≡ none
-passed t = look-checks _ _ _ _ _ _ _ _ t.before.before.before.first_short.ensures ∙ is-done _ (sym t.enum_told.given.1 ∙ t.before.before.check-counts.ensures)
+passed : (t : tie.In_default) → look_refusal (start t).args.nr (start t).args.floor (start t).args.ops.now (start t).args.counters.now (length (start t).args.copy.now) (length (start t).args.out.now) ≡ none
+passed t = look-checks _ _ _ _ _ _ _ _ t.first_short-room.ensures ∙ is-done _ (sym t.in_default.is ∙ t.check_counts.ensures)
 
-first-short-requires : tie.Need-first-short-requires
+first-short-requires : tie.Need-first_short-room-requires
 first-short-requires c κs = search rules
 
-check-counts-requires : tie.Need-check-counts-requires
+check-counts-requires : tie.Need-check_counts-requires
 check-counts-requires c κs =
-    let s = c.before.before.before.before.before in
-    long-enough 20 (length s.args.counters.now) (length s.args.copy.now) (length s.args.out.now) c.first_short.result.room c.first_short.result.needed c.first_short.ensures
+    long-enough 20 (length c.args.counters.now) (length c.args.copy.now) (length c.args.out.now) c.first_short-room.result.room c.first_short-room.result.needed c.first_short-room.ensures
 
-enum-known-refusal : tie.Need-enum-known-refusal
+enum-known-refusal : tie.Need-enum_known-refusal
 enum-known-refusal c = search rules
 
-returns : tie.Need-returns
+returns : tie.Need-returns-in-Refused
 returns c =
-    let k = c.before.before.before in
-    let e = look-checks _ _ _ _ _ _ _ _ k.before.first_short.ensures ∙ is-refused _ (sym c.before.refusal.given.1 ∙ k.check-counts.ensures) in
+    let e = look-checks _ _ _ _ _ _ _ _ c.first_short-room.ensures ∙ is-refused _ (sym c.in-Refused.is ∙ c.check_counts.ensures) in
     (answers e, (kept _ _ e, kept _ _ e))
 
-enum_told : tie.Need-enum-told
+enum_told : tie.Need-enum_told-1
 enum_told c = search rules
 
-fill-look-requires : tie.Need-fill-look-requires
+fill-look-requires : tie.Need-fill_look-requires
 fill-look-requires c κs = look-passed _ _ _ _ _ _ (passed c.before.before)
 
-same_length : tie.Need-same-length
+same_length : tie.Need-shape_of-copy
 same_length c = search rules
 
-same-length-2 : tie.Need-same-length-2
+same-length-2 : tie.Need-shape_of-out
 same-length-2 c = search rules
 
-returns-2 : tie.Need-returns-2
+returns-2 : tie.Need-returns
 returns-2 c =
     let a = c.before.before.before.before in
-    let e = passed a.before.before.before in
-    (accepts e, (written _ e a.fill-look.ensures.0, written _ e a.fill-look.ensures.1))
+    let e = passed c.before.before.before.before.before.before.before in
+    (accepts e, (written _ e c.fill_look.ensures.0, written _ e c.fill_look.ensures.1))
 
 pub look_spec : {M : Type 1} → statement M
 look_spec =

@@ -6,41 +6,41 @@ use Rattle.segment_counts.specs.Kinds.{look_word}
 use Rattle.segment_counts.proofs.beforehand.put_look.Statement.{statement}
 use Rattle.segment_counts.proofs.beforehand.put_look.Tie as tie
 
-abbrev invariant-loop : tie.invariant-loop
+abbrev invariant-loop : tie.invariant-loop-j
 invariant-loop sums most out₀ j₀ out j = Filled out₀ 0 20 (look_word sums most) out j
 
-abbrev decreases-loop : tie.decreases-loop
+abbrev decreases-loop : tie.decreases-loop-j
 decreases-loop sums most out₀ j₀ out j = 20 - j
 
-loop-holds : tie.Need-loop-init invariant-loop decreases-loop
+loop-holds : tie.Need-loop-j-init invariant-loop decreases-loop
 loop-holds c = filled_none _ _ _ _
 
-look-word-requires : tie.Need-look-word-requires invariant-loop decreases-loop
+look-word-requires : tie.Need-look_word-requires invariant-loop decreases-loop
 look-word-requires c κs = omega arith
 
-mul-out : tie.Need-overflow-mul-out invariant-loop decreases-loop
+mul-out : tie.Need-offset_bounds-out-j invariant-loop decreases-loop
 mul-out c = omega arith
 
-slice-write-out : tie.Need-slice-write-out invariant-loop decreases-loop
+slice-write-out : tie.Need-bounds-out-j invariant-loop decreases-loop
 slice-write-out c = omega arith
 
-add-j : tie.Need-overflow-add-j invariant-loop decreases-loop
+add-j : tie.Need-overflow_add-j invariant-loop decreases-loop
 add-j c = omega arith
 
-loop-less : tie.Need-loop-smaller invariant-loop decreases-loop
+loop-less : tie.Need-loop-j-smaller invariant-loop decreases-loop
 loop-less c = omega arith
 
-loop-again : tie.Need-loop-preserved invariant-loop decreases-loop
-loop-again c = filled_next _ c.before.before.loop.invariant c.before.loop-test.true c.look-word.ensures
+loop-again : tie.Need-loop-j-preserved invariant-loop decreases-loop
+loop-again c = filled_next _ c.loop-j.invariant c.loop-j-test.true c.look_word.ensures
 
-same_length : tie.Need-same-length invariant-loop decreases-loop
+same_length : tie.Need-shape_of-out invariant-loop decreases-loop
 same_length c = omega arith
 
 returns : tie.Need-returns invariant-loop decreases-loop
-returns c = filled-all c.before.loop.invariant c.loop-test.false
+returns c = filled-all c.loop-j.invariant c.loop-j-test.false
 
-pub put-look-spec : {M : Type 1} → statement M
-put-look-spec =
+pub put_look_spec : {M : Type 1} → statement M
+put_look_spec =
     tie.close
     (tie.spec
     invariant-loop

@@ -9,5 +9,5 @@ use Rattle.templates.proofs.AddOperand.constant.Tie as tie
 returns : tie.Need-returns
 returns c = ap constant (to_z-of_z w64 c.args.value c.ranges.value)
 
-pub constant-spec : {M : Type 1} → statement M
-constant-spec = tie.close (tie.spec returns)
+pub constant_spec : {M : Type 1} → statement M
+constant_spec = tie.close (tie.spec returns)

@@ -8,14 +8,14 @@ use Rattle.templates.proofs.AddOperand.from_dword_bl.Tie as tie
 bytes-requires : tie.Need-bytes-requires
 bytes-requires c κs = search rules
 
-add-bytes : tie.Need-overflow-add-bytes
+add-bytes : tie.Need-overflow_add-start
 add-bytes c = search rules
 
 bytes-requires-2 : tie.Need-bytes-requires-2
 bytes-requires-2 c κs = search rules
 
 returns : tie.Need-returns
-returns c = operand c.before.bytes.ensures (c.bytes2.ensures ∙ bytes_next _)
+returns c = operand c.bytes.ensures (c.bytes-2.ensures ∙ bytes_next _)
 
-pub from-dword-bl-spec : {M : Type 1} → statement M
-from-dword-bl-spec = tie.close (tie.spec bytes-requires add-bytes bytes-requires-2 returns)
+pub from_dword_bl_spec : {M : Type 1} → statement M
+from_dword_bl_spec = tie.close (tie.spec bytes-requires add-bytes bytes-requires-2 returns)

@@ -4,17 +4,17 @@ use borrow.Author.Rules.{rules}
 use Rattle.templates.proofs.AddTerms.bytes.Statement.{statement}
 use Rattle.templates.proofs.AddTerms.bytes.Tie as tie
 
-add-t3 : tie.Need-overflow-add-t3
+add-t3 : tie.Need-overflow_add-result
 add-t3 c = search rules
 
-add-t5 : tie.Need-overflow-add-t5
+add-t5 : tie.Need-overflow_add-result-2
 add-t5 c = search rules
 
-add-t7 : tie.Need-overflow-add-t7
+add-t7 : tie.Need-overflow_add-result-3
 add-t7 c = search rules
 
 returns : tie.Need-returns
 returns c = refl
 
-pub bytes-spec : {M : Type 1} → statement M
-bytes-spec = tie.close (tie.spec add-t3 add-t5 add-t7 returns)
+pub bytes_spec : {M : Type 1} → statement M
+bytes_spec = tie.close (tie.spec add-t3 add-t5 add-t7 returns)

@@ -3,7 +3,7 @@ use borrow.Author.Rules.{rules}
 use Rattle.templates.proofs.AddTerms.halves.Statement.{statement}
 use Rattle.templates.proofs.AddTerms.halves.Tie as tie
 
-add-t3 : tie.Need-overflow-add-t3
+add-t3 : tie.Need-overflow_add-start
 add-t3 c = search rules
 
 two-requires : tie.Need-two-requires
@@ -12,5 +12,5 @@ two-requires c κs = search rules
 returns : tie.Need-returns
 returns c = c.two.ensures
 
-pub halves-spec : {M : Type 1} → statement M
-halves-spec = tie.close (tie.spec add-t3 two-requires returns)
+pub halves_spec : {M : Type 1} → statement M
+halves_spec = tie.close (tie.spec add-t3 two-requires returns)

@@ -7,5 +7,5 @@ use Rattle.text.proofs.spaced.lengths.Tie as tie
 returns : tie.Need-returns
 returns c = (refl, every-bus _ refl refl refl refl refl refl refl refl refl refl refl refl refl)
 
-pub lengths-spec : {M : Type 1} → statement M
-lengths-spec = tie.close (tie.spec returns)
+pub lengths_spec : {M : Type 1} → statement M
+lengths_spec = tie.close (tie.spec returns)

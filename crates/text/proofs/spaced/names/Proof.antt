@@ -7,5 +7,5 @@ use Rattle.text.proofs.spaced.names.Tie as tie
 returns : tie.Need-returns
 returns c = (refl, every-bus _ refl refl refl refl refl refl refl refl refl refl refl refl refl)
 
-pub names-spec : {M : Type 1} → statement M
-names-spec = tie.close (tie.spec returns)
+pub names_spec : {M : Type 1} → statement M
+names_spec = tie.close (tie.spec returns)

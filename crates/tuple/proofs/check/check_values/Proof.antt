@@ -8,45 +8,43 @@ use Rattle.tuple.specs.Values.{values_refusal}
 use Rattle.tuple.proofs.check.check_values.Statement.{statement}
 use Rattle.tuple.proofs.check.check_values.Tie as tie
 
-returns : tie.Need-returns
+returns : tie.Need-returns-then-row-width
 unfolding values_refusal
-returns c = answers (refuse-yes _ _ (lt-ltb _ _ c.if1.true))
+returns c = answers (refuse-yes _ _ (lt-ltb _ _ c.if-row-width.true))
 
-returns-2 : tie.Need-returns-2
+returns-2 : tie.Need-returns-then-room-count
 unfolding values_refusal
-returns-2 c = answers (refuse-no _ (le-ltb _ _ c.before.if1.false) (refuse-yes _ _ (lt-ltb _ _ c.if2.true)))
+returns-2 c = answers (refuse-no _ (le-ltb _ _ c.if-row-width.false) (refuse-yes _ _ (lt-ltb _ _ c.if-room-count.true)))
 
-first-not-element-requires : tie.Need-first-not-element-requires
+first-not-element-requires : tie.Need-first_not_element-requires
 first-not-element-requires c κs = search rules
 
-enum-known-place : tie.Need-enum-known-place
+enum-known-place : tie.Need-enum_known-place
 enum-known-place c = search rules
 
-returns-3 : tie.Need-returns-3
+returns-3 : tie.Need-returns-in-At
 unfolding values_refusal
 returns-3 c =
-    let e = c.before.before.before.before in
-    let r = c.before.before.before.first-not-element in
+    let r = c.first_not_element in
     answers
-    (refuse-no _ (le-ltb _ _ e.before.if1.false)
-    (refuse-no _ (le-ltb _ _ e.if2.false)
-    (at-yes _ _ (place_at _ (sym c.before.place.given.1 ∙ r.ensures)))))
+    (refuse-no _ (le-ltb _ _ c.if-row-width.false)
+    (refuse-no _ (le-ltb _ _ c.if-room-count.false)
+    (at-yes _ _ (place_at _ (sym c.in-At.is ∙ r.ensures)))))
 
-enum_told : tie.Need-enum-told
+enum_told : tie.Need-enum_told-1
 enum_told c = search rules
 
-returns-4 : tie.Need-returns-4
+returns-4 : tie.Need-returns
 unfolding values_refusal
 returns-4 c =
-    let e = c.before.before.before in
-    let r = c.before.before.first-not-element in
+    let r = c.first_not_element in
     accepts
-    (refuse-no _ (le-ltb _ _ e.before.if1.false)
-    (refuse-no _ (le-ltb _ _ e.if2.false)
-    (at-no _ (place-nowhere _ (sym c.enum_told.given.1 ∙ r.ensures)) refl)))
+    (refuse-no _ (le-ltb _ _ c.if-row-width.false)
+    (refuse-no _ (le-ltb _ _ c.if-room-count.false)
+    (at-no _ (place-nowhere _ (sym c.in_default.is ∙ r.ensures)) refl)))
 
-pub check-values-spec : {M : Type 1} → statement M
-check-values-spec =
+pub check_values_spec : {M : Type 1} → statement M
+check_values_spec =
     tie.close
     (tie.spec
     returns
