@@ -1,6 +1,8 @@
 // Prints rows, keys and tuples that the proved code computes. The file `stdout` has the same lines from the published
 // Rust: it is what the oracle prints for `sample rows`, `sample lookups`, then `sample evaluations`. Each line starts
 // with the kind of its item.
+#![tactic(auto)]
+
 ghost use Rattle.std.specs.Prelude.{◌+◌, ◌*◌, ◌≤◌, ◌<◌, length};
 ghost use Rattle.keccak.specs.Row.{OP-WORDS};
 
@@ -16,9 +18,9 @@ use keccak_tables::lookups::{
     keccak_tables_bitwise_bus_interaction, keccak_tables_is_wh_bus_interaction,
     keccak_tables_keccak_rc_bus_interaction,
 };
-use libc::STDOUT_FILENO;
 use lists::put_words;
 use permutation::State;
+use std::io;
 
 const FACTOR: u64 = 6364136223846793005;
 
@@ -44,39 +46,40 @@ fn next_word(word: u64) -> u64 {
     step(word, 1)
 }
 
-fn print_newline() {
-    io::write_all(STDOUT_FILENO, b"\n");
+fn print_newline(rt: &impl Print) -> io::Result<()> {
+    rt.write_all(b"\n")
 }
 
-fn print_next(n: u64) {
-    io::write_all(STDOUT_FILENO, b" ");
-    io::print_decimal(STDOUT_FILENO, n);
+fn print_next(rt: &impl Print, n: u64) -> io::Result<()> {
+    print!(rt; " {n}")
 }
 
-fn print_words(words: &[u64]) {
+fn print_words(rt: &impl Print, words: &[u64]) -> io::Result<()> {
     for k in 0..words.len() {
-        print_next(words[k]);
+        print_next(rt, words[k])?;
     }
+    Ok(())
 }
 
-fn print_line(kind: u64, number: u64, words: &[u64]) {
-    io::print_decimal(STDOUT_FILENO, kind);
-    print_next(number);
-    print_words(words);
-    print_newline();
+fn print_line(rt: &impl Print, kind: u64, number: u64, words: &[u64]) -> io::Result<()> {
+    print!(rt; "{kind}")?;
+    print_next(rt, number)?;
+    print_words(rt, words)?;
+    print_newline(rt)
 }
 
 // A line for each `width` words.
-fn print_rows(kind: u64, words: &[u64], width: usize)
+fn print_rows(rt: &impl Print, kind: u64, words: &[u64], width: usize) -> io::Result<()>
     requires { 1 ≤ width }
 {
     let mut at: usize = 0;
     let mut number: u64 = 0;
     while width <= words.len() - at {
-        print_line(kind, number, &words[at..at + width]);
+        print_line(rt, kind, number, &words[at..at + width])?;
         at += width;
         number += 1;
     }
+    Ok(())
 }
 
 // From a digest, FACTOR · digest + word for each word in turn, mod p.
@@ -89,17 +92,18 @@ fn digest(before: u64, words: &[u64]) -> u64 {
 }
 
 // A line with the digest of each `width` words.
-fn print_digests(kind: u64, words: &[u64], width: usize)
+fn print_digests(rt: &impl Print, kind: u64, words: &[u64], width: usize) -> io::Result<()>
     requires { 1 ≤ width }
 {
     let mut at: usize = 0;
     let mut number: u64 = 0;
     while width <= words.len() - at {
         let sum = digest(0, &words[at..at + width]);
-        print_line(kind, number, &[sum]);
+        print_line(rt, kind, number, &[sum])?;
         at += width;
         number += 1;
     }
+    Ok(())
 }
 
 // n words from `at` on, drawn after a word. Answers the last one.
@@ -149,140 +153,154 @@ fn put_operations(ops: &mut [u64])
     }
 }
 
-fn core_rows(ops: &[u64]) {
+fn core_rows(rt: &impl Print, ops: &[u64]) -> io::Result<()> {
     let mut keys = [0u64; 250];
     keccak_keys::is_wh_keys(ops, &mut keys);
-    print_rows(10, &keys, 2);
+    print_rows(rt, 10, &keys, 2)?;
     let mut table = [0u64; 3888];
     keccak_trace::generate_keccak_trace(FLOOR, ops, &mut table);
-    print_rows(11, &table, 486);
+    print_rows(rt, 11, &table, 486)
 }
 
-fn round_rows(ops: &[u64])
+fn round_rows(rt: &impl Print, ops: &[u64]) -> io::Result<()>
     requires { 2 * OP-WORDS ≤ length ops.now }
 {
     let mut table = [0u64; 94720];
     keccak_rnd_trace::generate_keccak_rnd_trace(ROUNDS, FLOOR, &ops[..2 * OP_WORDS], &mut table);
-    print_digests(17, &table, 1480);
+    print_digests(rt, 17, &table, 1480)
 }
 
 // Five operations: their words, their keys, their core table, and of the first two the round table's digests.
-fn operations() {
+fn operations(rt: &impl Print) -> io::Result<()> {
     let mut ops = [0u64; 5 * OP_WORDS];
     put_operations(&mut ops);
-    print_rows(9, &ops, OP_WORDS);
-    core_rows(&ops);
-    round_rows(&ops);
+    print_rows(rt, 9, &ops, OP_WORDS)?;
+    core_rows(rt, &ops)?;
+    round_rows(rt, &ops)
 }
 
 // Tuple `index` of item `number`: bus, side, multiplicity, length, and its values, for which the slice has room.
-fn print_tuple(kind: u64, number: u64, index: usize, tuple: FlatTuple, values: &[u64]) {
+fn print_tuple(
+    rt: &impl Print,
+    kind: u64,
+    number: u64,
+    index: usize,
+    tuple: FlatTuple,
+    values: &[u64],
+) -> io::Result<()> {
     let length = tuple.length as usize;
     if length > values.len() {
-        return;
+        return Ok(());
     }
-    io::print_decimal(STDOUT_FILENO, kind);
-    print_next(number);
-    print_words(&[
-        index as u64,
-        tuple.bus,
-        tuple.side,
-        tuple.multiplicity,
-        tuple.length,
-    ]);
-    print_words(&values[0..length]);
-    print_newline();
+    print!(rt; "{kind}")?;
+    print_next(rt, number)?;
+    print_words(
+        rt,
+        &[
+            index as u64,
+            tuple.bus,
+            tuple.side,
+            tuple.multiplicity,
+            tuple.length,
+        ],
+    )?;
+    print_words(rt, &values[0..length])?;
+    print_newline(rt)
 }
 
 // The ten tuples of a bitwise row.
-fn print_bitwise_tuples(number: u64, row: &[u64]) {
+fn print_bitwise_tuples(rt: &impl Print, number: u64, row: &[u64]) -> io::Result<()> {
     let mut i: usize = 0;
     while i < 10 {
         let mut out = [0u64; 4];
         let tuple = keccak_tables_bitwise_bus_interaction(row, i, &mut out);
-        print_tuple(2, number, i, tuple, &out);
+        print_tuple(rt, 2, number, i, tuple, &out)?;
         i += 1;
     }
+    Ok(())
 }
 
 // The row of an index, with ten multiplicities drawn after a word, and its tuples. Answers the last word drawn.
-fn print_drawn_bitwise(index: u64, before: u64) -> u64 {
+fn print_drawn_bitwise(rt: &impl Print, index: u64, before: u64) -> io::Result<u64> {
     let mut row = [0u64; 21];
     bitwise_rows::generate_bitwise_row(index as usize, &mut row);
     let last = put_drawn(&mut row, 11, 10, before);
-    print_line(1, index, &row);
-    print_bitwise_tuples(index, &row);
-    last
+    print_line(rt, 1, index, &row)?;
+    print_bitwise_tuples(rt, index, &row)?;
+    Ok(last)
 }
 
 // The rows of three chosen indexes and of fifty that are drawn before all multiplicities. Answers the last word drawn.
-fn bitwise_lookups(before: u64) -> u64 {
+fn bitwise_lookups(rt: &impl Print, before: u64) -> io::Result<u64> {
     let mut drawn = [0u64; 50];
     let mut word = put_drawn(&mut drawn, 0, 50, before);
-    word = print_drawn_bitwise(0, word);
-    word = print_drawn_bitwise(266804, word);
-    word = print_drawn_bitwise(1048575, word);
+    word = print_drawn_bitwise(rt, 0, word)?;
+    word = print_drawn_bitwise(rt, 266804, word)?;
+    word = print_drawn_bitwise(rt, 1048575, word)?;
     let mut k: usize = 0;
     while k < 50 {
-        word = print_drawn_bitwise(drawn[k] % 1048576, word);
+        word = print_drawn_bitwise(rt, drawn[k] % 1048576, word)?;
         k += 1;
     }
-    word
+    Ok(word)
 }
 
 // A constant row and its tuple.
-fn print_constant(round: u64, row: &[u64]) {
-    print_line(3, round, row);
+fn print_constant(rt: &impl Print, round: u64, row: &[u64]) -> io::Result<()> {
+    print_line(rt, 3, round, row)?;
     let mut out = [0u64; 9];
     let tuple = keccak_tables_keccak_rc_bus_interaction(row, 0, &mut out);
-    print_tuple(4, round, 0, tuple, &out);
+    print_tuple(rt, 4, round, 0, tuple, &out)
 }
 
-fn constant_lookups() {
+fn constant_lookups(rt: &impl Print) -> io::Result<()> {
     let mut table = [0u64; 320];
     keccak_rc_trace::generate_keccak_rc_trace(&mut table);
     keccak_rc_trace::update_multiplicities(ROUNDS, &mut table, 7);
     for round in 0..32 {
-        print_constant(round as u64, &table[10 * round..10 * round + 10]);
+        print_constant(rt, round as u64, &table[10 * round..10 * round + 10])?;
     }
+    Ok(())
 }
 
 // The five tuples of a row of keys.
-fn print_key_tuples(number: u64, row: &[u64]) {
+fn print_key_tuples(rt: &impl Print, number: u64, row: &[u64]) -> io::Result<()> {
     let mut i: usize = 0;
     while i < 5 {
         let mut out = [0u64; 2];
         let tuple = keccak_tables_is_wh_bus_interaction(row, i, &mut out);
-        print_tuple(8, number, i, tuple, &out);
+        print_tuple(rt, 8, number, i, tuple, &out)?;
         i += 1;
     }
+    Ok(())
 }
 
 // The key of a value, its row with a multiplicity drawn after a word, and the row's tuples. Answers that multiplicity.
-fn print_key(number: u64, value: u64, before: u64) -> u64 {
+fn print_key(rt: &impl Print, number: u64, value: u64, before: u64) -> io::Result<u64> {
     let key = IsWhKey::of_dword(value);
     let last = next_word(before);
     let row = [value % 65536, key.half, key.word, last];
-    print_line(5, number, &[value, key.word, key.half]);
-    print_line(6, number, &row);
-    print_key_tuples(number, &row);
-    last
+    print_line(rt, 5, number, &[value, key.word, key.half])?;
+    print_line(rt, 6, number, &row)?;
+    print_key_tuples(rt, number, &row)?;
+    Ok(last)
 }
 
 // Five chosen values, and 45 that are drawn before all multiplicities.
-fn key_lookups(before: u64) {
+fn key_lookups(rt: &impl Print, before: u64) -> io::Result<()> {
     let mut drawn = [0u64; 45];
     let mut word = put_drawn(&mut drawn, 0, 45, before);
-    word = print_key(0, 0, word);
-    word = print_key(1, 65535, word);
-    word = print_key(2, 65536, word);
-    word = print_key(3, 4294967296, word);
-    word = print_key(4, 18446744073709551615, word);
+    word = print_key(rt, 0, 0, word)?;
+    word = print_key(rt, 1, 65535, word)?;
+    word = print_key(rt, 2, 65536, word)?;
+    word = print_key(rt, 3, 4294967296, word)?;
+    word = print_key(rt, 4, 18446744073709551615, word)?;
     let mut k: usize = 0;
     while k < 45 {
-        word = print_key(5 + k as u64, drawn[k], word);
+        word = print_key(rt, 5 + k as u64, drawn[k], word)?;
         k += 1;
     }
+    Ok(())
 }
 
 // From a digest, that of a tuple's numbers: bus, side, multiplicity, length, and its values, for which the slice has
@@ -326,54 +344,56 @@ fn round_tuples(row: &[u64]) -> u64 {
 }
 
 // The values of a core row, and the digest of its tuples.
-fn print_core_row(number: u64, row: &[u64]) {
+fn print_core_row(rt: &impl Print, number: u64, row: &[u64]) -> io::Result<()> {
     let mut values = [0u64; 52];
     keccak_tables_keccak_values(row, &mut values);
-    print_line(12, number, &values);
-    print_line(18, number, &[core_tuples(row)]);
+    print_line(rt, 12, number, &values)?;
+    print_line(rt, 18, number, &[core_tuples(row)])
 }
 
 // The same of a round row.
-fn print_round_row(number: u64, row: &[u64]) {
+fn print_round_row(rt: &impl Print, number: u64, row: &[u64]) -> io::Result<()> {
     let mut values = [0u64; 141];
     keccak_tables_keccak_rnd_values(row, &mut values);
-    print_line(15, number, &values);
-    print_line(19, number, &[round_tuples(row)]);
+    print_line(rt, 15, number, &values)?;
+    print_line(rt, 19, number, &[round_tuples(row)])
 }
 
 // The core table of five operations, and three rows of drawn words.
-fn core_evaluations(ops: &[u64]) {
+fn core_evaluations(rt: &impl Print, ops: &[u64]) -> io::Result<()> {
     let mut rows = [0u64; 5346];
     keccak_trace::generate_keccak_trace(FLOOR, ops, &mut rows);
     put_drawn(&mut rows, 3888, 1458, 3);
     for k in 0..11 {
-        print_core_row(k as u64, &rows[486 * k..486 * k + 486]);
+        print_core_row(rt, k as u64, &rows[486 * k..486 * k + 486])?;
     }
+    Ok(())
 }
 
 // The round table of an operation of its own, and two rows of drawn words.
-fn round_evaluations() {
+fn round_evaluations(rt: &impl Print) -> io::Result<()> {
     let mut ops = [0u64; OP_WORDS];
     put_operation(&mut ops, 0, 4);
     let mut rows = [0u64; 50320];
     keccak_rnd_trace::generate_keccak_rnd_trace(ROUNDS, FLOOR, &ops, &mut rows);
     put_drawn(&mut rows, 47360, 2960, 5);
     for k in 0..34 {
-        print_round_row(k as u64, &rows[1480 * k..1480 * k + 1480]);
+        print_round_row(rt, k as u64, &rows[1480 * k..1480 * k + 1480])?;
     }
+    Ok(())
 }
 
-fn evaluations() {
+fn evaluations(rt: &impl Print) -> io::Result<()> {
     let mut ops = [0u64; 5 * OP_WORDS];
     put_operations(&mut ops);
-    core_evaluations(&ops);
-    round_evaluations();
+    core_evaluations(rt, &ops)?;
+    round_evaluations(rt)
 }
 
-fn main() {
-    operations();
-    let word = bitwise_lookups(1);
-    constant_lookups();
-    key_lookups(word);
-    evaluations();
+fn main(rt: HostRuntime) -> io::Result<()> {
+    operations(&rt)?;
+    let word = bitwise_lookups(&rt, 1)?;
+    constant_lookups(&rt)?;
+    key_lookups(&rt, word)?;
+    evaluations(&rt)
 }

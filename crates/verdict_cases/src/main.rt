@@ -2,6 +2,8 @@
 // then damaged: a line for each, with its name and the verdict's four words; and then what is said of jobs of two segments,
 // a line for each verdict of a report. The file `stdout` has the same lines from another judge, over the tables of the
 // published Rust.
+#![tactic(auto)]
+
 ghost use Rattle.std.specs.Prelude.{◌≡◌, ◌+◌, ◌*◌, ◌≤◌, ◌<◌, length};
 ghost use Rattle.keccak.specs.Row.{OP-WORDS};
 
@@ -13,9 +15,9 @@ use keccak::{OP_WORDS, SEGMENT_WORD};
 use keccak_rnd::{CHI, IOTA, MU, NUM_COLUMNS, RC, ROUND};
 use keccak_rnd_trace::generate_keccak_rnd_trace;
 use keccak_trace::generate_keccak_trace;
-use libc::STDOUT_FILENO;
 use lists::put_words;
 use permutation::State;
+use std::io;
 
 // The first timestamp: 5, and 7 above 2^32.
 const STAMP: u64 = 30064771077;
@@ -32,22 +34,21 @@ const ROUNDS: u64 = 24;
 // The least height of both tables.
 const FLOOR: u64 = 4;
 
-fn print_next(n: u64) {
-    io::write_all(STDOUT_FILENO, b" ");
-    io::print_decimal(STDOUT_FILENO, n);
+fn print_next(rt: &impl Print, n: u64) -> io::Result<()> {
+    print!(rt; " {n}")
 }
 
-fn print_words(words: [u64; 4]) {
-    print_next(words[0]);
-    print_next(words[1]);
-    print_next(words[2]);
-    print_next(words[3]);
-    io::write_all(STDOUT_FILENO, b"\n");
+fn print_words(rt: &impl Print, words: [u64; 4]) -> io::Result<()> {
+    print_next(rt, words[0])?;
+    print_next(rt, words[1])?;
+    print_next(rt, words[2])?;
+    print_next(rt, words[3])?;
+    rt.write_all(b"\n")
 }
 
-fn print_case(name: &[u8], core: &[u64], round: &[u64]) {
-    io::write_all(STDOUT_FILENO, name);
-    print_words(verdict_words(verdict(ROUNDS, core, round)));
+fn print_case(rt: &impl Print, name: &[u8], core: &[u64], round: &[u64]) -> io::Result<()> {
+    rt.write_all(name)?;
+    print_words(rt, verdict_words(verdict(ROUNDS, core, round)))
 }
 
 fn permuted(input: [u64; 25]) -> [u64; 25] {
@@ -89,22 +90,22 @@ fn write_tables(core: &mut [u64], round: &mut [u64], head: [u64; 2], exchanged: 
     generate_keccak_rnd_trace(ROUNDS, FLOOR, &ops, round);
 }
 
-fn print_written(name: &[u8], head: [u64; 2], exchanged: bool) {
+fn print_written(rt: &impl Print, name: &[u8], head: [u64; 2], exchanged: bool) -> io::Result<()> {
     let mut core = [0u64; 1944];
     let mut round = [0u64; 94720];
     write_tables(&mut core, &mut round, head, exchanged);
-    print_case(name, &core, &round);
+    print_case(rt, name, &core, &round)
 }
 
 // With another word in the core table.
-fn print_core(name: &[u8], at: usize, word: u64)
+fn print_core(rt: &impl Print, name: &[u8], at: usize, word: u64) -> io::Result<()>
     requires { at < 1944 }
 {
     let mut core = [0u64; 1944];
     let mut round = [0u64; 94720];
     write_tables(&mut core, &mut round, [STAMP + 1, ADDRESS], false);
     core[at] = word;
-    print_case(name, &core, &round);
+    print_case(rt, name, &core, &round)
 }
 
 // The second core row, written for address 4096, as it would be of address 4100, which no call takes: the lowest byte of
@@ -121,39 +122,46 @@ fn move_by_4(core: &mut [u64])
     }
 }
 
-fn print_unaligned(name: &[u8]) {
+fn print_unaligned(rt: &impl Print, name: &[u8]) -> io::Result<()> {
     let mut core = [0u64; 1944];
     let mut round = [0u64; 94720];
     write_tables(&mut core, &mut round, [STAMP + 1, 4096], false);
     move_by_4(&mut core);
-    print_case(name, &core, &round);
+    print_case(rt, name, &core, &round)
 }
 
 // With another word in the round table.
-fn print_round(name: &[u8], at: usize, word: u64)
+fn print_round(rt: &impl Print, name: &[u8], at: usize, word: u64) -> io::Result<()>
     requires { at < 94720 }
 {
     let mut core = [0u64; 1944];
     let mut round = [0u64; 94720];
     write_tables(&mut core, &mut round, [STAMP + 1, ADDRESS], false);
     round[at] = word;
-    print_case(name, &core, &round);
+    print_case(rt, name, &core, &round)
 }
 
 // Only the first n words of a core table and the first m of a round table.
-fn print_first(name: &[u8], core: &[u64], n: usize, round: &[u64], m: usize)
+fn print_first(
+    rt: &impl Print,
+    name: &[u8],
+    core: &[u64],
+    n: usize,
+    round: &[u64],
+    m: usize,
+) -> io::Result<()>
     requires { (n ≤ length core.now) × (m ≤ length round.now) }
 {
-    print_case(name, &core[..n], &round[..m]);
+    print_case(rt, name, &core[..n], &round[..m])
 }
 
-fn print_cut(name: &[u8], n: usize, m: usize)
+fn print_cut(rt: &impl Print, name: &[u8], n: usize, m: usize) -> io::Result<()>
     requires { (n ≤ 1944) × (m ≤ 94720) }
 {
     let mut core = [0u64; 1944];
     let mut round = [0u64; 94720];
     write_tables(&mut core, &mut round, [STAMP + 1, ADDRESS], false);
-    print_first(name, &core, n, &round, m);
+    print_first(rt, name, &core, n, &round, m)
 }
 
 // "A row with ROUND 24, zero constant and MU 1": row 0 with another ROUND, and with its constant taken out.
@@ -167,75 +175,82 @@ fn put_late_row(row: &mut [u64], first: &[u64])
 }
 
 // With such a row in place of the first padding row.
-fn print_late(name: &[u8]) {
+fn print_late(rt: &impl Print, name: &[u8]) -> io::Result<()> {
     let mut core = [0u64; 1944];
     let mut round = [0u64; 94720];
     let mut row = [0u64; 1480];
     write_tables(&mut core, &mut round, [STAMP + 1, ADDRESS], false);
     put_late_row(&mut row, &round);
     put_words(&mut round, 48 * NUM_COLUMNS, &row, NUM_COLUMNS);
-    print_case(name, &core, &round);
+    print_case(rt, name, &core, &round)
 }
 
 // Tables that hold, and each failure of core rows: MU 2, an address that is no multiple of 8, a timestamp twice.
-fn print_core_cases() {
-    print_written(b"as written", [STAMP + 1, ADDRESS], false);
-    print_cut(b"no rows", 0, 0);
-    print_core(b"core value", keccak::MU, 2);
-    print_unaligned(b"core lookup");
-    print_written(b"timestamp", [STAMP, ADDRESS], true);
+fn print_core_cases(rt: &impl Print) -> io::Result<()> {
+    print_written(rt, b"as written", [STAMP + 1, ADDRESS], false)?;
+    print_cut(rt, b"no rows", 0, 0)?;
+    print_core(rt, b"core value", keccak::MU, 2)?;
+    print_unaligned(rt, b"core lookup")?;
+    print_written(rt, b"timestamp", [STAMP, ADDRESS], true)
 }
 
 // Each failure of round rows, MU 2 and ROUND 25, and of the bus: an OUTPUT byte of 256, and a row with ROUND 24.
-fn print_round_cases() {
-    print_round(b"round value", MU, 2);
-    print_round(b"round lookup", 5 * NUM_COLUMNS + ROUND, 25);
+fn print_round_cases(rt: &impl Print) -> io::Result<()> {
+    print_round(rt, b"round value", MU, 2)?;
+    print_round(rt, b"round lookup", 5 * NUM_COLUMNS + ROUND, 25)?;
     print_core(
+        rt,
         b"core unbalanced",
         keccak::NUM_COLUMNS + keccak::OUTPUT_STATE,
         256,
-    );
-    print_late(b"round unbalanced");
+    )?;
+    print_late(rt, b"round unbalanced")
 }
 
 // Each refusal.
-fn print_refusals() {
-    print_cut(b"core cut", 1943, 94719);
-    print_cut(b"round cut", 1944, 94719);
-    print_core(b"core word", keccak::NUM_COLUMNS + 3, P);
-    print_round(b"round word", 94719, P);
+fn print_refusals(rt: &impl Print) -> io::Result<()> {
+    print_cut(rt, b"core cut", 1943, 94719)?;
+    print_cut(rt, b"round cut", 1944, 94719)?;
+    print_core(rt, b"core word", keccak::NUM_COLUMNS + 3, P)?;
+    print_round(rt, b"round word", 94719, P)
 }
 
 // The verdicts on two segments and on their job.
-fn print_report(name: &[u8], report: [u64; 12]) {
-    io::write_all(STDOUT_FILENO, name);
-    io::write_all(STDOUT_FILENO, b" segment 0");
-    print_words([report[0], report[1], report[2], report[3]]);
-    io::write_all(STDOUT_FILENO, name);
-    io::write_all(STDOUT_FILENO, b" segment 1");
-    print_words([report[4], report[5], report[6], report[7]]);
-    print_last(name, [report[8], report[9], report[10], report[11]]);
+fn print_report(rt: &impl Print, name: &[u8], report: [u64; 12]) -> io::Result<()> {
+    rt.write_all(name)?;
+    rt.write_all(b" segment 0")?;
+    print_words(rt, [report[0], report[1], report[2], report[3]])?;
+    rt.write_all(name)?;
+    rt.write_all(b" segment 1")?;
+    print_words(rt, [report[4], report[5], report[6], report[7]])?;
+    print_last(rt, name, [report[8], report[9], report[10], report[11]])
 }
 
-fn print_last(name: &[u8], words: [u64; 4]) {
-    io::write_all(STDOUT_FILENO, name);
-    io::write_all(STDOUT_FILENO, b" job");
-    print_words(words);
+fn print_last(rt: &impl Print, name: &[u8], words: [u64; 4]) -> io::Result<()> {
+    rt.write_all(name)?;
+    rt.write_all(b" job")?;
+    print_words(rt, words)
 }
 
-fn print_refused(name: &[u8], number: u64, detail: u64) {
-    io::write_all(STDOUT_FILENO, name);
-    io::write_all(STDOUT_FILENO, b" refused");
-    print_next(number);
-    print_next(detail);
-    io::write_all(STDOUT_FILENO, b"\n");
+fn print_refused(rt: &impl Print, name: &[u8], number: u64, detail: u64) -> io::Result<()> {
+    rt.write_all(name)?;
+    rt.write_all(b" refused")?;
+    print_next(rt, number)?;
+    print_next(rt, detail)?;
+    rt.write_all(b"\n")
 }
 
-fn print_job<'a>(name: &[u8], core: &'a [u64], round: &'a [u64], counts: [u64; 4]) {
+fn print_job<'a>(
+    rt: &impl Print,
+    name: &[u8],
+    core: &'a [u64],
+    round: &'a [u64],
+    counts: [u64; 4],
+) -> io::Result<()> {
     let mut report = [0u64; 12];
     match job(ROUNDS, core, round, &counts, &mut report) {
-        Answer::Done => print_report(name, report),
-        Answer::Refused(refusal) => print_refused(name, refusal.number(), refusal.detail()),
+        Answer::Done => print_report(rt, name, report),
+        Answer::Refused(refusal) => print_refused(rt, name, refusal.number(), refusal.detail()),
     }
 }
 
@@ -276,29 +291,35 @@ fn write_segments(core: &mut [u64], round: &mut [u64], timestamp: u64)
     );
 }
 
-fn print_segments(name: &[u8], timestamp: u64, counts: [u64; 4]) {
+fn print_segments(
+    rt: &impl Print,
+    name: &[u8],
+    timestamp: u64,
+    counts: [u64; 4],
+) -> io::Result<()> {
     let mut core = [0u64; 3888];
     let mut round = [0u64; 94720];
     write_segments(&mut core, &mut round, timestamp);
-    print_job(name, &core, &round, counts);
+    print_job(rt, name, &core, &round, counts)
 }
 
 // Jobs of two segments: as written; with the second call's first round row filed with the first segment, so that both
 // segments fail and the job holds; with one timestamp in both; and with counts whose sum is right mod 2^64 alone.
-fn print_jobs() {
-    print_segments(b"two segments", STAMP + 1, [4, 32, 4, 32]);
-    print_segments(b"misfiled", STAMP + 1, [4, 33, 4, 31]);
-    print_segments(b"shared timestamp", STAMP, [4, 32, 4, 32]);
+fn print_jobs(rt: &impl Print) -> io::Result<()> {
+    print_segments(rt, b"two segments", STAMP + 1, [4, 32, 4, 32])?;
+    print_segments(rt, b"misfiled", STAMP + 1, [4, 33, 4, 31])?;
+    print_segments(rt, b"shared timestamp", STAMP, [4, 32, 4, 32])?;
     print_segments(
+        rt,
         b"sums that wrap",
         STAMP + 1,
         [12, 64, 18446744073709551612, 0],
-    );
+    )
 }
 
-fn main() {
-    print_core_cases();
-    print_round_cases();
-    print_refusals();
-    print_jobs();
+fn main(rt: HostRuntime) -> io::Result<()> {
+    print_core_cases(&rt)?;
+    print_round_cases(&rt)?;
+    print_refusals(&rt)?;
+    print_jobs(&rt)
 }

@@ -5,43 +5,43 @@ use borrow.Author.Rules.{rules}
 use Rattle.samples.proofs.core_tuples.Statement.{statement}
 use Rattle.samples.proofs.core_tuples.Tie as tie
 
-abbrev invariant-loop : tie.invariant-loop
+abbrev invariant-loop : tie.invariant-loop-i
 invariant-loop row sum₀ i₀ sum i = i ≤ 84
 
-abbrev decreases-loop : tie.decreases-loop
+abbrev decreases-loop : tie.decreases-loop-i
 decreases-loop row sum₀ i₀ sum i = 84 - i
 
-loop-holds : tie.Need-loop-init invariant-loop decreases-loop
+loop-holds : tie.Need-loop-i-init invariant-loop decreases-loop
 loop-holds c = omega arith
 
 slice-aggregate-keccak-tables-keccak-bus-interaction :
-    tie.Need-slice-aggregate-keccak-tables-keccak-bus-interaction invariant-loop decreases-loop
+    tie.Need-slice_bounds-keccak_tables_keccak_bus_interaction-end invariant-loop decreases-loop
 slice-aggregate-keccak-tables-keccak-bus-interaction c = omega arith
 
 keccak-tables-keccak-bus-interaction-requires :
-    tie.Need-keccak-tables-keccak-bus-interaction-requires invariant-loop decreases-loop
+    tie.Need-keccak_tables_keccak_bus_interaction-tuple-requires invariant-loop decreases-loop
 keccak-tables-keccak-bus-interaction-requires c κs = search rules
 
-slice-aggregate-tuple-digest : tie.Need-slice-aggregate-tuple-digest invariant-loop decreases-loop
+slice-aggregate-tuple-digest : tie.Need-slice_bounds-tuple_digest-end invariant-loop decreases-loop
 slice-aggregate-tuple-digest c = omega arith
 
-tuple-digest-requires : tie.Need-tuple-digest-requires invariant-loop decreases-loop
+tuple-digest-requires : tie.Need-tuple_digest-sum-requires invariant-loop decreases-loop
 tuple-digest-requires c κs = search rules
 
-add-i : tie.Need-overflow-add-i invariant-loop decreases-loop
+add-i : tie.Need-overflow_add-i invariant-loop decreases-loop
 add-i c = omega arith
 
-loop-less : tie.Need-loop-smaller invariant-loop decreases-loop
+loop-less : tie.Need-loop-i-smaller invariant-loop decreases-loop
 loop-less c = omega arith
 
-loop-again : tie.Need-loop-preserved invariant-loop decreases-loop
+loop-again : tie.Need-loop-i-preserved invariant-loop decreases-loop
 loop-again c = omega arith
 
 returns : tie.Need-returns invariant-loop decreases-loop
 returns c = search rules
 
-pub core-tuples-spec : {M : Type 1} → statement M
-core-tuples-spec =
+pub core_tuples_spec : {M : Type 1} → statement M
+core_tuples_spec =
     tie.close
     (tie.spec
     invariant-loop

@@ -8,38 +8,38 @@ use Rattle.keccak.specs.Row.{OP-WORDS}
 use Rattle.samples.proofs.put_operations.Statement.{statement}
 use Rattle.samples.proofs.put_operations.Tie as tie
 
-abbrev invariant-loop : tie.invariant-loop
+abbrev invariant-loop : tie.invariant-loop-k
 invariant-loop ops₀ word₀ k₀ ops word k = (k ≤ 5) × (5 * OP-WORDS ≤ length ops) × (length ops ≡ length ops₀)
 
-abbrev decreases-loop : tie.decreases-loop
+abbrev decreases-loop : tie.decreases-loop-k
 decreases-loop ops₀ word₀ k₀ ops word k = 5 - k
 
-loop-holds : tie.Need-loop-init invariant-loop decreases-loop
+loop-holds : tie.Need-loop-k-init invariant-loop decreases-loop
 loop-holds c = (omega arith, omega arith, omega arith)
 
-mul-put-operation : tie.Need-overflow-mul-put-operation invariant-loop decreases-loop
+mul-put-operation : tie.Need-overflow_mul-k invariant-loop decreases-loop
 mul-put-operation c = omega arith
 
-put-operation-requires : tie.Need-put-operation-requires invariant-loop decreases-loop
+put-operation-requires : tie.Need-put_operation-word-requires invariant-loop decreases-loop
 put-operation-requires c κs = search rules
 
-add-k : tie.Need-overflow-add-k invariant-loop decreases-loop
+add-k : tie.Need-overflow_step-k invariant-loop decreases-loop
 add-k c = omega arith
 
-loop-less : tie.Need-loop-smaller invariant-loop decreases-loop
+loop-less : tie.Need-loop-k-smaller invariant-loop decreases-loop
 loop-less c = omega arith
 
-loop-again : tie.Need-loop-preserved invariant-loop decreases-loop
+loop-again : tie.Need-loop-k-preserved invariant-loop decreases-loop
 loop-again c = (omega arith, omega arith, omega arith)
 
-same_length : tie.Need-same-length invariant-loop decreases-loop
+same_length : tie.Need-shape_of-ops invariant-loop decreases-loop
 same_length c = search rules
 
 returns : tie.Need-returns invariant-loop decreases-loop
 returns c = search rules
 
-pub put-operations-spec : {M : Type 1} → statement M
-put-operations-spec =
+pub put_operations_spec : {M : Type 1} → statement M
+put_operations_spec =
     tie.close
     (tie.spec
     invariant-loop

@@ -7,38 +7,38 @@ use borrow.Author.Rules.{rules}
 use Rattle.tally_cases.proofs.put_number.Statement.{statement}
 use Rattle.tally_cases.proofs.put_number.Tie as tie
 
-abbrev invariant-loop : tie.invariant-loop
+abbrev invariant-loop : tie.invariant-loop-k
 invariant-loop at count x other₀ k₀ other k = (k ≤ count) × (length other ≡ length other₀)
 
-abbrev decreases-loop : tie.decreases-loop
+abbrev decreases-loop : tie.decreases-loop-k
 decreases-loop at count x other₀ k₀ other k = count - k
 
-loop-holds : tie.Need-loop-init invariant-loop decreases-loop
+loop-holds : tie.Need-loop-k-init invariant-loop decreases-loop
 loop-holds c = (omega arith, refl)
 
-byte-of-requires : tie.Need-byte-of-requires invariant-loop decreases-loop
+byte-of-requires : tie.Need-byte_of-requires invariant-loop decreases-loop
 byte-of-requires c κs = omega arith
 
-add-other : tie.Need-overflow-add-other invariant-loop decreases-loop
+add-other : tie.Need-overflow_add-other invariant-loop decreases-loop
 add-other c = omega arith
 
-array-write-other : tie.Need-array-write-other invariant-loop decreases-loop
+array-write-other : tie.Need-bounds-other-at invariant-loop decreases-loop
 array-write-other c = omega arith
 
-add-k : tie.Need-overflow-add-k invariant-loop decreases-loop
+add-k : tie.Need-overflow_step-k invariant-loop decreases-loop
 add-k c = omega arith
 
-loop-less : tie.Need-loop-smaller invariant-loop decreases-loop
+loop-less : tie.Need-loop-k-smaller invariant-loop decreases-loop
 loop-less c = omega arith
 
-loop-again : tie.Need-loop-preserved invariant-loop decreases-loop
-loop-again c = (omega arith, simp length-set c.before.before.loop.invariant.1)
+loop-again : tie.Need-loop-k-preserved invariant-loop decreases-loop
+loop-again c = (omega arith, simp length-set c.loop-k.invariant.1)
 
 returns : tie.Need-returns invariant-loop decreases-loop
 returns c = search rules
 
-pub put-number-spec : {M : Type 1} → statement M
-put-number-spec =
+pub put_number_spec : {M : Type 1} → statement M
+put_number_spec =
     tie.close
     (tie.spec
     invariant-loop

@@ -7,59 +7,59 @@ use borrow.Author.Rules.{rules}
 use Rattle.tally_cases.proofs.records.Statement.{statement}
 use Rattle.tally_cases.proofs.records.Tie as tie
 
-abbrev invariant-loop : tie.invariant-loop
+abbrev invariant-loop : tie.invariant-loop-k
 invariant-loop first second file₀ k₀ file k = (k ≤ 8) × (length file ≡ 836)
 
-abbrev decreases-loop : tie.decreases-loop
+abbrev decreases-loop : tie.decreases-loop-k
 decreases-loop first second file₀ k₀ file k = 8 - k
 
-array-write-file : tie.Need-array-write-file invariant-loop decreases-loop
+array-write-file : tie.Need-bounds-file-0 invariant-loop decreases-loop
 array-write-file c = omega arith
 
-array-write-file-2 : tie.Need-array-write-file-2 invariant-loop decreases-loop
+array-write-file-2 : tie.Need-bounds-file-1 invariant-loop decreases-loop
 array-write-file-2 c = omega arith
 
-array-write-file-3 : tie.Need-array-write-file-3 invariant-loop decreases-loop
+array-write-file-3 : tie.Need-bounds-file-418 invariant-loop decreases-loop
 array-write-file-3 c = omega arith
 
-array-write-file-4 : tie.Need-array-write-file-4 invariant-loop decreases-loop
+array-write-file-4 : tie.Need-bounds-file-419 invariant-loop decreases-loop
 array-write-file-4 c = omega arith
 
-loop-holds : tie.Need-loop-init invariant-loop decreases-loop
+loop-holds : tie.Need-loop-k-init invariant-loop decreases-loop
 loop-holds c = (omega arith, simp length-set refl)
 
-byte-of-requires : tie.Need-byte-of-requires invariant-loop decreases-loop
+byte-of-requires : tie.Need-byte_of-requires invariant-loop decreases-loop
 byte-of-requires c κs = omega arith
 
-add-file : tie.Need-overflow-add-file invariant-loop decreases-loop
+add-file : tie.Need-overflow_add-file invariant-loop decreases-loop
 add-file c = omega arith
 
-array-write-file-5 : tie.Need-array-write-file-5 invariant-loop decreases-loop
+array-write-file-5 : tie.Need-bounds-file-k invariant-loop decreases-loop
 array-write-file-5 c = omega arith
 
-byte-of-requires-2 : tie.Need-byte-of-requires-2 invariant-loop decreases-loop
+byte-of-requires-2 : tie.Need-byte_of-requires-in-loop-k invariant-loop decreases-loop
 byte-of-requires-2 c κs = omega arith
 
-add-file-2 : tie.Need-overflow-add-file-2 invariant-loop decreases-loop
+add-file-2 : tie.Need-overflow_add-file-in-loop-k invariant-loop decreases-loop
 add-file-2 c = omega arith
 
-array-write-file-6 : tie.Need-array-write-file-6 invariant-loop decreases-loop
+array-write-file-6 : tie.Need-bounds-file-k-in-loop-k invariant-loop decreases-loop
 array-write-file-6 c = omega arith
 
-add-k : tie.Need-overflow-add-k invariant-loop decreases-loop
+add-k : tie.Need-overflow_step-k invariant-loop decreases-loop
 add-k c = omega arith
 
-loop-less : tie.Need-loop-smaller invariant-loop decreases-loop
+loop-less : tie.Need-loop-k-smaller invariant-loop decreases-loop
 loop-less c = omega arith
 
-loop-again : tie.Need-loop-preserved invariant-loop decreases-loop
-loop-again c = let at = c.before.before.before in (omega arith, simp length-set at.loop.invariant.1)
+loop-again : tie.Need-loop-k-preserved invariant-loop decreases-loop
+loop-again c = (omega arith, simp length-set c.loop-k.invariant.1)
 
 returns : tie.Need-returns invariant-loop decreases-loop
 returns c = search rules
 
-pub records-spec : {M : Type 1} → statement M
-records-spec =
+pub records_spec : {M : Type 1} → statement M
+records_spec =
     tie.close
     (tie.spec
     invariant-loop

@@ -7,48 +7,48 @@ use Rattle.bits.specs.Bits.{lane_byte}
 use Rattle.vectors.proofs.state_bytes.Statement.{statement}
 use Rattle.vectors.proofs.state_bytes.Tie as tie
 
-abbrev invariant-loop : tie.invariant-loop
+abbrev invariant-loop : tie.invariant-loop-k
 invariant-loop lanes bytes₀ k₀ bytes k = Filled bytes₀ 0 200 (lane_byte lanes) bytes k
 
-abbrev decreases-loop : tie.decreases-loop
+abbrev decreases-loop : tie.decreases-loop-k
 decreases-loop lanes bytes₀ k₀ bytes k = 200 - k
 
-loop-holds : tie.Need-loop-init invariant-loop decreases-loop
+loop-holds : tie.Need-loop-k-init invariant-loop decreases-loop
 loop-holds c = filled_none _ _ _ _
 
-mul-bytes : tie.Need-overflow-mul-bytes invariant-loop decreases-loop
+mul-bytes : tie.Need-offset_bounds-lanes-k invariant-loop decreases-loop
 mul-bytes c = omega arith
 
-array-read-bytes : tie.Need-array-read-bytes invariant-loop decreases-loop
+array-read-bytes : tie.Need-bounds-lanes-k invariant-loop decreases-loop
 array-read-bytes c = omega arith
 
-mul-bytes-2 : tie.Need-overflow-mul-bytes-2 invariant-loop decreases-loop
+mul-bytes-2 : tie.Need-overflow_mul-bytes invariant-loop decreases-loop
 mul-bytes-2 c = omega arith
 
-shr-bytes : tie.Need-overflow-shr-bytes invariant-loop decreases-loop
+shr-bytes : tie.Need-overflow_shr-bytes invariant-loop decreases-loop
 shr-bytes c = omega arith
 
-cast-bytes : tie.Need-overflow-cast-bytes invariant-loop decreases-loop
+cast-bytes : tie.Need-overflow_cast-bytes invariant-loop decreases-loop
 cast-bytes c = omega arith
 
-array-write-bytes : tie.Need-array-write-bytes invariant-loop decreases-loop
+array-write-bytes : tie.Need-bounds-bytes-k invariant-loop decreases-loop
 array-write-bytes c = omega arith
 
-add-k : tie.Need-overflow-add-k invariant-loop decreases-loop
+add-k : tie.Need-overflow_step-k invariant-loop decreases-loop
 add-k c = omega arith
 
-loop-less : tie.Need-loop-smaller invariant-loop decreases-loop
+loop-less : tie.Need-loop-k-smaller invariant-loop decreases-loop
 loop-less c = omega arith
 
-loop-again : tie.Need-loop-preserved invariant-loop decreases-loop
+loop-again : tie.Need-loop-k-preserved invariant-loop decreases-loop
 unfolding lane_byte
-loop-again c = filled_next _ c.before.loop.invariant c.loop-test.true refl
+loop-again c = filled_next _ c.loop-k.invariant c.loop-k-test.true refl
 
 returns : tie.Need-returns invariant-loop decreases-loop
-returns c = filled-whole c.before.loop.invariant refl c.loop-test.false
+returns c = filled-whole c.loop-k.invariant refl c.loop-k-test.false
 
-pub state-bytes-spec : {M : Type 1} → statement M
-state-bytes-spec =
+pub state_bytes_spec : {M : Type 1} → statement M
+state_bytes_spec =
     tie.close
     (tie.spec
     invariant-loop
