@@ -17,7 +17,8 @@ archive: $(KECCAK_TABLES_ARCHIVE)
 # rt looks for what has changed; a given archive is taken as it is.
 .PHONY: target/staticlib/libkeccak_tables.a
 target/staticlib/libkeccak_tables.a:
-	rt staticlib keccak_tables
+	cd crates/keccak_tables_c && rt lib
+	install -D -m 644 crates/keccak_tables_c/out/libkeccak_tables_c.a $@
 
 install: archive
 	install -d "$(lib)/pkgconfig" "$(headers)"

@@ -1,5 +1,5 @@
-//! Links the archive of the crate `keccak_tables`: the one that KECCAK_TABLES_ARCHIVE names, or else one that is proved and compiled
-//! here (`rt staticlib`).
+//! Links the archive of the crate `keccak_tables_c`: the one that KECCAK_TABLES_ARCHIVE names, or else one that is proved and compiled
+//! here (`rt lib`).
 
 #[path = "build/sha256.rs"]
 mod sha256;
@@ -16,6 +16,10 @@ const ARCHIVE: &str = "KECCAK_TABLES_ARCHIVE";
 
 /// The file with the digest of the archive that belongs to these sources, in the form of the program sha256sum.
 const DIGEST: &str = "archive.sha256";
+
+/// The crate that the archive is made of, and where the kit puts the archive.
+const CRATE: &str = "crates/keccak_tables_c";
+const MADE: &str = "out/libkeccak_tables_c.a";
 
 /// What takes longer than this is told.
 const LONG: Duration = Duration::from_secs(30);
@@ -34,7 +38,7 @@ fn main() {
         Some(path) => given(&here, &from_caller(Path::new(&path))),
         None => proved(root),
     };
-    // A copy, because the gate removes the repository's target/.
+    // A copy, under the archive's name, because the gate removes what a crate's folder keeps.
     let out = PathBuf::from(env::var_os("OUT_DIR").expect("cargo sets OUT_DIR"));
     if let Err(error) = fs::write(out.join("libkeccak_tables.a"), archive) {
         give_up(&format!("the archive could not be copied: {error}"));
@@ -81,7 +85,7 @@ fn given(here: &Path, path: &Path) -> Vec<u8> {
     archive
 }
 
-/// The archive, proved and compiled here. One build at a time: they share the repository's target/.
+/// The archive, proved and compiled here. One build at a time: they share what the crate's folder keeps.
 fn proved(root: &Path) -> Vec<u8> {
     rerun_if_sources_changed(root);
     let path = root.join("target/host.lock");
@@ -97,7 +101,7 @@ fn proved(root: &Path) -> Vec<u8> {
             "cargo:warning=proving and compiling the archive took {seconds} s; {ARCHIVE}=PATH links one that was built elsewhere"
         );
     }
-    read(&root.join("target/staticlib/libkeccak_tables.a"))
+    read(&root.join(CRATE).join(MADE))
 }
 
 /// What the archive is made of; a crate's must-fail edits and recorded outputs have no part in it.
@@ -113,7 +117,7 @@ fn rerun_if_sources_changed(root: &Path) {
 
 fn prove(root: &Path) {
     let mut command = Command::new("rt");
-    command.args(["staticlib", "keccak_tables"]).current_dir(root);
+    command.arg("lib").current_dir(root.join(CRATE));
     let mut run = match command.stdout(Stdio::piped()).stderr(Stdio::piped()).spawn() {
         Ok(run) => run,
         Err(error) if error.kind() == io::ErrorKind::NotFound => give_up(&format!(
@@ -132,7 +136,7 @@ fn prove(root: &Path) {
     let _ = told.join();
     match run.wait() {
         Ok(status) if status.success() => {}
-        Ok(_) => give_up("rt staticlib keccak_tables failed; its lines stand above"),
+        Ok(_) => give_up(&format!("rt lib failed in {CRATE}; its lines stand above")),
         Err(error) => give_up(&format!("rt could not be run to its end: {error}")),
     }
 }

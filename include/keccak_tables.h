@@ -1,5 +1,5 @@
 /*
- * The proved Keccak tables, by C linkage: the functions of libkeccak_tables.a, which `rt staticlib keccak_tables` makes.
+ * The proved Keccak tables, by C linkage: the functions of libkeccak_tables.a, which `make archive` makes of crates/keccak_tables_c.
  * crates/keccak_tables/src has the contract of each. host/tests/header.rs holds the names, parameters, structs and numbers of this
  * page against it, .ci/documents the refusals that are said here; the differential runs try them.
  *

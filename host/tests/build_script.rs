@@ -38,7 +38,7 @@ impl Dependant {
         let root = Path::new(env!("CARGO_TARGET_TMPDIR")).join(name);
         let _ = fs::remove_dir_all(&root);
         let here = Path::new(env!("CARGO_MANIFEST_DIR"));
-        for folder in ["host/src", "host/build", "src"] {
+        for folder in ["host/src", "host/build", "src", "crates/keccak_tables_c"] {
             fs::create_dir_all(root.join(folder)).unwrap();
         }
         let manifest = fs::read_to_string(here.join("Cargo.toml")).unwrap();
@@ -146,7 +146,7 @@ fn two_builds_at_once_take_turns() {
     fs::create_dir_all(&tools).unwrap();
     let archive = Path::new(env!("OUT_DIR")).join("libkeccak_tables.a");
     let script = format!(
-        "#!/bin/sh\nmkdir busy || exit 1\nsleep 0.5\nmkdir -p target/staticlib\ncp {} target/staticlib/\nrmdir busy\n",
+        "#!/bin/sh\nmkdir busy || exit 1\nsleep 0.5\nmkdir -p out\ncp {} out/libkeccak_tables_c.a\nrmdir busy\n",
         archive.display()
     );
     fs::write(tools.join("rt"), script).unwrap();

@@ -15,12 +15,16 @@ use keccak_tables::{OP_WORDS, Operation};
 /// The program, proved and compiled from the crate as it stands; none where the kit is not there.
 static PROGRAM: LazyLock<Option<PathBuf>> = LazyLock::new(|| {
     let root = Path::new(env!("CARGO_MANIFEST_DIR")).parent().expect("the repository");
-    match Command::new("rt").args(["check", "tally"]).current_dir(root).output() {
+    let tally = root.join("crates/tally");
+    // It is run too, on no input.
+    let mut run = Command::new("rt");
+    run.arg("run").stdin(Stdio::null()).current_dir(&tally);
+    match run.output() {
         Err(error) if error.kind() == ErrorKind::NotFound => None,
         proved => {
             let proved = proved.expect("rt can be run");
-            assert!(proved.status.success(), "{}", String::from_utf8_lossy(&proved.stdout));
-            Some(root.join("target/bin/tally"))
+            assert!(proved.status.success(), "{}", String::from_utf8_lossy(&proved.stderr));
+            Some(tally.join("out/tally"))
         }
     }
 });
@@ -48,7 +52,7 @@ fn ran_with(arguments: &[&str], input: impl Into<Stdio>, output: impl Into<Stdio
         .stderr(Stdio::piped())
         .spawn();
     program
-        .expect("rt check leaves target/bin/tally")
+        .expect("rt run leaves out/tally")
         .wait_with_output()
         .expect("it ends")
 }

@@ -74,7 +74,7 @@ pub fn host_source(name: &str) -> String {
 
 /// The sources of the exports and of the structs that they pass.
 fn export_sources() -> String {
-    let mut files: Vec<PathBuf> = ["keccak_tables", "flat"]
+    let mut files: Vec<PathBuf> = ["keccak_tables_c", "flat"]
         .iter()
         .flat_map(|name| fs::read_dir(root().join("crates").join(name).join("src")).expect("a crate's folder"))
         .flatten()
@@ -145,7 +145,7 @@ fn rust_function(text: &str) -> (String, Signature) {
 pub fn exports() -> Functions {
     let functions = export_sources();
     functions
-        .split("#[no_mangle]")
+        .split("#[unsafe(no_mangle)]")
         .skip(1)
         .map(|text| rust_function(after(text, "fn ")))
         .collect()

@@ -111,15 +111,19 @@ pub fn compare(comparison: &mut Comparison, words: &mut Words, n: usize) {
 fn program() -> Option<PathBuf> {
     let root = Path::new(env!("CARGO_MANIFEST_DIR")).ancestors().nth(2);
     let root = root.expect("this package stands in the host's folder");
-    match Command::new("rt").args(["check", "tally"]).current_dir(root).output() {
+    let tally = root.join("crates/tally");
+    // It is run too, on no input.
+    let mut run = Command::new("rt");
+    run.arg("run").stdin(Stdio::null()).current_dir(&tally);
+    match run.output() {
         Err(error) if error.kind() == ErrorKind::NotFound => {
             say!("there is no program rt on the PATH: the kit's tally is not tried");
             None
         }
         proved => {
             let proved = proved.expect("rt can be run");
-            assert!(proved.status.success(), "{}", String::from_utf8_lossy(&proved.stdout));
-            Some(root.join("target/bin/tally"))
+            assert!(proved.status.success(), "{}", String::from_utf8_lossy(&proved.stderr));
+            Some(tally.join("out/tally"))
         }
     }
 }
@@ -184,7 +188,7 @@ fn one(comparison: &mut Comparison, program: &Path, arguments: &[Vec<u8>], bytes
         .stdout(Stdio::piped())
         .stderr(Stdio::piped())
         .output()
-        .expect("rt check leaves target/bin/tally");
+        .expect("rt run leaves out/tally");
     let read = input.stream_position().expect("a file has a place");
     let words: Vec<_> = arguments.iter().map(|word| shown(word)).collect();
     let what = || format!("tally with {words:?}, {with:?}, on {} bytes", bytes.len());

@@ -31,8 +31,8 @@ const DRAWN: usize = 100;
 const BUFFER: usize = 64 << 10;
 const RUNS: usize = 5;
 
-/// The program, where it was built.
-const PROGRAM: &str = concat!(env!("CARGO_MANIFEST_DIR"), "/../../target/bin/tally");
+/// The program, where `rt run` left it.
+const PROGRAM: &str = concat!(env!("CARGO_MANIFEST_DIR"), "/../../crates/tally/out/tally");
 
 /// Whether the next of a file's operations is of segment 0.
 type IsPlain = fn(&mut Words) -> bool;
