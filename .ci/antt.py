@@ -3,7 +3,7 @@
 A definition is one of an .antt file (a signature with its clauses, a record, a data type), a struct or an enum of an .rt file, or the contract of a
 function there. `parsed(path)` has those of a file; `Definition.rests_on()` the definitions that one names, and what it names of the kit.
 Followed are types, records' fields, and the bodies of definitions; of a proof (a name of proofs/ without `abbrev` or `unfoldable`) its type alone.
-Local names (arguments, λ, let, a module's parameters, earlier fields) hide those of the file, these those of `use` lines. A field `x .f` leads to
+Local names (arguments, λ, let, a module's parameters, earlier fields) hide those of the file, these those of `use` lines. A field `x.f` leads to
 no record: the type of x, which names it, is followed.
 """
 
@@ -13,14 +13,15 @@ from functools import cache
 from pathlib import Path
 
 ROOT = Path(__file__).resolve().parent.parent
+# What does not begin with `Rattle` is the kit's, and so is a library that crates.txt does not list.
 KIT = ("Prim", "mathlib", "native", "lib", "contract", "denote", "borrow")
 # What needs no `use`: the language's words and signs, and what the kit gives every file.
 LANGUAGE = set("→ × : = _ in elim Type".split())
-GIVEN = set("Unit ⊥ ¬ Dec yes no tt absurd refl now".split())
+GIVEN = set("Unit ⊥ ¬ Dec yes no tt absurd refl".split())
 # Constructors of the kit, which a pattern does not bind.
 CONSTRUCTORS = set("zero suc [] ∷ true false some none inl inr yes no refl tt".split())
 # Fields of the kit's records and of what a contract lends.
-KIT_FIELDS = set("0 1 2 now entry exit Denot".split())
+KIT_FIELDS = set("0 1 2 now old new Denot".split())
 
 
 @dataclass(eq=False)
@@ -106,14 +107,18 @@ class File:
                 self.note(name)
 
     def note(self, name):
-        if "_" in name.strip("_") or name != name.strip("_"):
-            self.parts.update({part: name for part in name.split("_") if part})
+        self.parts.update({part: name for part in parts(name)})
 
     def find(self, name, line=None):
         """The definition of a name, the last one above a line where there are several."""
         found = self.definitions.get(name, [])
         above = [one for one in found if line is None or one.line <= line]
         return (above or found or [None])[-1]
+
+
+def parts(name):
+    """The words of a mixfix name, as `+` of `◌+◌`; none where it is none."""
+    return [part for part in name.split("◌") if part] if "◌" in name else []
 
 
 USE = re.compile(r"^\s*(?:pub |ghost )*use ([^\s{;]+?)(?:\.\{([^}]*)\}| as ([^\s;]+))?;?\s*$", re.M)
@@ -159,18 +164,18 @@ def read_antt(path, text):
             modules.append(Module(indent(line), "\n".join(code[start:last + 1]), above(text.splitlines(), start)))
             at = last + 1
         elif line.split()[0] == "open":
-            modules.append(opening(file, line))
+            modules.append(opening(line, modules))
         elif head(line):
             at = add_definition(file, text.splitlines(), code, start, at, list(modules))
     return file
 
 
-def opening(file, line):
-    """`open R x using (a, b as c)`: fields of the record R by their names."""
-    record, names = re.match(r"\s*open (\S+) .*using \((.*)\)", line).groups()
-    opened = {name.split(" as ")[-1].strip(): record for name in names.split(",")}
-    parts = {part: record for name in opened for part in name.split("_") if part and name != name.strip("_")}
-    return Module(indent(line), "", [], {**opened, **parts})
+def opening(line, modules):
+    """`open D use {a, b as c}`: fields, by their names, of the record that a module around it says D is."""
+    opened, names = re.match(r"\s*open (\S+) use \{(.*)\}", line).groups()
+    record = next(filter(None, (re.search(rf"[({{ ]{re.escape(opened)} : (\S+)", module.text) for module in reversed(modules))))[1]
+    short = [name.split(" as ")[-1].strip() for name in names.split(",")]
+    return Module(indent(line), "", [], dict.fromkeys([*short, *(part for name in short for part in parts(name))], record))
 
 
 def add_definition(file, text, code, start, at, modules):
@@ -240,7 +245,7 @@ def rust_types(definition, text):
     """The structs and enums that Rust's part of a text names: of the crate itself, or of the crate that its `use` line names."""
     source = (ROOT / definition.path).read_text()
     for name in re.findall(r"\b[A-Z]\w*", text):
-        crates = re.findall(rf"^use (\w+)::(?:\w+::)*{name};", source, re.M)
+        crates = re.findall(rf"^use (\w+)::(?:\w+::)*(?:{name}|\{{[^}}]*\b{name}\b[^}}]*\}});", source, re.M)
         owner = crates[0] if crates and crates[0] not in {"super", "crate"} else definition.crate
         yield declared(owner, name)
 
@@ -250,18 +255,25 @@ def rust_types(definition, text):
 
 def module_file(module):
     """The file that a module's path leads to; or the struct or enum; or, for what the toolchain reads of a contract, that contract."""
-    found = re.match(r"Rattle·(\w+?)(?:·\w+)?\.(specs|proofs)\.(.*)$", module)
+    found = re.match(r"Rattle\.(\w+)\.(specs|proofs)\.(.*)$", module)
     if not found:
         return None
     crate, folder, rest = found.groups()
-    parts = rest.split(".")
-    if parts[0] == "declared":
-        return declared(crate, parts[1])
-    file = parsed(f"crates/{crate}/{folder}/{'/'.join(parts)}.antt")
-    if file or parts[-1] not in {"Reads", "Kinds"}:
+    names = rest.split(".")
+    if names[0] == "declared":
+        return declared(crate, names[1])
+    file = parsed(f"crates/{crate}/{folder}/{'/'.join(names)}.antt")
+    if file or len(names) == 1:
         return file
-    source = parsed(f"crates/{crate}/src/{'/'.join(parts[:-2]) or 'lib'}.rt")
-    return source and next((one for one in source.definitions.get(parts[-2], []) if one.kind == "contract"), None)
+    source = parsed(f"crates/{crate}/src/{'/'.join(names[:-2]) or 'lib'}.rt")
+    return source and next((one for one in source.definitions.get(names[-2], []) if one.kind == "contract"), None)
+
+
+@cache
+def is_kit(module):
+    """Whether a module is the kit's: of its logic, or of a library that is no crate here."""
+    first, *rest = module.split(".")
+    return first in KIT or first == "Rattle" and not (ROOT / "crates" / rest[0]).is_dir()
 
 
 class Names:
@@ -280,7 +292,7 @@ class Names:
 
     def imported(self, module, name):
         """A name of a module: the kit's, or a definition."""
-        if module.split(".")[0] in KIT:
+        if is_kit(module):
             self.kit.add(f"{module}.{name}")
             return None
         target = module_file(module)
@@ -291,7 +303,7 @@ class Names:
         if "." in name.strip("."):
             alias, _, plain = name.partition(".")
             module = self.file.aliases.get(alias)
-            return module and (self.imported(module, plain) or module.split(".")[0] in KIT)
+            return module and (self.imported(module, plain) or is_kit(module))
         if name in self.opened:
             return self.lookup(self.opened[name])
         for one in filter(None, [name, self.file.parts.get(name)]):
@@ -299,7 +311,7 @@ class Names:
                 return self.file.find(one, self.of.lines[-1][0])
             if one in self.file.uses:
                 module, old = self.file.uses[one]
-                return self.imported(module, old) or module.split(".")[0] in KIT
+                return self.imported(module, old) or is_kit(module)
         return name in GIVEN or None
 
     def take(self, name):
@@ -360,10 +372,20 @@ def walk(words, bound, names):
             literal(words[at], bound, names)
             at += 1
         elif word.startswith(".") and len(word) > 1:
-            names.fields.add(word[1:])
+            names.fields.update(word[1:].split("."))
         elif not (word in bound or word in LANGUAGE or word in ",;" or re.fullmatch(r"\d+|0x\w+", word)):
-            names.take(word)
+            projected(word, bound, names)
     return bound
+
+
+def projected(word, bound, names):
+    """`x.f.g`: fields of a local name or of a definition. `a.x.f`: of a name of the module that is called a."""
+    name, *fields = word.split(".") if "." in word.strip(".") else [word]
+    if name not in bound:
+        if fields and name in names.file.aliases:
+            name += "." + fields.pop(0)
+        names.take(name)
+    names.fields.update(fields)
 
 
 def group(words, bound, names):
@@ -489,7 +511,7 @@ def of_clauses(definition, names):
     signature, *clauses = items(definition)
     bound = outer(definition, names)
     walk(tree(signature.partition(" :")[2]), bound, names)
-    own = {part for part in definition.name.split("_") if part} | {definition.name}
+    own = {*parts(definition.name), definition.name}
     for clause in clauses if definition.kind == "definition" else []:
         words = tree(clause)
         if words and words[0] != "unfolding":
@@ -505,7 +527,7 @@ def of_rust(definition, names):
     for found in rust_types(definition, signature):
         if found and found.name not in own:
             names.add(found, found.name)
-    parameters = set(re.findall(r"(\w+):", signature))
+    parameters = {"result", *re.findall(r"(\w+):", signature)}
     for clause in clauses:
         walk(tree(clause), parameters, names)
 

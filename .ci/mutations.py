@@ -11,25 +11,24 @@ from collections import namedtuple
 Change = namedtuple("Change", "area kind file start end new")
 
 ATOM = r"(?:[\w.«»'₀-₉-]+|\([^()\n]*\))"
-TRUE, FALSE = "mathlib.Core.Bool.true", "mathlib.Core.Bool.false"
-NOTHING = "Prim.Unit {0}"  # what is left of a statement that is left out: the place stays, so that nothing is missing a name
+HOME = "Rattle.std.specs.Prelude"  # of the operators and names of terms
+NOTHING = "Unit {0}"  # what is left of a statement that is left out: the place stays, so that nothing is missing a name
 # What stands for an operator of a term, and the kind of that change.
 TERM_OPERATORS = {
     **{old: (new, "comparison") for old, new in [("≤", "<"), ("<", "≤")]},
     **{old: (new, "operator") for old, new in [("+", "-"), ("-", "+"), ("*", "+"), ("/", "%"), ("%", "/"), ("&&", "||"), ("||", "&&")]},
 }
 TERM_NAMES = {
-    **{old: (new, "comparison") for old, new in [("ltb", "lib.Dec.leb"), ("leb", "lib.Dec.ltb"), ("eqb", "lib.Dec.leb")]},
-    **{old: (new, "operator") for old, new in [("take", "lib.ListN.drop"), ("drop", "lib.ListN.take"), ("true", FALSE), ("false", TRUE)]},
+    **{old: (f"{HOME}.{new}", "comparison") for old, new in [("ltb", "leb"), ("leb", "ltb"), ("eqb", "leb")]},
+    **{old: (f"{HOME}.{new}", "operator") for old, new in [("take", "drop"), ("drop", "take"), ("true", "false"), ("false", "true")]},
 }
 CODE_OPERATORS = {
     **{old: (new, "comparison") for old, new in [("<", "<="), ("<=", "<"), (">", ">="), (">=", ">"), ("==", "!="), ("!=", "==")]},
     **{old: (new, "operator") for old, new in [("+", "-"), ("-", "+"), ("*", "+"), ("/", "%"), ("%", "/"), ("^", "&"), ("&", "|"), ("|", "^")]},
     **{old: (new, "operator") for old, new in [("&&", "||"), ("||", "&&"), ("<<", ">>"), (">>", "<<")]},
 }
-HOMES = {"&&": "mathlib.Core.Bool", "||": "mathlib.Core.Bool"}
 # Functions whose last of so many arguments is what holds where they are left out.
-CHECKS = {"refuseIf": 3, "refuseAt": 3, "tooShort": 3, "notRounds": 2, "notFloor": 2, "pastEnd": 2, "overLimit": 3}
+CHECKS = {"refuse_if": 3, "refuse_at": 3, "too_short": 3, "not_rounds": 2, "not_floor": 2, "past_end": 3, "over_limit": 2}
 
 
 def without_remarks(text, mark):
@@ -62,7 +61,7 @@ def parts(text, start, end, mark):
 
 def arguments(text, place, end):
     """The arguments of a function from a place on, up to the first operator, as places."""
-    found, pattern = [], re.compile(r"\s*((?:\((?:[^()]|\((?:[^()]|\([^()]*\))*\))*\)|[\w«»'₀-₉-]+)(?: \.[\w«»-]+)*)(?=[\s)]|$)")
+    found, pattern = [], re.compile(r"\s*((?:\((?:[^()]|\((?:[^()]|\([^()]*\))*\))*\)|[\w«»'₀-₉-]+)(?:\.[\w«»-]+)*)(?=[\s)]|$)")
     while match := pattern.match(text, place, end):
         found.append(match.span(1))
         place = match.end(1)
@@ -71,7 +70,7 @@ def arguments(text, place, end):
 
 def numerals(text, start, end):
     """Every number of a text, one more and one less."""
-    for match in re.finditer(r"(?<![\w.«·'₀-₉-])(\d+)(?=(?:u8|u16|u32|u64|usize)?(?![\w.'-]))", text[start:end]):
+    for match in re.finditer(r"(?<![\w.«'₀-₉-])(\d+)(?=(?:u8|u16|u32|u64|usize)?(?![\w.'-]))", text[start:end]):
         place, value = start + match.start(1), int(match.group(1))
         for other in (value + 1, value - 1):
             if other >= 0:
@@ -101,7 +100,7 @@ def conjuncts(text, start, end):
 
 def picks(text, start, end):
     """One branch of a choice in place of the choice, and what follows a check in place of the check."""
-    for match in re.finditer(r"(?<![\w.·-])([\w]+)(?= )", text[start:end]):
+    for match in re.finditer(r"(?<![\w.-])([\w]+)(?= )", text[start:end]):
         name, begun = match.group(1), start + match.start()
         found = arguments(text, start + match.end(), end) if name == "pick" or name in CHECKS else []
         for index in (1, 2) if name == "pick" and len(found) == 3 else ():
@@ -128,7 +127,7 @@ def terms(text, start, end, names):
     yield from conjuncts(text, start, end)
     yield from picks(text, start, end)
     yield from neighbours(text, start, end, names)
-    for match in re.finditer(r"(?<![\w.·-])([a-z]+)(?![\w.-])", text[start:end]):
+    for match in re.finditer(r"(?<![\w.-])([a-z]+)(?![\w.-])", text[start:end]):
         if match.group(1) in TERM_NAMES:
             new, kind = TERM_NAMES[match.group(1)]
             yield kind, start + match.start(), start + match.end(), new
@@ -136,7 +135,7 @@ def terms(text, start, end, names):
 
 def contract_spans(text):
     """The braces behind `requires` and `ensures`, as places inside them."""
-    for match in re.finditer(r"\b(?:requires|ensures) \{", text):
+    for match in re.finditer(r"\b(?:requires|ensures)(?: \w+)? \{", text):
         yield match.end(), closing(text, match.end() - 1) - 1
 
 
@@ -144,7 +143,7 @@ def code_changes(text):
     """Every change of what runs: the contracts count as spaces here."""
     for start, end in contract_spans(text):
         text = text[:start] + re.sub(r"[^\n]", " ", text[start:end]) + text[end:]
-    text = re.sub(r"(?m)^\s*#\[.*$|^.*\bfn .*$|b?\"[^\"\n]*\"", lambda m: re.sub(r"[^\n]", " ", m.group(0)), text)
+    text = re.sub(r"(?m)^\s*#!?\[.*$|^.*\bfn .*$|b?\"[^\"\n]*\"", lambda m: re.sub(r"[^\n]", " ", m.group(0)), text)
     yield from numerals(text, 0, len(text))
     yield from operators(text, 0, len(text), CODE_OPERATORS, "-|/|%|<|<=|>|>=")
     for match in re.finditer(r"(?<=[(\s])(?=([\w.]+), ([\w.]+)[,)])", text):
@@ -162,11 +161,10 @@ def code_changes(text):
 def contract_changes(text):
     """Every change of a contract: a whole clause left out, or a change of its term."""
     for start, end in contract_spans(text):
-        inner = re.search(r"⌜ (.*) ⌝", text[start:end], re.S)
-        if inner:
-            span = (start + inner.start(1), start + inner.end(1))
-            yield "clause", *span, NOTHING
-            yield from terms(text, *span, {})
+        inner = text[start:end]
+        span = (start + len(inner) - len(inner.lstrip()), start + len(inner.rstrip()))
+        yield "clause", *span, NOTHING
+        yield from terms(text, *span, {})
 
 
 def equations(text):
@@ -218,7 +216,7 @@ def changed(text, change):
     """The text with the change, and the operator that it needs imported; none where the file imports nothing from the operator's home."""
     new = text[: change.start] + change.new + text[change.end :]
     sign = change.new if change.area != "code" and change.new in TERM_OPERATORS else None
-    if sign is None or re.search(rf"_{re.escape(sign)}_", text):
+    if sign is None or f"◌{sign}◌" in text:
         return new
-    line = re.search(rf"(?m)^(?:ghost )?use {HOMES.get(sign, 'Prim.Native.Nat')}\.\{{", text)
-    return None if line is None else new[: line.end()] + f"_{sign}_, " + new[line.end() :]
+    line = re.search(rf"(?m)^(?:ghost )?use {re.escape(HOME)}\.\{{", text)
+    return None if line is None else new[: line.end()] + f"◌{sign}◌, " + new[line.end() :]

@@ -1,6 +1,6 @@
 """Every table of refusals against the definitions: which numbers there are, which calls give which, and in which order they are checked.
 
-The definitions are `refusalNumber` (crates/answer/specs/Refusal.antt) and what the contracts of the exports name. A contract is read as a term:
+The definitions are `refusal_number` (crates/answer/specs/Refusal.antt) and what the contracts of the exports name. A contract is read as a term:
 a definition that it names is put in its place, with its arguments, and the refusals that are then named, from left to right, are the checks in
 their order, because each check has those after it as its last argument.
 """
@@ -37,7 +37,7 @@ def text_of(path):
 @cache
 def numbers():
     """The number of each refusal, by its name."""
-    found = re.findall(r"^refusalNumber \((\w+) \w+\) = (\d+)$", text_of("crates/answer/specs/Refusal.antt"), re.M)
+    found = re.findall(r"^refusal_number \((\w+) \w+\) = (\d+)$", text_of("crates/answer/specs/Refusal.antt"), re.M)
     return {name: int(number) for name, number in found}
 
 
@@ -51,7 +51,7 @@ def snake(name):
 def term(text):
     """A term as nested lists of words, by its brackets."""
     stack = [[]]
-    for word in re.findall(r"[()]|[^\s(),;⌜⌝{}]+", text):
+    for word in re.findall(r"[()]|[^\s(),;{}]+", text):
         if word == "(":
             stack.append([])
         elif word == ")" and len(stack) > 1:
@@ -67,7 +67,7 @@ def imports(path):
     """Where a file's names come from: the file of each name, and of each alias."""
     found = {}
     for crate, file, names, alias in re.findall(
-        r"use Rattle·(\w+)(?:·\w+)?\.specs\.(\w+)(?:\.\{([^}]*)\}| as ([\w-]+))?", text_of(path)
+        r"use Rattle\.(\w+)\.specs\.(\w+)(?:\.\{([^}]*)\}| as ([\w-]+))?", text_of(path)
     ):
         target = f"crates/{crate}/specs/{file}.antt"
         for name in [*re.split(r",\s*", names), alias]:
@@ -100,8 +100,8 @@ def find(path, name):
 def told(expression, path, bound, above):
     """The refusals that a term names, from left to right."""
     if isinstance(expression, str):
-        if expression in bound:
-            return bound[expression]
+        if expression.split(".")[0] in bound:
+            return bound[expression.split(".")[0]]
         return [numbers()[expression]] if expression in numbers() else applied(expression, [], path, bound, above)
     if expression and isinstance(expression[0], str) and expression[0] not in bound and expression[0] not in numbers():
         return applied(expression[0], expression[1:], path, bound, above)
@@ -134,8 +134,8 @@ def checks():
     for file in sorted((ROOT / "crates/keccak_tables/src").glob("*.rt")):
         path = str(file.relative_to(ROOT))
         for name, contract in re.findall(r'extern "C" fn keccak_tables_(\w+)(.*?)^\{', file.read_text(), re.M | re.S):
-            answer = " ".join(re.findall(r"ensures \w*\s*\{ λ r\. ⌜(.*?)⌝ \}", contract, re.S))
-            found[name] = READERS.get(name, list(dict.fromkeys(told([["λ"], *term(answer)], path, {}, frozenset()))))
+            answer = " ".join(re.findall(r"ensures \w*\s*\{ (result\b.*?)\}\s*(?=ensures|requires|\Z)", contract, re.S))
+            found[name] = READERS.get(name, list(dict.fromkeys(told([[], *term(answer)], path, {}, frozenset()))))
     return found
 
 
@@ -219,7 +219,7 @@ def check_proofs(wrong):
         cells = line.strip("| ").split(" | ")
         said = re.search(r": (\d+(?:, \d+)+)(?=;|, else|$)", cells[1]) if len(cells) == 4 else None
         calls = [checks()[name] for name in re.findall(r"`(\w+)`", cells[0]) if name in checks()]
-        shared = [shared_checks(*found) for found in re.findall(r"^`(\w+Refusal)`.*\(`(\w+/specs/\w+\.antt)`\)", cells[0])]
+        shared = [shared_checks(*found) for found in re.findall(r"^`(\w+_refusal)`.*\(`(\w+/specs/\w+\.antt)`\)", cells[0])]
         for given in (calls[:1] + shared) if said else []:
             if list(dict.fromkeys(int(one) for one in said[1].split(", "))) != given:
                 wrong(f"{PROOFS}:{number}", f"{said[1]} is said, {given} checked")
