@@ -6,6 +6,7 @@ use Prim.Native.Nat.{◌+◌, ◌*◌, ◌-◌, ◌≤◌, ◌<◌}
 use native.Mathlib.Omega.{arith}
 use borrow.Author.Rules.{rules}
 use lib.ListN.{length}
+use Rattle.lists.specs.Tab.{word}
 use Rattle.verdict.specs.Kind.{rows}
 use Rattle.judge_scan.specs.Tables.{layout_of}
 use Rattle.judge_scan.specs.Spot.{spot_of}
@@ -116,7 +117,7 @@ loop-again : tie.Need-loop-index-preserved invariant-loop decreases-loop invaria
 loop-again c =
     let v = c.loop-index.invariant in
     let t = told_here c.before.before.before.before.before.before.before in
-    (omega arith, v.1, next-index _ _ _ _ _ _ t _ c.loop-index-test.true c.if-checks-index-ne0.false v.2, v.3)
+    (omega arith, v.1, next-index _ _ _ _ _ _ t _ c.loop-index-test.true (let z : word c.put_words.new.out c.loop-index.index ≡ 0 = omega arith in z) v.2, v.3)
 
 add_row : tie.Need-overflow_add-row invariant-loop decreases-loop invariant-rows decreases-rows
 add_row c =
@@ -141,13 +142,6 @@ returns c =
     λ nr.
     let e = rows_as _ _ c.width_of-width.ensures c.args.words.now in
     c.rows.invariant.1 ∙ sym (ap spot_of (clear-end _ _ _ _ _ e c.rows.invariant.0 c.rows-test.false c.rows.invariant.2 nr))
-
-returns-2 : tie.Need-returns-then-checks-index-ne0 invariant-loop decreases-loop invariant-rows decreases-rows
-returns-2 c =
-    λ nr.
-    let put = c.before.before.before.before.before.before.before in
-    let e = rows_as _ _ c.width_of-width.ensures c.args.words.now in
-    sym (ap spot_of (found-bad _ _ _ _ _ _ (told_here put) _ c.loop-index-test.true c.if-checks-index-ne0.true _ e c.rows-test.true c.rows.invariant.2 c.loop-index.invariant.2 nr))
 
 pub first_failure_spec : {M : Type 1} → statement M
 first_failure_spec =
@@ -181,4 +175,4 @@ first_failure_spec =
     rows-less
     rows-again
     returns
-    returns-2)
+    (λ c. λ nr. let put = c.before.before.before.before.before.before.before in let e = rows_as _ _ c.width_of-width.ensures c.args.words.now in sym (ap spot_of (found-bad _ _ _ _ _ _ (told_here put) _ c.loop-index-test.true (let z : word c.put_words.new.out c.loop-index.index ≡ 0 → ⊥ = omega arith in z) _ e c.rows-test.true c.rows.invariant.2 c.loop-index.invariant.2 nr))))

@@ -9,13 +9,9 @@ use Rattle.keccak_rc.proofs.Found.{rc-length}
 use Rattle.keccak_rc_trace.proofs.generate_row.Statement.{statement}
 use Rattle.keccak_rc_trace.proofs.generate_row.Tie as tie
 
-returns : tie.Need-returns-then-round-ge-NUM_ROWS
-unfolding rc_row_refusal
-returns c = refused _ _ (refuse-yes _ _ (le-leb _ _ c.if-round-ge-NUM_ROWS.true))
-
 returns-2 : tie.Need-returns-then-out-lt-NUM_PRECOMPUTED_COLS
 unfolding rc_row_refusal
-returns-2 c = refused _ _ (refuse-no _ (lt-leb _ _ c.if-round-ge-NUM_ROWS.false) (refuse-yes _ _ (lt-ltb _ _ c.if-out-lt-NUM_PRECOMPUTED_COLS.true)))
+returns-2 c = refused _ _ (refuse-no _ (lt-leb 32 c.args.round (omega arith)) (refuse-yes _ _ (lt-ltb _ _ c.if-out-lt-NUM_PRECOMPUTED_COLS.true)))
 
 put-row-requires : tie.Need-put_row-requires
 put-row-requires c κs = search rules
@@ -27,8 +23,9 @@ returns-3 : tie.Need-returns
 unfolding rc_row_refusal
 returns-3 c =
     done _
-    (refuse-no _ (lt-leb _ _ c.if-round-ge-NUM_ROWS.false) (refuse-no _ (le-ltb _ _ c.if-out-lt-NUM_PRECOMPUTED_COLS.false) refl))
+    (refuse-no _ (lt-leb 32 c.args.round (omega arith)) (refuse-no _ (le-ltb _ _ c.if-out-lt-NUM_PRECOMPUTED_COLS.false) refl))
     (c.put_row.ensures ∙ sets-overwrite _ _ (omega (arith, rc-length c.args.round, c.if-out-lt-NUM_PRECOMPUTED_COLS.false)))
 
 pub generate_row_spec : {M : Type 1} → statement M
-generate_row_spec = tie.close (tie.spec returns returns-2 put-row-requires same_length returns-3)
+unfolding rc_row_refusal
+generate_row_spec = tie.close (tie.spec (λ c. refused _ _ (refuse-yes _ _ (le-leb 32 c.args.round (omega arith)))) returns-2 put-row-requires same_length returns-3)

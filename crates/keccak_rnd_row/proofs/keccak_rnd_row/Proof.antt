@@ -18,19 +18,15 @@ use Rattle.keccak_rnd.proofs.Cells.{length-round}
 use Rattle.keccak_rnd_row.proofs.keccak_rnd_row.Statement.{statement}
 use Rattle.keccak_rnd_row.proofs.keccak_rnd_row.Tie as tie
 
-returns : tie.Need-returns-then-round-ge-ROUNDS
-unfolding round_row_refusal
-returns c = refused _ _ (refuse-yes _ _ (le-leb _ _ c.if-round-ge-ROUNDS.true))
-
 returns-2 : tie.Need-returns-then-start-lt25
 unfolding round_row_refusal
-returns-2 c = refused _ _ (refuse-no _ (lt-leb _ _ c.if-round-ge-ROUNDS.false) (refuse-yes _ _ (lt-ltb _ _ c.if-start-lt25.true)))
+returns-2 c = refused _ _ (refuse-no _ (lt-leb 24 c.args.round (omega arith)) (refuse-yes _ _ (lt-ltb _ _ c.if-start-lt25.true)))
 
 returns-3 : tie.Need-returns-then-row-lt-NUM_COLUMNS
 unfolding round_row_refusal
 returns-3 c =
     refused _ _
-    (refuse-no _ (lt-leb _ _ c.if-round-ge-ROUNDS.false)
+    (refuse-no _ (lt-leb 24 c.args.round (omega arith))
     (refuse-no _ (le-ltb _ _ c.if-start-lt25.false)
     (refuse-yes _ _ (lt-ltb _ _ c.if-row-lt-NUM_COLUMNS.true))))
 
@@ -50,7 +46,7 @@ returns-4 c =
     let s = a.start.now in
     let row : List ℕ → List ℕ = round_row (word_at a.timestamp) a.round in
     done _
-    (refuse-no _ (lt-leb _ _ c.if-round-ge-ROUNDS.false)
+    (refuse-no _ (lt-leb 24 c.args.round (omega arith))
     (refuse-no _ (le-ltb _ _ c.if-start-lt25.false)
     (refuse-no _ (le-ltb _ _ c.if-row-lt-NUM_COLUMNS.false) refl)))
     (c.put_round_row.ensures
@@ -58,10 +54,11 @@ returns-4 c =
     ∙ sets-overwrite a.row.now (row (tab 25 (word s))) (omega (arith, length-round (word_at a.timestamp) a.round (tab 25 (word s)), c.if-row-lt-NUM_COLUMNS.false)))
 
 pub keccak_rnd_row_spec : {M : Type 1} → statement M
+unfolding round_row_refusal
 keccak_rnd_row_spec =
     tie.close
     (tie.spec
-    returns
+    (λ c. refused _ _ (refuse-yes _ _ (le-leb 24 c.args.round (omega arith))))
     returns-2
     returns-3
     lanes-at-requires

@@ -14,17 +14,6 @@ use borrow.Author.Rules.{rules}
 use Rattle.op_sums.proofs.ended.Statement.{statement}
 use Rattle.op_sums.proofs.ended.Tie as tie
 
--- the records that are read
-abbrev w : tie.In-Reading → Whole
-w k = k.in-Reading.w
-
--- their number is known where it is none too many
-known : (c : tie.Else-records-gt-MAX_OPS) → c.records_read-records.result ≡ record_count (w c.before.before)
-known c = c.records_read-records.ensures.1 (omega arith)
-
-few : (c : tie.Else-records-gt-MAX_OPS) → record_count (w c.before.before) ≤ MAX-OPS
-few c = omega (arith, known c, c.if-records-gt-MAX_OPS.false)
-
 enum-known-c : tie.Need-enum_known-c
 enum-known-c c = search rules
 
@@ -37,54 +26,28 @@ records-read-requires c κs = search rules
 add-t11 : tie.Need-overflow_add-result
 add-t11 c = search rules
 
-returns : tie.Need-returns-then-records-gt-MAX_OPS
-unfolding end_of
-returns c =
-    let k = c.before.before in
-    let many : MAX-OPS < record_count (w k) = omega (arith, c.records_read-records.ensures.0, c.if-records-gt-MAX_OPS.true) in
-    sym (ap (end_of _ _) c.in-Reading.is ∙ simp (lt-ltb MAX-OPS (record_count (w k)) many))
-
 tell-requires : tie.Need-tell-requires
 tell-requires c κs = search rules
 
 sum-up-requires : tie.Need-sum_up-requires
 sum-up-requires c κs =
-    let e = c.before.before.before.before in
-    (c.requires, omega (arith, few e, (count_room (w e.before.before) (few e)).0))
+    let is : c.records_read-records.result ≡ record_count c.in-Reading.w = c.records_read-records.ensures.1 (omega arith) in let few : record_count c.in-Reading.w ≤ MAX-OPS = omega (arith, is) in
+    (c.requires, omega (arith, few, (count_room c.in-Reading.w few).0))
 
 returns-2 : tie.Need-returns-then-p-eq0
 unfolding end_of
 returns-2 c =
-    let e = c.before.before.before.before.before in
-    let k = c.before.before.before.before.before.before.before in
+    let is : c.records_read-records.result ≡ record_count c.in-Reading.w = c.records_read-records.ensures.1 (omega arith) in let few : record_count c.in-Reading.w ≤ MAX-OPS = omega (arith, is) in
     let a = c.args in
-    ap Counted (c.sum_up.ensures ∙ ap (λ (s : Segments). counts_of a.floor a.shipped (w k).n s (w k).unaligned) c.tell.ensures)
-    ∙ sym (ap (end_of _ _) c.in-Reading.is ∙ simp (le-ltb _ _ (few e), eq-eqb _ _ c.if-p-eq0.true))
-
-add-t15 : tie.Need-overflow_add-result-then-records-ge-MAX_OPS
-add-t15 c = search rules
-
-returns-3 : tie.Need-returns-then-records-ge-MAX_OPS
-unfolding end_of
-returns-3 c =
-    let e = c.before.before.before in
-    let k = c.before.before.before.before.before in
-    let full : MAX-OPS ≤ record_count (w k) = omega (arith, known e, c.if-records-ge-MAX_OPS.true) in
-    sym (ap (end_of _ _) c.in-Reading.is ∙ simp (le-ltb _ _ (few e), ne_eqb _ _ c.if-p-eq0.false, le-leb MAX-OPS (record_count (w k)) full))
+    ap Counted (c.sum_up.ensures ∙ ap (λ (s : Segments). counts_of a.floor a.shipped c.in-Reading.w.n s c.in-Reading.w.unaligned) c.tell.ensures)
+    ∙ sym (ap (end_of _ _) c.in-Reading.is ∙ simp (le-ltb _ _ few, eq-eqb _ _ c.if-p-eq0.true))
 
 returns-4 : tie.Need-returns-in-Refused
 unfolding end_of
 returns-4 c = sym (ap (end_of _ _) c.in-Refused.is)
 
-returns-5 : tie.Need-returns-else-records-ge-MAX_OPS
-unfolding end_of
-returns-5 c =
-    let e = c.before.before.before in
-    let k = c.before.before.before.before.before in
-    let room : record_count (w k) < MAX-OPS = omega (arith, known e, c.if-records-ge-MAX_OPS.false) in
-    sym (ap (end_of _ _) c.in-Reading.is ∙ simp (le-ltb _ _ (few e), ne_eqb _ _ c.if-p-eq0.false, lt-leb MAX-OPS (record_count (w k)) room))
-
 pub ended_spec : {M : Type 1} → statement M
+unfolding end_of
 ended_spec =
     tie.close
     (tie.spec
@@ -92,11 +55,11 @@ ended_spec =
     enum-known-c-2
     records-read-requires
     add-t11
-    returns
+    (λ c. let many : MAX-OPS < record_count c.in-Reading.w = omega (arith, c.records_read-records.ensures.0) in sym (ap (end_of _ _) c.in-Reading.is ∙ simp (lt-ltb MAX-OPS (record_count c.in-Reading.w) many)))
     tell-requires
     sum-up-requires
     returns-2
-    add-t15
-    returns-3
+    (λ c. search rules)
+    (λ c. let is : c.records_read-records.result ≡ record_count c.in-Reading.w = c.records_read-records.ensures.1 (omega arith) in let few : record_count c.in-Reading.w ≤ MAX-OPS = omega (arith, is) in let full : MAX-OPS ≤ record_count c.in-Reading.w = omega (arith, is) in sym (ap (end_of _ _) c.in-Reading.is ∙ simp (le-ltb _ _ few, ne_eqb _ _ c.if-p-eq0.false, le-leb MAX-OPS (record_count c.in-Reading.w) full)))
     returns-4
-    returns-5)
+    (λ c. let is : c.records_read-records.result ≡ record_count c.in-Reading.w = c.records_read-records.ensures.1 (omega arith) in let few : record_count c.in-Reading.w ≤ MAX-OPS = omega (arith, is) in let room : record_count c.in-Reading.w < MAX-OPS = omega (arith, is) in sym (ap (end_of _ _) c.in-Reading.is ∙ simp (le-ltb _ _ few, ne_eqb _ _ c.if-p-eq0.false, lt-leb MAX-OPS (record_count c.in-Reading.w) room))))

@@ -1,4 +1,5 @@
 -- `check_line` meets its contract: one check after the other.
+use native.Mathlib.Omega.{arith}
 use mathlib.Core.Path.{◌≡◌, sym, ◌∙◌}
 use mathlib.Core.Option.{none}
 use borrow.Author.Rules.{rules}
@@ -53,11 +54,8 @@ returns-2 c =
 enum-told-2 : tie.Need-enum_told-in_default-check_rows
 enum-told-2 c = search rules
 
-returns-3 : tie.Need-returns-then-room-lt-LINE_MOST
-returns-3 c = answers (ready-later _ _ _ _ (ready c.before) ∙ room-refused _ _ accepted c.if-room-lt-LINE_MOST.true)
-
 returns-4 : tie.Need-returns
-returns-4 c = accepts (ready-later _ _ _ _ (ready c.before) ∙ (room-accepted _ _).1 c.if-room-lt-LINE_MOST.false)
+returns-4 c = accepts (ready-later _ _ _ _ (ready c.before) ∙ (room-accepted c.args.room LINE-MOST).1 (omega arith))
 
 pub check_line_spec : {M : Type 1} → statement M
 check_line_spec =
@@ -71,5 +69,5 @@ check_line_spec =
     enum-known-refusal-2
     returns-2
     enum-told-2
-    returns-3
+    (λ c. answers (ready-later _ _ _ _ (ready c.before) ∙ room-refused c.args.room LINE-MOST accepted (omega arith)))
     returns-4)

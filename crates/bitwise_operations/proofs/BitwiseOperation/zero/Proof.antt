@@ -8,10 +8,6 @@ use Rattle.bitwise_operations.proofs.Answers.{operation-refused, operation-is}
 use Rattle.bitwise_operations.proofs.BitwiseOperation.zero.Statement.{statement}
 use Rattle.bitwise_operations.proofs.BitwiseOperation.zero.Tie as tie
 
-returns : tie.Need-returns-then-value-ge1048576
-unfolding zero_refusal
-returns c = operation-refused _ (refuse-yes _ _ (le-leb _ _ c.if-value-ge1048576.true))
-
 cast-t9 : tie.Need-overflow_cast-result
 cast-t9 c = omega arith
 
@@ -23,13 +19,14 @@ cast-t11 c = omega arith
 
 returns-2 : tie.Need-returns
 unfolding zero_refusal
-returns-2 c = operation-is _ (refuse-no _ (lt-leb _ _ c.if-value-ge1048576.false) refl)
+returns-2 c = operation-is _ (refuse-no _ (lt-leb 1048576 c.args.value (omega arith)) refl)
 
 pub zero_spec : {M : Type 1} → statement M
+unfolding zero_refusal
 zero_spec =
     tie.close
     (tie.spec
-    returns
+    (λ c. operation-refused _ (refuse-yes _ _ (le-leb 1048576 c.args.value (omega arith))))
     cast-t9
     cast-t10
     cast-t11

@@ -32,11 +32,6 @@ mul-if1-2 c = omega arith
 shared-slice-read-if1 : tie.Need-bounds-ops-i invariant-loop decreases-loop
 shared-slice-read-if1 c = omega arith
 
-returns : tie.Need-returns-then-ops-i-ge10 invariant-loop decreases-loop
-returns c =
-    let l = c.loop-i in
-    sym (ap place_of (first-hit (past_at _) l.i _ _ c.loop-i-test.true l.invariant.1 (past-kind _ l.i c.if-ops-i-ge10.true)))
-
 mul-if2 : tie.Need-overflow_mul-i-in-loop-i invariant-loop decreases-loop
 mul-if2 c = omega arith
 
@@ -52,7 +47,7 @@ shared-slice-read-if2 c = omega arith
 returns-2 : tie.Need-returns-then-ops-i-ge16 invariant-loop decreases-loop
 returns-2 c =
     let l = c.loop-i in
-    sym (ap place_of (first-hit (past_at _) l.i _ _ c.loop-i-test.true l.invariant.1 (past-z _ l.i c.if-ops-i-ge10.false c.if-ops-i-ge16.true)))
+    sym (ap place_of (first-hit (past_at _) l.i _ _ c.loop-i-test.true l.invariant.1 (past-z c.args.ops.now l.i (omega arith) c.if-ops-i-ge16.true)))
 
 add-i : tie.Need-overflow_add-i-in-loop-i invariant-loop decreases-loop
 add-i c = omega arith
@@ -63,7 +58,7 @@ loop-less c = omega arith
 loop-again : tie.Need-loop-i-preserved invariant-loop decreases-loop
 loop-again c =
     let l = c.loop-i in
-    (omega arith, first_more (past_at _) l.i l.invariant.1 (past-none _ l.i c.if-ops-i-ge10.false c.if-ops-i-ge16.false))
+    (omega arith, first_more (past_at _) l.i l.invariant.1 (past-none c.args.ops.now l.i (omega arith) c.if-ops-i-ge16.false))
 
 returns-3 : tie.Need-returns invariant-loop decreases-loop
 returns-3 c =
@@ -80,7 +75,7 @@ first_past_spec =
     mul-if1
     mul-if1-2
     shared-slice-read-if1
-    returns
+    (λ c. let l = c.loop-i in sym (ap place_of (first-hit (past_at _) l.i _ _ c.loop-i-test.true l.invariant.1 (past-kind c.args.ops.now l.i (omega arith)))))
     mul-if2
     add-if2
     mul-if2-2
