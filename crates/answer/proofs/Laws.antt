@@ -2,6 +2,7 @@
 --     refuse-yes, refuse-no     a check refuses, or the later ones decide
 --     at-yes, at-no             the same for a check that searches
 --     answers, accepts          the answer, once the checks are known
+--     handed-on                 what `?` answers, where the call before it refused
 --     kept, written             the words left, once the checks are known
 --     refused, done             the two clauses of a call's contract, once the checks are known
 --     number-refused, number_is the answer of a call that gives a number, once the checks are known
@@ -22,8 +23,7 @@ use lib.Seq.{sets, take-append_seam, drop-append_seam}
 use Rattle.lists.proofs.Laws.{sets-front}
 use Rattle.answer.specs.Refusal.{refusal_number, refuse_if, refuse_at, answer_of, number_of, overwrite, afterwards}
 use Rattle.answer.specs.declared.Refusal.{Refusal}
-use Rattle.answer.specs.declared.Answer.TheVariants.{Done, Refused}
-use Rattle.answer.specs.declared.Number.TheVariants as number
+use Rattle.std.specs.Prelude.{Result, Ok, Err, IsErrAnd, ⊤}
 
 -- ---- one check
 
@@ -55,40 +55,45 @@ pub written : {o : Option Refusal} {new row : List ℕ} (old : List ℕ) → o �
 unfolding afterwards
 written old e q = rw e q
 
-pub answers : {o : Option Refusal} {r : Refusal} → o ≡ some r → Refused r ≡ answer_of o
+pub answers : {o : Option Refusal} {r : Refusal} → o ≡ some r → Err r ≡ answer_of o
 unfolding answer_of
 answers e = rw e
 
-pub accepts : {o : Option Refusal} → o ≡ none → Done ≡ answer_of o
+-- what `?` hands on of a call that refused
+pub handed-on : {T : Type 0} (a : Result T Refusal) {r : Refusal} → IsErrAnd a (λ x. x ≡ r) → a ≡ Err r
+handed-on (Ok x) h = absurd h
+handed-on (Err x) h = ap Err h
+
+pub accepts : {o : Option Refusal} → o ≡ none → Ok tt ≡ answer_of o
 unfolding answer_of
 accepts e = rw e
 
 pub refused : {o : Option Refusal} {r : Refusal} (new old : List ℕ) → o ≡ some r
-    → (Refused r ≡ answer_of o) × (old ≡ afterwards o new old)
+    → (Err r ≡ answer_of o) × (old ≡ afterwards o new old)
 refused new old e = (answers e, kept new old e)
 
 pub done : {o : Option Refusal} {new row : List ℕ} (old : List ℕ) → o ≡ none → row ≡ new
-    → (Done ≡ answer_of o) × (row ≡ afterwards o new old)
+    → (Ok tt ≡ answer_of o) × (row ≡ afterwards o new old)
 done old e q = (accepts e, written old e q)
 
 -- ---- a call that gives a number
 
-pub number-refused : {o : Option Refusal} {r : Refusal} (n : ℕ) → o ≡ some r → number.Refused r ≡ number_of n o
+pub number-refused : {o : Option Refusal} {r : Refusal} (n : ℕ) → o ≡ some r → Err r ≡ number_of n o
 unfolding number_of
 number-refused n e = rw e
 
-pub number_is : {o : Option Refusal} {n m : ℕ} → o ≡ none → m ≡ n → number.Is m ≡ number_of n o
+pub number_is : {o : Option Refusal} {n m : ℕ} → o ≡ none → m ≡ n → Ok m ≡ number_of n o
 unfolding number_of
-number_is e q = rw e (ap number.Is q)
+number_is e q = rw e (ap Ok q)
 
 -- ---- what an answer says
 
-pub is-refused : (o : Option Refusal) {r : Refusal} → Refused r ≡ answer_of o → o ≡ some r
+pub is-refused : (o : Option Refusal) {r : Refusal} → Err r ≡ answer_of o → o ≡ some r
 unfolding answer_of
 is-refused none e = cc
 is-refused (some x) e = cc
 
-pub is-done : (o : Option Refusal) → Done ≡ answer_of o → o ≡ none
+pub is-done : (o : Option Refusal) → Ok tt ≡ answer_of o → o ≡ none
 unfolding answer_of
 is-done none e = refl
 is-done (some x) e = cc

@@ -17,9 +17,8 @@ use Rattle.answer.specs.Limits.{MAX-OPS, MAX-ROUNDS}
 use Rattle.answer.specs.Refusal.{accepted, answer_of, past_end, over_limit, too_short, not_rounds, is_floor, not_floor, PowerFloor, count_refusal}
 use Rattle.answer.specs.declared.Refusal.{Refusal}
 use Rattle.answer.specs.declared.Refusal.TheVariants.{PastEnd, TooShort, Rounds, Floor}
-use Rattle.answer.specs.declared.Answer.{Answer}
-use Rattle.answer.specs.declared.Answer.TheVariants.{Done, Refused}
 use Rattle.answer.proofs.Laws.{refuse-yes, refuse-no, passed-if, still-if, none_told_lem, is-refused, is-done}
+use Rattle.std.specs.Prelude.{Result, Ok, Err, ⊤}
 
 module _ (limit i : ℕ) where
   pub index-accepted : (past_end limit i accepted ≡ accepted) ↔ (i < limit)
@@ -109,11 +108,11 @@ module _ (floor : ℕ) where
   floor-refused later h = refuse-yes _ later (ap not (found.is_false (λ e l q. h (power-from (e, l, q)))))
 
   -- what the function that makes this check says of the call that makes it before the others
-  module _ {a : Answer} (told : a ≡ answer_of (not_floor floor accepted)) where
-    pub floor-stops : {r : Refusal} (later : Option Refusal) → a ≡ Refused r → not_floor floor later ≡ some r
+  module _ {a : Result ⊤ Refusal} (told : a ≡ answer_of (not_floor floor accepted)) where
+    pub floor-stops : {r : Refusal} (later : Option Refusal) → a ≡ Err r → not_floor floor later ≡ some r
     floor-stops later e = still-if _ _ (λ q. absurd (none_told_lem q)) (is-refused (not_floor floor accepted) (sym e ∙ told))
 
-    pub floor-goes-on : a ≡ Done → PowerFloor floor
+    pub floor-goes-on : a ≡ Ok tt → PowerFloor floor
     floor-goes-on e = floor-accepted.0 (is-done (not_floor floor accepted) (sym e ∙ told))
 
   pub floor-least : PowerFloor floor → 4 ≤ floor
@@ -133,10 +132,10 @@ module _ (nr floor : ℕ) where
       let b = floor-passed floor later a.2 in
       ((a.0, a.1, b.0), b.1)
 
-  module _ {a : Answer} (told : a ≡ answer_of (not_rounds nr (not_floor floor accepted))) where
-    pub both-stop : {r : Refusal} (later : Option Refusal) → a ≡ Refused r → not_rounds nr (not_floor floor later) ≡ some r
+  module _ {a : Result ⊤ Refusal} (told : a ≡ answer_of (not_rounds nr (not_floor floor accepted))) where
+    pub both-stop : {r : Refusal} (later : Option Refusal) → a ≡ Err r → not_rounds nr (not_floor floor later) ≡ some r
     both-stop later e =
         still-if _ _ (still-if _ _ (still-if _ _ (λ q. absurd (none_told_lem q)))) (is-refused (not_rounds nr (not_floor floor accepted)) (sym e ∙ told))
 
-    pub both-go-on : a ≡ Done → (1 ≤ nr) × (nr ≤ MAX-ROUNDS) × PowerFloor floor
+    pub both-go-on : a ≡ Ok tt → (1 ≤ nr) × (nr ≤ MAX-ROUNDS) × PowerFloor floor
     both-go-on e = (both-passed accepted (is-done (not_rounds nr (not_floor floor accepted)) (sym e ∙ told))).0

@@ -18,10 +18,7 @@ use Rattle.answer.specs.Limits.{MAX-OPS, MAX-ROUNDS}
 use Rattle.answer.specs.declared.Refusal.{Refusal}
 use Rattle.answer.specs.declared.Refusal.TheVariants.{PastEnd, NotWhole, TooShort, HighAddress}
 use Rattle.answer.specs.declared.Refusal.TheVariants.{NotElement, BadRecord, Unaligned, Rounds, Floor, Register, Segment, LongMessage, LateTimestamp, Files}
-use Rattle.answer.specs.declared.Answer.{Answer}
-use Rattle.answer.specs.declared.Answer.TheVariants.{Done, Refused}
-use Rattle.answer.specs.declared.Number.{Number}
-use Rattle.answer.specs.declared.Number.TheVariants as number
+use Rattle.std.specs.Prelude.{Result, Ok, Err, ⊤}
 
 abbrev pub refusal_number : Refusal → ℕ
 refusal_number (PastEnd limit) = 1
@@ -100,13 +97,13 @@ not_floor floor later = refuse_if (not (is_floor floor)) (Floor floor) later
 unfoldable pub count_refusal : ℕ → Option Refusal
 count_refusal n = over_limit n accepted
 
-unfoldable pub answer_of : Option Refusal → Answer
-answer_of none = Done
-answer_of (some r) = Refused r
+unfoldable pub answer_of : Option Refusal → Result ⊤ Refusal
+answer_of none = Ok tt
+answer_of (some r) = Err r
 
-unfoldable pub number_of : ℕ → Option Refusal → Number
-number_of n none = number.Is n
-number_of n (some r) = number.Refused r
+unfoldable pub number_of : ℕ → Option Refusal → Result ℕ Refusal
+number_of n none = Ok n
+number_of n (some r) = Err r
 
 unfoldable pub overwrite : List ℕ → List ℕ → List ℕ
 overwrite new old = new ++ drop (length new) old

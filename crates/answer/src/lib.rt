@@ -77,20 +77,6 @@ impl Refusal {
     }
 }
 
-// The answer of a call that only writes.
-#[derive(Clone, Copy)]
-pub enum Answer {
-    Done,
-    Refused(Refusal),
-}
-
-// The answer of a call that gives a number.
-#[derive(Clone, Copy)]
-pub enum Number {
-    Is(u64),
-    Refused(Refusal),
-}
-
 // The most operations in one list: the largest n with 24 n ≤ 2^31, so that their round table has at most 2^31 rows.
 pub const MAX_OPS: u64 = 89478485;
 
@@ -98,40 +84,34 @@ pub const MAX_OPS: u64 = 89478485;
 pub const MAX_ROUNDS: u64 = 24;
 
 // The check of the number of rounds, which every call that takes one makes first.
-pub fn check_rounds(nr: u64) -> Answer
+pub fn check_rounds(nr: u64) -> Result<(), Refusal>
     ensures { result ≡ answer_of (not_rounds nr accepted) }
 {
     if nr == 0 {
-        return Answer::Refused(Refusal::Rounds(nr));
+        return Err(Refusal::Rounds(nr));
     }
     if nr > MAX_ROUNDS {
-        return Answer::Refused(Refusal::Rounds(nr));
+        return Err(Refusal::Rounds(nr));
     }
-    Answer::Done
+    Ok(())
 }
 
 // The check of a floor of table heights: one power of two after the other, from 4 to 65,536.
-pub fn check_floor(floor: u64) -> Answer
+pub fn check_floor(floor: u64) -> Result<(), Refusal>
     ensures { result ≡ answer_of (not_floor floor accepted) }
 {
-    let mut power: u64 = 4;
-    let mut e: usize = 0;
-    while e < 15 {
-        if floor == power {
-            return Answer::Done;
+    for e in 0..15 {
+        if floor == 2u64.pow(2 + e) {
+            return Ok(());
         }
-        power = power * 2;
-        e += 1;
     }
-    Answer::Refused(Refusal::Floor(floor))
+    Err(Refusal::Floor(floor))
 }
 
 // Both, as the calls make them that take both: 8, then 9.
-pub fn check_rounds_and_floor(nr: u64, floor: u64) -> Answer
+pub fn check_rounds_and_floor(nr: u64, floor: u64) -> Result<(), Refusal>
     ensures { result ≡ answer_of (not_rounds nr (not_floor floor accepted)) }
 {
-    if let Answer::Refused(refusal) = check_rounds(nr) {
-        return Answer::Refused(refusal);
-    }
+    check_rounds(nr)?;
     check_floor(floor)
 }

@@ -7,13 +7,13 @@ ghost use Rattle.answer.specs.Refusal.{answer_of};
 ghost use Rattle.bitwise.specs.Counters.{merged, merge_refusal, merge_after};
 ghost use Rattle.bitwise.specs.Table.{filled, fill_refusal, fill_after};
 
-use answer::{Answer, Refusal};
+use answer::Refusal;
 use bitwise::{
     NUM_COLUMNS, NUM_COUNTERS, NUM_LOOKUP_TYPES, NUM_PRECOMPUTED_COLS, NUM_ROWS, TABLE_WORDS,
 };
 use field::Fe;
 use field::elements::first_not_element;
-use lists::{Place, put_part};
+use lists::put_part;
 
 // The sum mod P.
 fn sum(a: u64, b: u64) -> u64
@@ -29,32 +29,31 @@ fn add_counters(counters: &mut [u64], other: &[u64])
     requires { (10485760 ≤ length counters.old) × (10485760 ≤ length other.now) × (first_not_element counters.old 10485760 ≡ none) × (first_not_element other.now 10485760 ≡ none) }
     ensures { counters.new ≡ merged counters.old other.now }
 {
-    let mut k: usize = 0;
-    while k < NUM_COUNTERS {
+    for k in 0..NUM_COUNTERS {
         counters[k] = sum(counters[k], other[k]);
-        k += 1;
     }
 }
 
 // Merge another histogram into this one.
-pub fn merge(counters: &mut [u64], other: &[u64]) -> Answer
+#[tactic(auto, unfolding(bitwise::specs::Counters::merge_refusal, answer::specs::Refusal::refuse_if, answer::specs::Refusal::refuse_at, answer::specs::Refusal::answer_of, answer::specs::Refusal::afterwards))]
+pub fn merge(counters: &mut [u64], other: &[u64]) -> Result<(), Refusal>
     ensures answer { result ≡ answer_of (merge_refusal counters.old other.now) }
     ensures words { counters.new ≡ merge_after counters.old other.now }
 {
     if counters.len() < NUM_COUNTERS {
-        return Answer::Refused(Refusal::TooShort(NUM_COUNTERS as u64));
+        return Err(Refusal::TooShort(NUM_COUNTERS as u64));
     }
     if other.len() < NUM_COUNTERS {
-        return Answer::Refused(Refusal::TooShort(NUM_COUNTERS as u64));
+        return Err(Refusal::TooShort(NUM_COUNTERS as u64));
     }
-    if let Place::At(k) = first_not_element(counters, NUM_COUNTERS) {
-        return Answer::Refused(Refusal::NotElement(k as u64));
+    if let Some(k) = first_not_element(counters, NUM_COUNTERS) {
+        return Err(Refusal::NotElement(k as u64));
     }
-    if let Place::At(k) = first_not_element(other, NUM_COUNTERS) {
-        return Answer::Refused(Refusal::NotElement(k as u64));
+    if let Some(k) = first_not_element(other, NUM_COUNTERS) {
+        return Err(Refusal::NotElement(k as u64));
     }
     add_counters(counters, other);
-    Answer::Done
+    Ok(())
 }
 
 // The ten counters of each row into its columns from the twelfth on.
@@ -62,8 +61,7 @@ fn put_counters(counters: &[u64], table: &mut [u64])
     requires { (10485760 ≤ length counters.now) × (22020096 ≤ length table.old) }
     ensures { table.new ≡ filled counters.now table.old }
 {
-    let mut r: usize = 0;
-    while r < NUM_ROWS {
+    for r in 0..NUM_ROWS {
         put_part(
             table,
             r * NUM_COLUMNS + NUM_PRECOMPUTED_COLS,
@@ -71,24 +69,24 @@ fn put_counters(counters: &[u64], table: &mut [u64])
             r * NUM_LOOKUP_TYPES,
             NUM_LOOKUP_TYPES,
         );
-        r += 1;
     }
 }
 
 // Write the accumulated multiplicities into the table.
-pub fn fill_multiplicities(counters: &[u64], table: &mut [u64]) -> Answer
+#[tactic(auto, unfolding(bitwise::specs::Table::fill_refusal, answer::specs::Refusal::refuse_if, answer::specs::Refusal::refuse_at, answer::specs::Refusal::answer_of, answer::specs::Refusal::afterwards))]
+pub fn fill_multiplicities(counters: &[u64], table: &mut [u64]) -> Result<(), Refusal>
     ensures answer { result ≡ answer_of (fill_refusal counters.now table.old) }
     ensures words { table.new ≡ fill_after counters.now table.old }
 {
     if counters.len() < NUM_COUNTERS {
-        return Answer::Refused(Refusal::TooShort(NUM_COUNTERS as u64));
+        return Err(Refusal::TooShort(NUM_COUNTERS as u64));
     }
     if table.len() < TABLE_WORDS {
-        return Answer::Refused(Refusal::TooShort(TABLE_WORDS as u64));
+        return Err(Refusal::TooShort(TABLE_WORDS as u64));
     }
-    if let Place::At(place) = first_not_element(counters, NUM_COUNTERS) {
-        return Answer::Refused(Refusal::NotElement(place as u64));
+    if let Some(place) = first_not_element(counters, NUM_COUNTERS) {
+        return Err(Refusal::NotElement(place as u64));
     }
     put_counters(counters, table);
-    Answer::Done
+    Ok(())
 }

@@ -16,14 +16,14 @@ use Rattle.bitwise.specs.Tuples.{lookup-type-index}
 use Rattle.bitwise.specs.Lookups.{Lookup, lookup_counter}
 use Rattle.bitwise.proofs.Numbers.{by_kind}
 use Rattle.bitwise_operations.specs.declared.BitwiseOperation.{BitwiseOperation}
-use Rattle.bitwise_operations.specs.declared.OperationAnswer.TheVariants.{Is, Refused}
 use Rattle.bitwise_operations.specs.Operation.{operation, operation_of, zero_refusal, lookup_words}
+use Rattle.std.specs.Prelude.{Ok, Err}
 
-pub operation-refused : {o : Option Refusal} {r : Refusal} (op : BitwiseOperation) → o ≡ some r → Refused r ≡ operation_of op o
+pub operation-refused : {o : Option Refusal} {r : Refusal} (op : BitwiseOperation) → o ≡ some r → Err r ≡ operation_of op o
 unfolding operation_of
 operation-refused op e = rw e
 
-pub operation-is : {o : Option Refusal} (op : BitwiseOperation) → o ≡ none → Is op ≡ operation_of op o
+pub operation-is : {o : Option Refusal} (op : BitwiseOperation) → o ≡ none → Ok op ≡ operation_of op o
 unfolding operation_of
 operation-is op e = rw e
 

@@ -8,12 +8,12 @@ use native.Mathlib.Omega.{arith}
 use lib.ListN.{length}
 use Rattle.lists.specs.Tab.{word}
 use Rattle.lists.specs.First.{first, first_at, place_of}
-use Rattle.lists.specs.declared.Place.TheVariants.{At, Nowhere}
 use Rattle.field.specs.Field.{p}
 use Rattle.bitwise.specs.Counters.{large_charged, lower_large}
 use Rattle.bitwise.specs.Lookups.{past_at, not_byte_at, charge_each, lookup_counter, named_in}
 use Rattle.bitwise.proofs.Large.{Least, least_start, least-same, least_more, least-found, least-none}
 use Rattle.bitwise.proofs.Lookups.{lookups-are, lookup-lt, named_none, named_more, named-clear, each_below}
+use Rattle.std.specs.Prelude.{Some, None}
 
 module _ (ops : List ℕ) (words : ℕ → ℕ) where
   -- after i lookups
@@ -32,10 +32,10 @@ module _ (ops : List ℕ) (words : ℕ → ℕ) where
     all : Searched n least
     all = let e : i ≡ n = omega arith in subst (λ (k : ℕ). Searched k least) e s
 
-    pub search-at : least < 10485760 → At least ≡ place_of (first_at (large_charged (named_in ops n) words) 10485760)
+    pub search-at : least < 10485760 → Some least ≡ place_of (first_at (large_charged (named_in ops n) words) 10485760)
     search-at l = sym (ap place_of (least-found all l))
 
-    pub search-nowhere : 10485760 ≤ least → Nowhere ≡ place_of (first_at (large_charged (named_in ops n) words) 10485760)
+    pub search-nowhere : 10485760 ≤ least → None ≡ place_of (first_at (large_charged (named_in ops n) words) 10485760)
     search-nowhere l = sym (ap place_of (least-none all l))
 
   -- where the search found nothing the counter of every lookup may be charged

@@ -7,8 +7,7 @@ use Rattle.bitwise.specs.declared.BitwiseOperationType.{BitwiseOperationType}
 use Rattle.bitwise.specs.Columns.{NUM-ROWS}
 use Rattle.bitwise.specs.Tuples.{lookup-type-index}
 use Rattle.bitwise_operations.specs.declared.BitwiseOperation.{BitwiseOperation}
-use Rattle.bitwise_operations.specs.declared.OperationAnswer.{OperationAnswer}
-use Rattle.bitwise_operations.specs.declared.OperationAnswer.TheVariants.{Is, Refused}
+use Rattle.std.specs.Prelude.{Result, Ok, Err}
 
 abbrev pub operation : BitwiseOperationType → ℕ → ℕ → ℕ → BitwiseOperation
 operation kind x y z = record { lookup_type = kind; x = x; y = y; z = z }
@@ -18,9 +17,9 @@ abbrev pub twenty_bits : BitwiseOperationType → ℕ → BitwiseOperation
 twenty_bits kind value = operation kind (value % 256) (value / 256 % 256) (value / 65536)
 
 -- The answer of a constructor, from what its check found.
-unfoldable pub operation_of : BitwiseOperation → Option Refusal → OperationAnswer
-operation_of op none = Is op
-operation_of op (some r) = Refused r
+unfoldable pub operation_of : BitwiseOperation → Option Refusal → Result BitwiseOperation Refusal
+operation_of op none = Ok op
+operation_of op (some r) = Err r
 
 -- What `zero` refuses: 1 "ZERO value must fit in 20 bits".
 unfoldable pub zero_refusal : ℕ → Option Refusal

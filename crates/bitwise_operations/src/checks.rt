@@ -8,62 +8,58 @@ ghost use Rattle.bitwise.specs.Counters.{large_charged};
 ghost use Rattle.bitwise.specs.Lookups.{Lookup, past_at, not_byte_at, lookup_past, lookups_cut, lookup_counter, named_in, mu_at};
 
 use super::LOOKUP_WORDS;
-use answer::{Answer, Refusal};
+use answer::Refusal;
 use bitwise::{NUM_COLUMNS, NUM_COUNTERS, NUM_LOOKUP_TYPES, NUM_PRECOMPUTED_COLS};
 use bitwise_counts::lower_large;
-use lists::Place;
 
 // The least number refused, of the first of n lookups whose kind, or else whose z, is past its end.
-fn first_past(ops: &[u64], n: usize) -> Place
+fn first_past(ops: &[u64], n: usize) -> Option<usize>
     requires { 4 * n ≤ length ops.now }
     ensures { result ≡ place_of (first (past_at ops.now) n) }
 {
-    let mut i: usize = 0;
-    while i < n {
+    for i in 0..n {
         if ops[LOOKUP_WORDS * i] >= 10 {
-            return Place::At(10);
+            return Some(10);
         }
         if ops[LOOKUP_WORDS * i + 3] >= 16 {
-            return Place::At(16);
+            return Some(16);
         }
-        i += 1;
     }
-    Place::Nowhere
+    None
 }
 
 // The place of the first x or y of n lookups that is no byte.
-pub fn first_not_byte(ops: &[u64], n: usize) -> Place
+pub fn first_not_byte(ops: &[u64], n: usize) -> Option<usize>
     requires { 4 * n ≤ length ops.now }
     ensures { result ≡ place_of (first (not_byte_at ops.now) n) }
 {
-    let mut i: usize = 0;
-    while i < n {
+    for i in 0..n {
         if ops[LOOKUP_WORDS * i + 1] >= 256 {
-            return Place::At(LOOKUP_WORDS * i + 1);
+            return Some(LOOKUP_WORDS * i + 1);
         }
         if ops[LOOKUP_WORDS * i + 2] >= 256 {
-            return Place::At(LOOKUP_WORDS * i + 2);
+            return Some(LOOKUP_WORDS * i + 2);
         }
-        i += 1;
     }
-    Place::Nowhere
+    None
 }
 
 // The checks by 1, 2 and 3 of a call that counts a list into a slice of `room` words.
-pub fn check_lookups(ops: &[u64], room: usize, needed: usize) -> Answer
+#[tactic(auto, unfolding(answer::specs::Refusal::refuse_if, answer::specs::Refusal::refuse_at, answer::specs::Refusal::answer_of))]
+pub fn check_lookups(ops: &[u64], room: usize, needed: usize) -> Result<(), Refusal>
     ensures { result ≡ answer_of (lookup_past ops.now (lookups_cut ops.now (too_short room needed accepted))) }
 {
     let n = ops.len() / LOOKUP_WORDS;
-    if let Place::At(limit) = first_past(ops, n) {
-        return Answer::Refused(Refusal::PastEnd(limit as u64));
+    if let Some(limit) = first_past(ops, n) {
+        return Err(Refusal::PastEnd(limit as u64));
     }
     if ops.len() % LOOKUP_WORDS != 0 {
-        return Answer::Refused(Refusal::NotWhole(2));
+        return Err(Refusal::NotWhole(2));
     }
     if room < needed {
-        return Answer::Refused(Refusal::TooShort(needed as u64));
+        return Err(Refusal::TooShort(needed as u64));
     }
-    Answer::Done
+    Ok(())
 }
 
 // The word of the table that counter i is for.
@@ -88,37 +84,33 @@ pub fn counter_of(ops: &[u64], i: usize) -> usize
 }
 
 // The first of the counters of n lookups that is P or more.
-pub fn first_counter(counters: &[u64], ops: &[u64], n: usize) -> Place
+pub fn first_counter(counters: &[u64], ops: &[u64], n: usize) -> Option<usize>
     requires { (4 * n ≤ length ops.now) × (first (past_at ops.now) n ≡ none) × (first (not_byte_at ops.now) n ≡ none) × (10485760 ≤ length counters.now) }
     ensures { result ≡ place_of (first_at (large_charged (named_in ops.now n) (word counters.now)) 10485760) }
 {
     let mut least: usize = NUM_COUNTERS;
-    let mut i: usize = 0;
-    while i < n {
+    for i in 0..n {
         let c = counter_of(ops, i);
         least = lower_large(counters, c, c, least);
-        i += 1;
     }
     if least < NUM_COUNTERS {
-        return Place::At(least);
+        return Some(least);
     }
-    Place::Nowhere
+    None
 }
 
 // The first of them whose word of the table is P or more.
-pub fn first_mu(table: &[u64], ops: &[u64], n: usize) -> Place
+pub fn first_mu(table: &[u64], ops: &[u64], n: usize) -> Option<usize>
     requires { (4 * n ≤ length ops.now) × (first (past_at ops.now) n ≡ none) × (first (not_byte_at ops.now) n ≡ none) × (22020096 ≤ length table.now) }
     ensures { result ≡ place_of (first_at (large_charged (named_in ops.now n) (λ c. word table.now (mu_at c))) 10485760) }
 {
     let mut least: usize = NUM_COUNTERS;
-    let mut i: usize = 0;
-    while i < n {
+    for i in 0..n {
         let c = counter_of(ops, i);
         least = lower_large(table, mu_at(c), c, least);
-        i += 1;
     }
     if least < NUM_COUNTERS {
-        return Place::At(least);
+        return Some(least);
     }
-    Place::Nowhere
+    None
 }

@@ -26,21 +26,20 @@ pub struct BitwiseOperation {
     pub z: u8,
 }
 
-// The answer of a constructor that refuses.
-#[derive(Clone, Copy)]
-pub enum OperationAnswer {
-    Is(BitwiseOperation),
-    Refused(Refusal),
-}
-
 impl BitwiseOperation {
-    pub fn new(lookup_type: BitwiseOperationType, x: u8, y: u8, z: u8) -> OperationAnswer
+    #[tactic(auto, unfolding(bitwise::specs::Row::index_refusal, crate::specs::Operation::operation_of, answer::specs::Refusal::refuse_if))]
+    pub fn new(
+        lookup_type: BitwiseOperationType,
+        x: u8,
+        y: u8,
+        z: u8,
+    ) -> Result<BitwiseOperation, Refusal>
         ensures { result ≡ operation_of (operation lookup_type x y z) (index_refusal z) }
     {
         if z >= 16 {
-            return OperationAnswer::Refused(Refusal::PastEnd(16));
+            return Err(Refusal::PastEnd(16));
         }
-        OperationAnswer::Is(BitwiseOperation {
+        Ok(BitwiseOperation {
             lookup_type,
             x,
             y,
@@ -85,16 +84,17 @@ impl BitwiseOperation {
     }
 
     // ZERO of x + 256 y + 65,536 z.
-    pub fn zero(value: u32) -> OperationAnswer
+    #[tactic(auto, unfolding(crate::specs::Operation::zero_refusal, crate::specs::Operation::operation_of, answer::specs::Refusal::refuse_if))]
+    pub fn zero(value: u32) -> Result<BitwiseOperation, Refusal>
         ensures { result ≡ operation_of (twenty_bits Zero value) (zero_refusal value) }
     {
         if value >= 1048576 {
-            return OperationAnswer::Refused(Refusal::PastEnd(1048576));
+            return Err(Refusal::PastEnd(1048576));
         }
         let x = value % 256;
         let y = value / 256 % 256;
         let z = value / 65536;
-        OperationAnswer::Is(BitwiseOperation {
+        Ok(BitwiseOperation {
             lookup_type: BitwiseOperationType::Zero,
             x: x as u8,
             y: y as u8,
@@ -103,14 +103,19 @@ impl BitwiseOperation {
     }
 
     // HWSL of x + 256 y, by z.
-    pub fn shift_op(lookup_type: BitwiseOperationType, x: u8, y: u8, z: u8) -> OperationAnswer
+    pub fn shift_op(
+        lookup_type: BitwiseOperationType,
+        x: u8,
+        y: u8,
+        z: u8,
+    ) -> Result<BitwiseOperation, Refusal>
         ensures { result ≡ operation_of (operation lookup_type x y z) (index_refusal z) }
     {
         BitwiseOperation::new(lookup_type, x, y, z)
     }
 
     // IS_B20 of x + 256 y + 65,536 z.
-    pub fn b20(x: u8, y: u8, z: u8) -> OperationAnswer
+    pub fn b20(x: u8, y: u8, z: u8) -> Result<BitwiseOperation, Refusal>
         ensures { result ≡ operation_of (operation IsB20 x y z) (index_refusal z) }
     {
         BitwiseOperation::new(BitwiseOperationType::IsB20, x, y, z)

@@ -7,7 +7,7 @@ ghost use Rattle.lists.specs.Tab.{pick};
 ghost use Rattle.answer.specs.Refusal.{answer_of, number_of};
 ghost use Rattle.bitwise.specs.Row.{row_of_xyz, row-index, bitwise_row_refusal, index_refusal, bitwise_row_after};
 
-use answer::{Answer, Number, Refusal};
+use answer::Refusal;
 use bitwise::{NUM_PRECOMPUTED_COLS, NUM_ROWS};
 
 pub mod trace;
@@ -57,19 +57,20 @@ fn put_row(row: &mut [u64], x: u64, y: u64, z: u64)
 }
 
 // The eleven fixed columns of row `index`.
-pub fn generate_bitwise_row(index: usize, row: &mut [u64]) -> Answer
+#[tactic(auto, unfolding(bitwise::specs::Row::bitwise_row_refusal, answer::specs::Refusal::refuse_if, answer::specs::Refusal::answer_of, answer::specs::Refusal::afterwards))]
+pub fn generate_bitwise_row(index: usize, row: &mut [u64]) -> Result<(), Refusal>
     ensures answer { result ≡ answer_of (bitwise_row_refusal index row.old) }
     ensures words { row.new ≡ bitwise_row_after index row.old }
 {
     if index >= NUM_ROWS {
-        return Answer::Refused(Refusal::PastEnd(NUM_ROWS as u64));
+        return Err(Refusal::PastEnd(NUM_ROWS as u64));
     }
     if row.len() < NUM_PRECOMPUTED_COLS {
-        return Answer::Refused(Refusal::TooShort(NUM_PRECOMPUTED_COLS as u64));
+        return Err(Refusal::TooShort(NUM_PRECOMPUTED_COLS as u64));
     }
     let i = index as u64;
     put_row(row, i % 256, i / 256 % 256, i / 65536 % 16);
-    Answer::Done
+    Ok(())
 }
 
 // The index of the row of x, y and z.
@@ -81,12 +82,13 @@ pub fn row_of(x: u8, y: u8, z: u8) -> usize
 }
 
 // The same for any z: 16 or more is refused.
-pub fn row_index(x: u8, y: u8, z: u8) -> Number
+#[tactic(auto, unfolding(bitwise::specs::Row::index_refusal, answer::specs::Refusal::refuse_if, answer::specs::Refusal::number_of))]
+pub fn row_index(x: u8, y: u8, z: u8) -> Result<u64, Refusal>
     ensures { result ≡ number_of (row-index x y z) (index_refusal z) }
 {
     if 16 <= z {
-        return Number::Refused(Refusal::PastEnd(16));
+        return Err(Refusal::PastEnd(16));
     }
     let index = row_of(x, y, z);
-    Number::Is(index as u64)
+    Ok(index as u64)
 }

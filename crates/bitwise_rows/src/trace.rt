@@ -5,7 +5,7 @@ ghost use Rattle.answer.specs.Refusal.{answer_of};
 ghost use Rattle.bitwise.specs.Table.{trace_row, bitwise_table, trace_refusal, trace_after};
 
 use super::put_row;
-use answer::{Answer, Refusal};
+use answer::Refusal;
 use bits::put_zeros;
 use bitwise::{NUM_COLUMNS, NUM_LOOKUP_TYPES, NUM_PRECOMPUTED_COLS, NUM_ROWS, TABLE_WORDS};
 
@@ -22,23 +22,22 @@ fn put_table(table: &mut [u64])
     requires { 22020096 ≤ length table.old }
     ensures { table.new ≡ sets table.old 0 bitwise_table }
 {
-    let mut i: usize = 0;
-    while i < NUM_ROWS {
+    for i in 0..NUM_ROWS {
         let at = i * NUM_COLUMNS;
         let end = at + NUM_COLUMNS;
         put_trace_row(&mut table[at..end], i as u64);
-        i += 1;
     }
 }
 
 // The whole table, each multiplicity being 0.
-pub fn generate_bitwise_trace(table: &mut [u64]) -> Answer
+#[tactic(auto, unfolding(bitwise::specs::Table::trace_refusal, answer::specs::Refusal::refuse_if, answer::specs::Refusal::answer_of, answer::specs::Refusal::afterwards))]
+pub fn generate_bitwise_trace(table: &mut [u64]) -> Result<(), Refusal>
     ensures answer { result ≡ answer_of (trace_refusal table.old) }
     ensures words { table.new ≡ trace_after table.old }
 {
     if table.len() < TABLE_WORDS {
-        return Answer::Refused(Refusal::TooShort(TABLE_WORDS as u64));
+        return Err(Refusal::TooShort(TABLE_WORDS as u64));
     }
     put_table(table);
-    Answer::Done
+    Ok(())
 }

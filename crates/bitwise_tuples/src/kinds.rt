@@ -6,6 +6,7 @@ use bitwise::BitwiseOperationType;
 use tuple::Bus;
 
 // The kind of a number below 10; past that the last one.
+#[tactic(auto, unfolding(bitwise::specs::Tuples::kind_at))]
 pub fn kind_at(index: usize) -> BitwiseOperationType
     ensures { result ≡ kind_at index }
 {

@@ -29,6 +29,7 @@ fn twenty(x: u64, y: u64, z: u64) -> u64
 }
 
 // The values of a kind, then zeros.
+#[tactic(auto, unfolding(lists::specs::Tab::tab, lists::specs::Tab::tab_from))]
 pub fn kind_values(row: &[u64], kind: BitwiseOperationType) -> [u64; 4]
     requires { (11 ≤ length row.now) × (word row.now 0 < p) }
     ensures { result ≡ tab 4 (word (kind_values row.now kind)) }

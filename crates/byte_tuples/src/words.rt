@@ -61,8 +61,7 @@ pub fn put_alu_lane(
     ensures { out.new ≡ sets out.old at (tuples_words (alu_lane multiplicity (op_number op) a.now b.now row.now c) 8) }
 {
     let number = op_number(op);
-    let mut z: usize = 0;
-    while z < 8 {
+    for z in 0..8 {
         put_alu(
             out,
             at + 8 * z,
@@ -72,7 +71,6 @@ pub fn put_alu_lane(
             b[z],
             row[c + z],
         );
-        z += 1;
     }
 }
 
@@ -81,9 +79,7 @@ pub fn put_bytes_lane(row: &[u64], a: usize, b: usize, out: &mut [u64], at: usiz
     requires { (a + 8 ≤ length row.now) × (b + 8 ≤ length row.now) × (at + 48 ≤ length out.old) }
     ensures { out.new ≡ sets out.old at (tuples_words (bytes_lane row.now a b) 8) }
 {
-    let mut z: usize = 0;
-    while z < 8 {
+    for z in 0..8 {
         put_bytes(out, at + 6 * z, row[a + z], row[b + z]);
-        z += 1;
     }
 }

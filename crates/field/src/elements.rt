@@ -6,7 +6,6 @@ ghost use Rattle.field.specs.Field.{p};
 ghost use Rattle.field.specs.Elements.{first_not_element};
 
 use super::Fe;
-use lists::Place;
 
 // The OR of the first n words. No word is above it, so where it is below P each of them is an element; the loop has no
 // branch, and most rows need no more than this.
@@ -15,36 +14,32 @@ fn joined(words: &[u64], n: usize) -> u64
     ensures { result < p → first_not_element words.now n ≡ none }
 {
     let mut all: u64 = 0;
-    let mut k: usize = 0;
-    while k < n {
+    for k in 0..n {
         all = all | words[k];
-        k += 1;
     }
     all
 }
 
 // The place of the first of n words that is P or more, word by word.
-fn scanned(words: &[u64], n: usize) -> Place
+fn scanned(words: &[u64], n: usize) -> Option<usize>
     requires { n ≤ length words.now }
     ensures { result ≡ place_of (first_not_element words.now n) }
 {
-    let mut k = 0;
-    while k < n {
+    for k in 0..n {
         if words[k] >= Fe::P {
-            return Place::At(k);
+            return Some(k);
         }
-        k += 1;
     }
-    Place::Nowhere
+    None
 }
 
 // The place of the first of the first n words that is P or more.
-pub fn first_not_element(words: &[u64], n: usize) -> Place
+pub fn first_not_element(words: &[u64], n: usize) -> Option<usize>
     requires { n ≤ length words.now }
     ensures { result ≡ place_of (first_not_element words.now n) }
 {
     if joined(words, n) < Fe::P {
-        return Place::Nowhere;
+        return None;
     }
     scanned(words, n)
 }

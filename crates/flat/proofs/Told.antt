@@ -11,42 +11,29 @@
 -- So of words that are all 0, of a refusal and of a failure nothing reads as good.
 use Prim.Native.Nat.{ℕ}
 use mathlib.Core.Path.{◌≡◌, refl, ap}
+use mathlib.Core.Bool.{Bool, true, false}
 use mathlib.Core.Logic.{◌↔◌}
-use mathlib.Core.List.{List, [], ◌∷◌}
+use mathlib.Core.List.{[], ◌∷◌}
 use native.Mathlib.Omega.{arith}
 use Rattle.answer.specs.Refusal.{refusal_number}
 use Rattle.answer.specs.declared.Refusal.{Refusal}
 use Rattle.answer.specs.declared.Refusal.TheVariants.{PastEnd, NotWhole, TooShort, HighAddress, NotElement, BadRecord, Unaligned, Rounds, Floor, Register, Segment, LongMessage, LateTimestamp, Files}
-use Rattle.answer.specs.declared.Answer.{Answer}
-use Rattle.answer.specs.declared.Answer.TheVariants.{Done, Refused}
-use Rattle.answer.specs.declared.Number.{Number}
-use Rattle.answer.specs.declared.Number.TheVariants as number
-use Rattle.tuple.specs.declared.TupleAnswer.{TupleAnswer}
-use Rattle.tuple.specs.declared.TupleAnswer.TheVariants as tuple
 use Rattle.tuple.specs.declared.BusInteraction.{BusInteraction}
 use Rattle.bitwise_operations.specs.declared.BitwiseOperation.{BitwiseOperation}
-use Rattle.bitwise_operations.specs.declared.OperationAnswer.{OperationAnswer}
-use Rattle.bitwise_operations.specs.declared.OperationAnswer.TheVariants as lookup
 use Rattle.op_file.specs.declared.Sums.{Sums}
-use Rattle.op_file.specs.declared.Whole.{Whole}
-use Rattle.op_file.specs.declared.Begun.{Begun}
-use Rattle.op_file.specs.declared.Cursor.{Cursor}
-use Rattle.op_file.specs.declared.Cursor.TheVariants as cursor
-use Rattle.op_file.specs.declared.Tally.{Tally}
-use Rattle.op_file.specs.declared.Tally.TheVariants as tally
+use Rattle.op_file.specs.declared.Reading.{Reading}
 use Rattle.verdict.specs.Verdict.{verdict_words}
 use Rattle.verdict.specs.declared.Table.TheVariants.{Core, Round}
 use Rattle.verdict.specs.declared.Verdict.{Verdict}
 use Rattle.verdict.specs.declared.Verdict.TheVariants as verdict
 use Rattle.same_operations.specs.declared.Agreement.{Agreement}
 use Rattle.same_operations.specs.declared.Agreement.TheVariants as agreement
-use Rattle.message.specs.declared.Judgement.{Judgement}
-use Rattle.message.specs.declared.Judgement.TheVariants as judgement
 use Rattle.flat.specs.declared.FlatCursor.{FlatCursor}
 use Rattle.flat.specs.Flat.{flat_answer, flat_number, flat_tuple}
 use Rattle.flat.specs.FlatLookup.{flat_lookup}
 use Rattle.flat.specs.FlatReader.{refusal_of, cursor_of, flat_cursor, flat_tally}
 use Rattle.flat.specs.FlatJudged.{failure, failed_in, flat_verdict, flat_agreement, flat_reply}
+use Rattle.std.specs.Prelude.{Result, Ok, Err, ⊤}
 
 pub refusal-counts : (r : Refusal) → refusal_number r ≡ 0 → ⊥
 refusal-counts (PastEnd d) e = omega (arith, e)
@@ -67,37 +54,37 @@ refusal-counts (Files d) e = omega (arith, e)
 not-one : {A : Type 0} → ◌≡◌ {A = ℕ} 0 1 → A
 not-one e = absurd (omega (arith, e))
 
-pub answer-done : (a : Answer) → ((flat_answer a).done ≡ 1) ↔ (a ≡ Done)
+pub answer-done : (a : Result ⊤ Refusal) → ((flat_answer a).done ≡ 1) ↔ (a ≡ Ok tt)
 unfolding flat_answer
-answer-done Done = (λ e. refl, λ e. refl)
-answer-done (Refused r) = (λ e. not-one e, λ e. ap (λ (b : Answer). (flat_answer b).done) e)
+answer-done (Ok tt) = (λ e. refl, λ e. refl)
+answer-done (Err r) = (λ e. not-one e, λ e. ap (λ (b : Result ⊤ Refusal). (flat_answer b).done) e)
 
-pub number-done : (a : Number) → ((flat_number a).done ≡ 1) ↔ ((n : ℕ) × (a ≡ number.Is n))
+pub number-done : (a : Result ℕ Refusal) → ((flat_number a).done ≡ 1) ↔ ((n : ℕ) × (a ≡ Ok n))
 unfolding flat_number
-number-done (number.Is n) = (λ e. (n, refl), λ e. refl)
-number-done (number.Refused r) = (λ e. not-one e, λ e. ap (λ (b : Number). (flat_number b).done) e.1)
+number-done (Ok n) = (λ e. (n, refl), λ e. refl)
+number-done (Err r) = (λ e. not-one e, λ e. ap (λ (b : Result ℕ Refusal). (flat_number b).done) e.1)
 
-pub tuple-done : (a : TupleAnswer) → ((flat_tuple a).done ≡ 1) ↔ ((t : BusInteraction) × (a ≡ tuple.Is t))
+pub tuple-done : (a : Result BusInteraction Refusal) → ((flat_tuple a).done ≡ 1) ↔ ((t : BusInteraction) × (a ≡ Ok t))
 unfolding flat_tuple
-tuple-done (tuple.Is t) = (λ e. (t, refl), λ e. refl)
-tuple-done (tuple.Refused r) = (λ e. not-one e, λ e. ap (λ (b : TupleAnswer). (flat_tuple b).done) e.1)
+tuple-done (Ok t) = (λ e. (t, refl), λ e. refl)
+tuple-done (Err r) = (λ e. not-one e, λ e. ap (λ (b : Result BusInteraction Refusal). (flat_tuple b).done) e.1)
 
-pub lookup-done : (a : OperationAnswer) → ((flat_lookup a).done ≡ 1) ↔ ((op : BitwiseOperation) × (a ≡ lookup.Is op))
+pub lookup-done : (a : Result BitwiseOperation Refusal) → ((flat_lookup a).done ≡ 1) ↔ ((op : BitwiseOperation) × (a ≡ Ok op))
 unfolding flat_lookup
-lookup-done (lookup.Is op) = (λ e. (op, refl), λ e. refl)
-lookup-done (lookup.Refused r) = (λ e. not-one e, λ e. ap (λ (b : OperationAnswer). (flat_lookup b).done) e.1)
+lookup-done (Ok op) = (λ e. (op, refl), λ e. refl)
+lookup-done (Err r) = (λ e. not-one e, λ e. ap (λ (b : Result BitwiseOperation Refusal). (flat_lookup b).done) e.1)
 
-pub tally-done : (a : Tally) → ((flat_tally a).done ≡ 1) ↔ ((s : Sums) × (a ≡ tally.Counted s))
+pub tally-done : (a : Result Sums Refusal) → ((flat_tally a).done ≡ 1) ↔ ((s : Sums) × (a ≡ Ok s))
 unfolding flat_tally
-tally-done (tally.Counted s) = (λ e. (s, refl), λ e. refl)
-tally-done (tally.Refused r) = (λ e. not-one e, λ e. ap (λ (b : Tally). (flat_tally b).done) e.1)
+tally-done (Ok s) = (λ e. (s, refl), λ e. refl)
+tally-done (Err r) = (λ e. not-one e, λ e. ap (λ (b : Result Sums Refusal). (flat_tally b).done) e.1)
 
-pub cursor-reading : (c : Cursor) → ((flat_cursor c).reading ≡ 1) ↔ ((w : Whole) × (p : Begun) × (c ≡ cursor.Reading w p))
+pub cursor-reading : (c : Result Reading Refusal) → ((flat_cursor c).reading ≡ 1) ↔ ((p : Reading) × (c ≡ Ok p))
 unfolding flat_cursor
-cursor-reading (cursor.Reading w p) = (λ e. (w, p, refl), λ e. refl)
-cursor-reading (cursor.Refused r) = (λ e. not-one e, λ e. ap (λ (d : Cursor). (flat_cursor d).reading) e.2)
+cursor-reading (Ok p) = (λ e. (p, refl), λ e. refl)
+cursor-reading (Err r) = (λ e. not-one e, λ e. ap (λ (d : Result Reading Refusal). (flat_cursor d).reading) e.1)
 
-pub zeros-refused : (c : FlatCursor) → c.reading ≡ 0 → c.refusal ≡ 0 → cursor_of c ≡ cursor.Refused (BadRecord c.detail)
+pub zeros-refused : (c : FlatCursor) → c.reading ≡ 0 → c.refusal ≡ 0 → cursor_of c ≡ Err (BadRecord c.detail)
 unfolding cursor_of refusal_of
 zeros-refused c e q = rw (e, q)
 
@@ -124,18 +111,18 @@ pub verdict-count : (n : ℕ) → (flat_verdict (verdict.Holds n)).active ≡ n
 unfolding flat_verdict
 verdict-count n = refl
 
-pub agreement-same : (a : Agreement) → ((flat_agreement a).same ≡ 1) ↔ (a ≡ agreement.Same)
+pub agreement-same : (a : Result Agreement Refusal) → ((flat_agreement a).same ≡ 1) ↔ (a ≡ Ok agreement.Same)
 unfolding flat_agreement
-agreement-same agreement.Same = (λ e. refl, λ e. refl)
-agreement-same (agreement.Record i) = (λ e. not-one e, λ e. ap (λ (b : Agreement). (flat_agreement b).same) e)
-agreement-same (agreement.Row r) = (λ e. not-one e, λ e. ap (λ (b : Agreement). (flat_agreement b).same) e)
-agreement-same (agreement.Refused r) = (λ e. not-one e, λ e. ap (λ (b : Agreement). (flat_agreement b).same) e)
+agreement-same (Ok agreement.Same) = (λ e. refl, λ e. refl)
+agreement-same (Ok (agreement.Record i)) = (λ e. not-one e, λ e. ap (λ (b : Result Agreement Refusal). (flat_agreement b).same) e)
+agreement-same (Ok (agreement.Row r)) = (λ e. not-one e, λ e. ap (λ (b : Result Agreement Refusal). (flat_agreement b).same) e)
+agreement-same (Err r) = (λ e. not-one e, λ e. ap (λ (b : Result Agreement Refusal). (flat_agreement b).same) e)
 
-pub reply-yes : (a : Judgement) → ((flat_reply a).yes ≡ 1) ↔ (a ≡ judgement.Yes)
+pub reply-yes : (a : Result Bool Refusal) → ((flat_reply a).yes ≡ 1) ↔ (a ≡ Ok true)
 unfolding flat_reply
-reply-yes judgement.Yes = (λ e. refl, λ e. refl)
-reply-yes judgement.No = (λ e. not-one e, λ e. ap (λ (b : Judgement). (flat_reply b).yes) e)
-reply-yes (judgement.Refused r) = (λ e. not-one e, λ e. ap (λ (b : Judgement). (flat_reply b).yes) e)
+reply-yes (Ok true) = (λ e. refl, λ e. refl)
+reply-yes (Ok false) = (λ e. not-one e, λ e. ap (λ (b : Result Bool Refusal). (flat_reply b).yes) e)
+reply-yes (Err r) = (λ e. not-one e, λ e. ap (λ (b : Result Bool Refusal). (flat_reply b).yes) e)
 
 -- ---- kinds
 
@@ -155,12 +142,12 @@ pub verdict-kind : (v : Verdict) → ((flat_verdict v).kind ≡ 0) ↔ ((r : Ref
 unfolding flat_verdict
 verdict-kind v = (no_kind v, λ e. ap (λ (w : Verdict). (flat_verdict w).kind) e.1)
 
-pub agreement-kind : (a : Agreement) → ((flat_agreement a).kind ≡ 0) ↔ ((r : Refusal) × (a ≡ agreement.Refused r))
+pub agreement-kind : (a : Result Agreement Refusal) → ((flat_agreement a).kind ≡ 0) ↔ ((r : Refusal) × (a ≡ Err r))
 unfolding flat_agreement
-agreement-kind agreement.Same = (λ e. absurd (omega (arith, e)), λ e. ap (λ (b : Agreement). (flat_agreement b).kind) e.1)
-agreement-kind (agreement.Record i) = (λ e. absurd (omega (arith, e)), λ e. ap (λ (b : Agreement). (flat_agreement b).kind) e.1)
-agreement-kind (agreement.Row r) = (λ e. absurd (omega (arith, e)), λ e. ap (λ (b : Agreement). (flat_agreement b).kind) e.1)
-agreement-kind (agreement.Refused r) = (λ e. (r, refl), λ e. refl)
+agreement-kind (Ok agreement.Same) = (λ e. absurd (omega (arith, e)), λ e. ap (λ (b : Result Agreement Refusal). (flat_agreement b).kind) e.1)
+agreement-kind (Ok (agreement.Record i)) = (λ e. absurd (omega (arith, e)), λ e. ap (λ (b : Result Agreement Refusal). (flat_agreement b).kind) e.1)
+agreement-kind (Ok (agreement.Row r)) = (λ e. absurd (omega (arith, e)), λ e. ap (λ (b : Result Agreement Refusal). (flat_agreement b).kind) e.1)
+agreement-kind (Err r) = (λ e. (r, refl), λ e. refl)
 
 -- of a verdict that is neither refused nor `holds`
 pub failure-words : (v : Verdict) → (flat_verdict v).refusal ≡ 0 → (flat_verdict v).holds ≡ 0

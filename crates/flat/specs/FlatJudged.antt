@@ -1,16 +1,15 @@
 -- What is judged, as a host sees it. `holds`, `same` and `yes` are 1 exactly where the tables hold, where file and table are
 -- the same, and where the list is the message's; a kind begins at 1, so that of words that are all 0, of a refusal and of a
 -- failure nothing reads as good (proofs/Told.antt).
-use Rattle.std.specs.Prelude.{ℕ}
+use Rattle.std.specs.Prelude.{ℕ, Bool, true, false, Result, Ok, Err}
 use Rattle.answer.specs.Refusal.{refusal_number, refusal_detail}
+use Rattle.answer.specs.declared.Refusal.{Refusal}
 use Rattle.verdict.specs.declared.Table.{Table}
 use Rattle.verdict.specs.declared.Table.TheVariants.{Core, Round}
 use Rattle.verdict.specs.declared.Verdict.{Verdict}
 use Rattle.verdict.specs.declared.Verdict.TheVariants.{Refused, Value, Lookup, Repeated, Unbalanced, Holds}
 use Rattle.same_operations.specs.declared.Agreement.{Agreement}
 use Rattle.same_operations.specs.declared.Agreement.TheVariants as agreement
-use Rattle.message.specs.declared.Judgement.{Judgement}
-use Rattle.message.specs.declared.Judgement.TheVariants as judgement
 use Rattle.flat.specs.declared.FlatVerdict.{FlatVerdict}
 use Rattle.flat.specs.declared.FlatAgreement.{FlatAgreement}
 use Rattle.flat.specs.declared.FlatReply.{FlatReply}
@@ -40,15 +39,15 @@ flat_verdict (Refused r) =
     record { refusal = refusal_number r; detail = refusal_detail r; holds = 0; active = 0; kind = 0; table = 0; row = 0; index = 0 }
 
 -- a file against a core table: "the first file record with no partner of its own", "the first active row left", "same"
-unfoldable pub flat_agreement : Agreement → FlatAgreement
-flat_agreement (agreement.Record i) = record { refusal = 0; detail = 0; same = 0; kind = 1; place = i }
-flat_agreement (agreement.Row r) = record { refusal = 0; detail = 0; same = 0; kind = 2; place = r }
-flat_agreement agreement.Same = record { refusal = 0; detail = 0; same = 1; kind = 3; place = 0 }
-flat_agreement (agreement.Refused r) =
+unfoldable pub flat_agreement : Result Agreement Refusal → FlatAgreement
+flat_agreement (Ok (agreement.Record i)) = record { refusal = 0; detail = 0; same = 0; kind = 1; place = i }
+flat_agreement (Ok (agreement.Row r)) = record { refusal = 0; detail = 0; same = 0; kind = 2; place = r }
+flat_agreement (Ok agreement.Same) = record { refusal = 0; detail = 0; same = 1; kind = 3; place = 0 }
+flat_agreement (Err r) =
     record { refusal = refusal_number r; detail = refusal_detail r; same = 0; kind = 0; place = 0 }
 
 -- a list against a message
-unfoldable pub flat_reply : Judgement → FlatReply
-flat_reply judgement.Yes = record { refusal = 0; detail = 0; yes = 1 }
-flat_reply judgement.No = record { refusal = 0; detail = 0; yes = 0 }
-flat_reply (judgement.Refused r) = record { refusal = refusal_number r; detail = refusal_detail r; yes = 0 }
+unfoldable pub flat_reply : Result Bool Refusal → FlatReply
+flat_reply (Ok true) = record { refusal = 0; detail = 0; yes = 1 }
+flat_reply (Ok false) = record { refusal = 0; detail = 0; yes = 0 }
+flat_reply (Err r) = record { refusal = refusal_number r; detail = refusal_detail r; yes = 0 }

@@ -5,17 +5,18 @@ use Rattle.answer.specs.Refusal.{refusal_number, refusal_detail}
 use Rattle.answer.specs.declared.Refusal.TheVariants.{PastEnd}
 use Rattle.bitwise.specs.Columns.{NUM-LOOKUP-TYPES}
 use Rattle.bitwise.specs.Tuples.{lookup-type-index}
-use Rattle.bitwise_operations.specs.declared.OperationAnswer.{OperationAnswer}
-use Rattle.bitwise_operations.specs.declared.OperationAnswer.TheVariants.{Is, Refused}
 use Rattle.flat.specs.declared.FlatLookup.{FlatLookup}
+use Rattle.std.specs.Prelude.{Result, Ok, Err}
+use Rattle.answer.specs.declared.Refusal.{Refusal}
+use Rattle.bitwise_operations.specs.declared.BitwiseOperation.{BitwiseOperation}
 
 -- 1: "kind (≥ 10) .. past its end, detail the least number refused"; else what the constructor answers
-unfoldable pub of_kind : ℕ → OperationAnswer → OperationAnswer
-of_kind kind answer = pick (leb NUM-LOOKUP-TYPES kind) (Refused (PastEnd NUM-LOOKUP-TYPES)) answer
+unfoldable pub of_kind : ℕ → Result BitwiseOperation Refusal → Result BitwiseOperation Refusal
+of_kind kind answer = pick (leb NUM-LOOKUP-TYPES kind) (Err (PastEnd NUM-LOOKUP-TYPES)) answer
 
 -- the four words of a lookup in a list
-unfoldable pub flat_lookup : OperationAnswer → FlatLookup
-flat_lookup (Is op) =
+unfoldable pub flat_lookup : Result BitwiseOperation Refusal → FlatLookup
+flat_lookup (Ok op) =
     record {
       refusal = 0;
       detail = 0;
@@ -25,4 +26,4 @@ flat_lookup (Is op) =
       y = op.y;
       z = op.z;
     }
-flat_lookup (Refused r) = record { refusal = refusal_number r; detail = refusal_detail r; done = 0; kind = 0; x = 0; y = 0; z = 0 }
+flat_lookup (Err r) = record { refusal = refusal_number r; detail = refusal_detail r; done = 0; kind = 0; x = 0; y = 0; z = 0 }

@@ -5,12 +5,12 @@ use Rattle.lists.specs.Tab.{pick}
 use Rattle.answer.specs.Refusal.{refusal_number, refusal_detail}
 use Rattle.answer.specs.declared.Refusal.{Refusal}
 use Rattle.answer.specs.declared.Refusal.TheVariants.{PastEnd, NotWhole, TooShort, HighAddress, NotElement, BadRecord, Unaligned, Rounds, Floor, Register, Segment, LongMessage, LateTimestamp, Files}
-use Rattle.op_file.specs.declared.Cursor.{Cursor}
-use Rattle.op_file.specs.declared.Cursor.TheVariants as cursor
-use Rattle.op_file.specs.declared.Tally.{Tally}
-use Rattle.op_file.specs.declared.Tally.TheVariants as tally
+use Rattle.op_file.specs.declared.Reading.{Reading}
+use Rattle.op_file.specs.Reader.{reading}
 use Rattle.flat.specs.declared.FlatCursor.{FlatCursor}
 use Rattle.flat.specs.declared.FlatTally.{FlatTally}
+use Rattle.std.specs.Prelude.{Result, Ok, Err}
+use Rattle.op_file.specs.declared.Sums.{Sums}
 
 -- the refusal of this number and detail
 unfoldable pub refusal_of : ℕ → ℕ → Refusal
@@ -31,17 +31,19 @@ refusal_of number detail =
     (BadRecord detail)))))))))))))
 
 -- a reader that has met no fault: each of its words is one of the struct's
-unfoldable pub reading_of : FlatCursor → Cursor
+unfoldable pub reading_of : FlatCursor → Reading
 reading_of c =
-    cursor.Reading
+    reading
     (record { n = c.records; unaligned = c.unaligned; start = c.start; segments = record { shown = c.segments; least = c.least_segment; greatest = c.greatest_segment } })
     (record { at = c.at; mark = c.mark; addr = c.address; tail = c.tail })
 
-unfoldable pub cursor_of : FlatCursor → Cursor
-cursor_of c = pick (eqb c.reading 1) (reading_of c) (cursor.Refused (refusal_of c.refusal c.detail))
+unfoldable pub cursor_of : FlatCursor → Result Reading Refusal
+cursor_of c = pick (eqb c.reading 1) (Ok (reading_of c)) (Err (refusal_of c.refusal c.detail))
 
-unfoldable pub flat_cursor : Cursor → FlatCursor
-flat_cursor (cursor.Reading w p) =
+unfoldable pub flat_cursor : Result Reading Refusal → FlatCursor
+flat_cursor (Ok c) =
+    let w = c.whole in
+    let p = c.begun in
     record {
       refusal = 0;
       detail = 0;
@@ -57,7 +59,7 @@ flat_cursor (cursor.Reading w p) =
       least_segment = w.segments.least;
       greatest_segment = w.segments.greatest;
     }
-flat_cursor (cursor.Refused r) =
+flat_cursor (Err r) =
     record {
       refusal = refusal_number r;
       detail = refusal_detail r;
@@ -74,8 +76,8 @@ flat_cursor (cursor.Refused r) =
       greatest_segment = 0;
     }
 
-unfoldable pub flat_tally : Tally → FlatTally
-flat_tally (tally.Counted s) =
+unfoldable pub flat_tally : Result Sums Refusal → FlatTally
+flat_tally (Ok s) =
     record {
       refusal = 0;
       detail = 0;
@@ -95,7 +97,7 @@ flat_tally (tally.Counted s) =
       least_segment = s.segments.least;
       greatest_segment = s.segments.greatest;
     }
-flat_tally (tally.Refused r) =
+flat_tally (Err r) =
     record {
       refusal = refusal_number r;
       detail = refusal_detail r;

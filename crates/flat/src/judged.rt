@@ -3,11 +3,12 @@ ghost use Rattle.std.specs.Prelude.{◌≡◌};
 ghost use Rattle.flat.specs.FlatJudged.{failure, failed_in, flat_verdict, flat_agreement, flat_reply};
 
 use super::{FlatAgreement, FlatReply, FlatVerdict};
-use message::Judgement;
+use answer::Refusal;
 use same_operations::Agreement;
 use verdict::{Table, Verdict};
 
 // A failure by its kind and its table, 0 core and 1 round.
+#[tactic(auto, unfolding(crate::specs::FlatJudged::failure))]
 fn failure(kind: u64, table: u64, row: usize, index: usize) -> FlatVerdict
     ensures { result ≡ failure kind table row index }
 {
@@ -24,6 +25,7 @@ fn failure(kind: u64, table: u64, row: usize, index: usize) -> FlatVerdict
 }
 
 // A failure of one kind in a core row, of another in a round row.
+#[tactic(auto, unfolding(crate::specs::FlatJudged::failed_in))]
 fn failed(core: u64, round: u64, table: Table, row: usize, index: usize) -> FlatVerdict
     ensures { result ≡ failed_in core round table row index }
 {
@@ -33,6 +35,7 @@ fn failed(core: u64, round: u64, table: Table, row: usize, index: usize) -> Flat
     }
 }
 
+#[tactic(auto, unfolding(crate::specs::FlatJudged::flat_verdict))]
 pub fn flat_verdict(verdict: Verdict) -> FlatVerdict
     ensures { result ≡ flat_verdict verdict }
 {
@@ -64,32 +67,33 @@ pub fn flat_verdict(verdict: Verdict) -> FlatVerdict
     }
 }
 
-pub fn flat_agreement(answer: Agreement) -> FlatAgreement
+#[tactic(auto, unfolding(crate::specs::FlatJudged::flat_agreement))]
+pub fn flat_agreement(answer: Result<Agreement, Refusal>) -> FlatAgreement
     ensures { result ≡ flat_agreement answer }
 {
     match answer {
-        Agreement::Same => FlatAgreement {
+        Ok(Agreement::Same) => FlatAgreement {
             refusal: 0,
             detail: 0,
             same: 1,
             kind: 3,
             place: 0,
         },
-        Agreement::Record(record) => FlatAgreement {
+        Ok(Agreement::Record(record)) => FlatAgreement {
             refusal: 0,
             detail: 0,
             same: 0,
             kind: 1,
             place: record as u64,
         },
-        Agreement::Row(row) => FlatAgreement {
+        Ok(Agreement::Row(row)) => FlatAgreement {
             refusal: 0,
             detail: 0,
             same: 0,
             kind: 2,
             place: row as u64,
         },
-        Agreement::Refused(refusal) => FlatAgreement {
+        Err(refusal) => FlatAgreement {
             refusal: refusal.number(),
             detail: refusal.detail(),
             same: 0,
@@ -99,21 +103,17 @@ pub fn flat_agreement(answer: Agreement) -> FlatAgreement
     }
 }
 
-pub fn flat_reply(judgement: Judgement) -> FlatReply
+#[tactic(auto, unfolding(crate::specs::FlatJudged::flat_reply))]
+pub fn flat_reply(judgement: Result<bool, Refusal>) -> FlatReply
     ensures { result ≡ flat_reply judgement }
 {
     match judgement {
-        Judgement::Yes => FlatReply {
+        Ok(yes) => FlatReply {
             refusal: 0,
             detail: 0,
-            yes: 1,
+            yes: u64::from(yes),
         },
-        Judgement::No => FlatReply {
-            refusal: 0,
-            detail: 0,
-            yes: 0,
-        },
-        Judgement::Refused(refusal) => FlatReply {
+        Err(refusal) => FlatReply {
             refusal: refusal.number(),
             detail: refusal.detail(),
             yes: 0,

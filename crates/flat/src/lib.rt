@@ -7,9 +7,9 @@
 ghost use Rattle.std.specs.Prelude.{◌≡◌};
 ghost use Rattle.flat.specs.Flat.{flat_answer, flat_number, flat_tuple, flat_key};
 
-use answer::{Answer, Number};
+use answer::Refusal;
 use is_wh::IsWhKey;
-use tuple::TupleAnswer;
+use tuple::BusInteraction;
 use tuple::header::{bus_number, side_number};
 
 pub mod judged;
@@ -152,16 +152,17 @@ pub struct FlatTally {
     pub greatest_segment: u64,
 }
 
-pub fn flat_answer(answer: Answer) -> FlatAnswer
+#[tactic(auto, unfolding(crate::specs::Flat::flat_answer))]
+pub fn flat_answer(answer: Result<(), Refusal>) -> FlatAnswer
     ensures { result ≡ flat_answer answer }
 {
     match answer {
-        Answer::Done => FlatAnswer {
+        Ok(()) => FlatAnswer {
             refusal: 0,
             detail: 0,
             done: 1,
         },
-        Answer::Refused(refusal) => FlatAnswer {
+        Err(refusal) => FlatAnswer {
             refusal: refusal.number(),
             detail: refusal.detail(),
             done: 0,
@@ -169,17 +170,18 @@ pub fn flat_answer(answer: Answer) -> FlatAnswer
     }
 }
 
-pub fn flat_number(answer: Number) -> FlatNumber
+#[tactic(auto, unfolding(crate::specs::Flat::flat_number))]
+pub fn flat_number(answer: Result<u64, Refusal>) -> FlatNumber
     ensures { result ≡ flat_number answer }
 {
     match answer {
-        Number::Is(value) => FlatNumber {
+        Ok(value) => FlatNumber {
             refusal: 0,
             detail: 0,
             done: 1,
             value,
         },
-        Number::Refused(refusal) => FlatNumber {
+        Err(refusal) => FlatNumber {
             refusal: refusal.number(),
             detail: refusal.detail(),
             done: 0,
@@ -188,11 +190,12 @@ pub fn flat_number(answer: Number) -> FlatNumber
     }
 }
 
-pub fn flat_tuple(answer: TupleAnswer) -> FlatTuple
+#[tactic(auto, unfolding(crate::specs::Flat::flat_tuple))]
+pub fn flat_tuple(answer: Result<BusInteraction, Refusal>) -> FlatTuple
     ensures { result ≡ flat_tuple answer }
 {
     match answer {
-        TupleAnswer::Is(tuple) => {
+        Ok(tuple) => {
             let bus = tuple.bus;
             let side = tuple.side;
             FlatTuple {
@@ -205,7 +208,7 @@ pub fn flat_tuple(answer: TupleAnswer) -> FlatTuple
                 multiplicity: tuple.multiplicity,
             }
         }
-        TupleAnswer::Refused(refusal) => FlatTuple {
+        Err(refusal) => FlatTuple {
             refusal: refusal.number(),
             detail: refusal.detail(),
             done: 0,
@@ -217,6 +220,7 @@ pub fn flat_tuple(answer: TupleAnswer) -> FlatTuple
     }
 }
 
+#[tactic(auto, unfolding(crate::specs::Flat::flat_key))]
 pub fn flat_key(key: IsWhKey) -> FlatKey
     ensures { result ≡ flat_key key }
 {

@@ -5,23 +5,28 @@ ghost use Rattle.flat.specs.FlatLookup.{of_kind, flat_lookup};
 use super::FlatLookup;
 use answer::Refusal;
 use bitwise::NUM_LOOKUP_TYPES;
-use bitwise_operations::{OperationAnswer, lookup_type_index};
+use bitwise_operations::{BitwiseOperation, lookup_type_index};
 
 // Refused where the kind is past the last, before what the constructor says.
-pub fn of_kind(kind: usize, answer: OperationAnswer) -> OperationAnswer
+#[tactic(auto, unfolding(crate::specs::FlatLookup::of_kind))]
+pub fn of_kind(
+    kind: usize,
+    answer: Result<BitwiseOperation, Refusal>,
+) -> Result<BitwiseOperation, Refusal>
     ensures { result ≡ of_kind kind answer }
 {
     if kind >= NUM_LOOKUP_TYPES {
-        return OperationAnswer::Refused(Refusal::PastEnd(NUM_LOOKUP_TYPES as u64));
+        return Err(Refusal::PastEnd(NUM_LOOKUP_TYPES as u64));
     }
     answer
 }
 
-pub fn flat_lookup(answer: OperationAnswer) -> FlatLookup
+#[tactic(auto, unfolding(crate::specs::FlatLookup::flat_lookup))]
+pub fn flat_lookup(answer: Result<BitwiseOperation, Refusal>) -> FlatLookup
     ensures { result ≡ flat_lookup answer }
 {
     match answer {
-        OperationAnswer::Is(lookup) => {
+        Ok(lookup) => {
             let kind = lookup.lookup_type;
             FlatLookup {
                 refusal: 0,
@@ -33,7 +38,7 @@ pub fn flat_lookup(answer: OperationAnswer) -> FlatLookup
                 z: lookup.z as u64,
             }
         }
-        OperationAnswer::Refused(refusal) => FlatLookup {
+        Err(refusal) => FlatLookup {
             refusal: refusal.number(),
             detail: refusal.detail(),
             done: 0,

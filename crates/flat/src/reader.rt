@@ -4,8 +4,9 @@ ghost use Rattle.flat.specs.FlatReader.{refusal_of, reading_of, cursor_of, flat_
 
 use super::{FlatCursor, FlatTally};
 use answer::Refusal;
-use op_file::{Begun, Cursor, Segments, Tally, Whole};
+use op_file::{Begun, Reading, Segments, Sums, Whole};
 
+#[tactic(auto, unfolding(crate::specs::FlatReader::refusal_of))]
 fn refusal_of(number: u64, detail: u64) -> Refusal
     ensures { result ≡ refusal_of number detail }
 {
@@ -28,7 +29,8 @@ fn refusal_of(number: u64, detail: u64) -> Refusal
 }
 
 // A reader that has met no fault.
-fn reading(c: FlatCursor) -> Cursor
+#[tactic(auto, unfolding(crate::specs::FlatReader::reading_of))]
+fn reading(c: FlatCursor) -> Reading
     ensures { result ≡ reading_of c }
 {
     let segments = Segments {
@@ -36,35 +38,39 @@ fn reading(c: FlatCursor) -> Cursor
         least: c.least_segment,
         greatest: c.greatest_segment,
     };
-    let w = Whole {
+    let whole = Whole {
         n: c.records,
         unaligned: c.unaligned,
         start: c.start,
         segments,
     };
-    let p = Begun {
+    let begun = Begun {
         at: c.at,
         mark: c.mark,
         addr: c.address,
         tail: c.tail,
     };
-    Cursor::Reading(w, p)
+    Reading { whole, begun }
 }
 
-pub fn cursor_of(c: FlatCursor) -> Cursor
+#[tactic(auto, unfolding(crate::specs::FlatReader::cursor_of))]
+pub fn cursor_of(c: FlatCursor) -> Result<Reading, Refusal>
     ensures { result ≡ cursor_of c }
 {
     if c.reading == 1 {
-        return reading(c);
+        return Ok(reading(c));
     }
-    Cursor::Refused(refusal_of(c.refusal, c.detail))
+    Err(refusal_of(c.refusal, c.detail))
 }
 
-pub fn flat_cursor(c: Cursor) -> FlatCursor
+#[tactic(auto, unfolding(crate::specs::FlatReader::flat_cursor))]
+pub fn flat_cursor(c: Result<Reading, Refusal>) -> FlatCursor
     ensures { result ≡ flat_cursor c }
 {
     match c {
-        Cursor::Reading(w, p) => {
+        Ok(at) => {
+            let w = at.whole;
+            let p = at.begun;
             let s = w.segments;
             FlatCursor {
                 refusal: 0,
@@ -82,7 +88,7 @@ pub fn flat_cursor(c: Cursor) -> FlatCursor
                 greatest_segment: s.greatest,
             }
         }
-        Cursor::Refused(refusal) => FlatCursor {
+        Err(refusal) => FlatCursor {
             refusal: refusal.number(),
             detail: refusal.detail(),
             reading: 0,
@@ -100,11 +106,12 @@ pub fn flat_cursor(c: Cursor) -> FlatCursor
     }
 }
 
-pub fn flat_tally(tally: Tally) -> FlatTally
+#[tactic(auto, unfolding(crate::specs::FlatReader::flat_tally))]
+pub fn flat_tally(tally: Result<Sums, Refusal>) -> FlatTally
     ensures { result ≡ flat_tally tally }
 {
     match tally {
-        Tally::Counted(sums) => {
+        Ok(sums) => {
             let s = sums.segments;
             FlatTally {
                 refusal: 0,
@@ -126,7 +133,7 @@ pub fn flat_tally(tally: Tally) -> FlatTally
                 greatest_segment: s.greatest,
             }
         }
-        Tally::Refused(refusal) => FlatTally {
+        Err(refusal) => FlatTally {
             refusal: refusal.number(),
             detail: refusal.detail(),
             done: 0,

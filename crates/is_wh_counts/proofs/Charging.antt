@@ -13,7 +13,7 @@ use Rattle.lists.specs.Tab.{pick, word, row_at}
 use Rattle.lists.specs.Sum.{sum_below}
 use Rattle.lists.proofs.Sum.{sum_same, sum-const, sum-add, sum-hit}
 use Rattle.field.specs.Field.{p}
-use Rattle.tuple.specs.Tuple.{Tuple, sender, receiver}
+use Rattle.tuple.specs.Tuple.{sender}
 use Rattle.tuple.specs.declared.Bus.TheVariants.{IsHalfword, IsB20}
 use Rattle.bitwise.specs.Columns.{NUM-COUNTERS}
 use Rattle.bitwise.specs.Charge.{charged_row, charged}

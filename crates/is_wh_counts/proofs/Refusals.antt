@@ -11,7 +11,6 @@ use Rattle.lists.specs.Tab.{pick, word}
 use Rattle.lists.specs.First.{first_at}
 use Rattle.field.specs.Field.{p}
 use Rattle.answer.specs.Refusal.{accepted, answer_of}
-use Rattle.answer.specs.declared.Answer.TheVariants.{Done, Refused}
 use Rattle.answer.specs.declared.Refusal.{Refusal}
 use Rattle.answer.specs.declared.Refusal.TheVariants.{NotElement}
 use Rattle.answer.proofs.Laws.{at-yes, at-no, passed-at, refused, done, still-if, still-at}
@@ -25,6 +24,7 @@ use Rattle.is_wh_counts.specs.Counts.{is_wh_charged, grown_counters, collect_ref
 use Rattle.is_wh_counts.specs.Steps.{charge_some}
 use Rattle.is_wh_counts.proofs.Grown.{Grown, grown-none, grown-same, grown-below, grown-charge, grown-all, grown-counters}
 use Rattle.is_wh_counts.proofs.Charging.{list_adds, charged-is, none-charged}
+use Rattle.std.specs.Prelude.{Ok, Err}
 
 -- the first counter charged which is p or more
 abbrev pub first_charged : List ℕ → List ℕ → Option ℕ
@@ -68,7 +68,7 @@ module _ (rows counters : List ℕ) where
 
 -- ---- what is charged
 module _ (rows counters : List ℕ) where
-  pub collect-refused : {q : Refusal} → collect_refusal rows counters ≡ some q → (Refused q ≡ answer_of (collect_refusal rows counters)) × (counters ≡ collect_after rows counters)
+  pub collect-refused : {q : Refusal} → collect_refusal rows counters ≡ some q → (Err q ≡ answer_of (collect_refusal rows counters)) × (counters ≡ collect_after rows counters)
   unfolding collect_after
   collect-refused e = refused _ counters e
 
@@ -76,7 +76,7 @@ module _ (rows counters : List ℕ) where
     long : NUM-COUNTERS ≤ length counters
     long = (collect-passed rows counters ok).1.long
 
-    pub none_done : row_count rows ≡ 0 → (Done ≡ answer_of (collect_refusal rows counters)) × (counters ≡ collect_after rows counters)
+    pub none_done : row_count rows ≡ 0 → (Ok tt ≡ answer_of (collect_refusal rows counters)) × (counters ≡ collect_after rows counters)
     unfolding collect_after
     none_done e = done counters ok (grown-all (grown-none counters (is_wh_charged rows) (none-charged rows e)) long)
 
@@ -95,7 +95,7 @@ module _ (rows counters : List ℕ) where
         pub padding-charge : (5 < length C) × (0 < h - row_count rows → word C 5 < p)
         padding-charge = (omega (arith, grown-rows.long, long), λ q. grown-below grown-rows 5 (omega arith) (padding-below (omega (arith, tall, q))))
 
-        pub rows-done : {C' : List ℕ} → C' ≡ charge_some C 5 (h - row_count rows) → (Done ≡ answer_of (collect_refusal rows counters)) × (C' ≡ collect_after rows counters)
+        pub rows-done : {C' : List ℕ} → C' ≡ charge_some C 5 (h - row_count rows) → (Ok tt ≡ answer_of (collect_refusal rows counters)) × (C' ≡ collect_after rows counters)
         unfolding collect_after
         rows-done {C'} q =
             let a = grown-charge grown-rows 5 (h - row_count rows) long (omega arith) (λ k. padding-below (omega (arith, tall, k))) in

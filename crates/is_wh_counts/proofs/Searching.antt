@@ -1,9 +1,8 @@
 -- The search for the first counter charged which is p or more: row by row, then the padding's.
 use mathlib.Core.Bool.{Bool, true, false}
 use mathlib.Core.List.{List}
-use mathlib.Core.Option.{none}
 use mathlib.Core.Path.{◌≡◌, refl, sym, ap, subst, ◌∙◌}
-use Prim.Native.Nat.{ℕ, zero, suc, ◌+◌, ◌-◌, ◌*◌, ◌/◌, ◌%◌, ◌^◌, ◌≤◌, ◌<◌}
+use Prim.Native.Nat.{ℕ, zero, suc, ◌+◌, ◌-◌, ◌*◌, ◌/◌, ◌%◌, ◌≤◌, ◌<◌}
 use native.Mathlib.Numerals.{add-one}
 use native.Mathlib.Omega.{arith}
 use borrow.Author.Tests.{eq-eqb, ne_eqb}
@@ -12,7 +11,6 @@ use lib.ListN.{length}
 use Rattle.lists.specs.Tab.{pick, word}
 use Rattle.lists.specs.Sum.{sum_below}
 use Rattle.lists.specs.First.{first_at, place_of}
-use Rattle.lists.specs.declared.Place.TheVariants.{At, Nowhere}
 use Rattle.lists.proofs.Kept.{by-eq}
 use Rattle.bitwise.specs.Columns.{NUM-COUNTERS}
 use Rattle.bitwise.specs.Counters.{large_charged, lower_large}
@@ -23,6 +21,7 @@ use Rattle.is_wh_trace.specs.Trace.{row_count, is_wh_height}
 use Rattle.is_wh_counts.specs.Counts.{is_wh_charged}
 use Rattle.is_wh_counts.specs.Steps.{lower_some, lower_by_row, lower_by_rows}
 use Rattle.is_wh_counts.proofs.Charging.{list_adds, good-row, next-adds, charged-is, none-charged}
+use Rattle.std.specs.Prelude.{Some, None}
 
 module _ (C : List ℕ) (at n least : ℕ) where
   pub lower-none : n ≡ 0 → least ≡ lower_some C at n least
@@ -69,12 +68,12 @@ module _ (rows C : List ℕ) (g : GoodList 3 rows) where
         subst (Least (is_wh_charged rows) (word C) NUM-COUNTERS) (sym (e ∙ ap (λ (k : ℕ). lower_some C 5 (k - row_count rows) (lower_by_rows rows C (row_count rows))) tall))
         (least-same (least-some C (rows-searched (row_count rows) (omega arith)) 5 (is_wh_height rows - row_count rows) (omega arith)) (is_wh_charged rows) (λ c _. sym (charged-is rows has c)))
 
-    pub search-at : first < NUM-COUNTERS → At first ≡ place_of (first_at (large_charged (is_wh_charged rows) (word C)) NUM-COUNTERS)
+    pub search-at : first < NUM-COUNTERS → Some first ≡ place_of (first_at (large_charged (is_wh_charged rows) (word C)) NUM-COUNTERS)
     search-at l = sym (ap place_of (least-found searched l))
 
-    pub search-nowhere : NUM-COUNTERS ≤ first → Nowhere ≡ place_of (first_at (large_charged (is_wh_charged rows) (word C)) NUM-COUNTERS)
+    pub search-nowhere : NUM-COUNTERS ≤ first → None ≡ place_of (first_at (large_charged (is_wh_charged rows) (word C)) NUM-COUNTERS)
     search-nowhere l = sym (ap place_of (least-none searched l))
 
 -- no rows charge nothing
-pub nothing-charged : (rows C : List ℕ) → row_count rows ≡ 0 → Nowhere ≡ place_of (first_at (large_charged (is_wh_charged rows) (word C)) NUM-COUNTERS)
+pub nothing-charged : (rows C : List ℕ) → row_count rows ≡ 0 → None ≡ place_of (first_at (large_charged (is_wh_charged rows) (word C)) NUM-COUNTERS)
 nothing-charged rows C e = sym (ap place_of (large-none (is_wh_charged rows) (word C) NUM-COUNTERS (λ c _ h. absurd (omega (arith, none-charged rows e c, h)))))

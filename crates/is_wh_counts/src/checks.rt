@@ -9,12 +9,11 @@ ghost use Rattle.is_wh_rows.specs.Lists.{GoodList};
 ghost use Rattle.is_wh_counts.specs.Counts.{is_wh_charged, collect_refusal};
 ghost use Rattle.is_wh_counts.specs.Steps.{lower_some, lower_by_row, lower_by_rows};
 
-use answer::{Answer, Refusal};
+use answer::Refusal;
 use bitwise::{IS_B20, IS_HALF, NUM_COUNTERS, NUM_LOOKUP_TYPES};
 use bitwise_counts::lower_large;
 use is_wh_rows::checks::{ROW_SIZE, check_rows};
 use keccak::MIN_ROWS;
-use lists::Place;
 use operations::table_height;
 
 // The lower of `least` and counter `at`, if n is added to it and it is P or more.
@@ -55,8 +54,7 @@ fn lower_by_rows(rows: &[u64], n: usize, counters: &[u64]) -> usize
     ensures { result ≡ lower_by_rows rows.now counters.now n }
 {
     let mut least: usize = NUM_COUNTERS;
-    let mut i: usize = 0;
-    while i < n {
+    for i in 0..n {
         least = lower_by_row(
             counters,
             rows[3 * i],
@@ -64,38 +62,35 @@ fn lower_by_rows(rows: &[u64], n: usize, counters: &[u64]) -> usize
             rows[3 * i + 2],
             least,
         );
-        i += 1;
     }
     least
 }
 
 // The first of the counters that the table of a list charges, padding rows included, which is P or more.
-fn first_charged(rows: &[u64], counters: &[u64]) -> Place
+fn first_charged(rows: &[u64], counters: &[u64]) -> Option<usize>
     requires { GoodList 3 rows.now × (NUM-COUNTERS ≤ length counters.now) }
     ensures { result ≡ place_of (first_at (large_charged (is_wh_charged rows.now) (word counters.now)) NUM-COUNTERS) }
 {
     let n = rows.len() / ROW_SIZE;
     if n == 0 {
-        return Place::Nowhere;
+        return None;
     }
     let h = table_height(MIN_ROWS, n);
     let least = lower_by_rows(rows, n, counters);
     let first = lower_some(counters, IS_B20, (h - n) as u64, least);
     if first < NUM_COUNTERS {
-        return Place::At(first);
+        return Some(first);
     }
-    Place::Nowhere
+    None
 }
 
 // All of them.
-pub fn check_collect(rows: &[u64], counters: &[u64]) -> Answer
+pub fn check_collect(rows: &[u64], counters: &[u64]) -> Result<(), Refusal>
     ensures { result ≡ answer_of (collect_refusal rows.now counters.now) }
 {
-    if let Answer::Refused(refusal) = check_rows(rows, counters.len(), NUM_COUNTERS) {
-        return Answer::Refused(refusal);
+    check_rows(rows, counters.len(), NUM_COUNTERS)?;
+    if let Some(c) = first_charged(rows, counters) {
+        return Err(Refusal::NotElement(c as u64));
     }
-    if let Place::At(c) = first_charged(rows, counters) {
-        return Answer::Refused(Refusal::NotElement(c as u64));
-    }
-    Answer::Done
+    Ok(())
 }

@@ -13,7 +13,7 @@ ghost use Rattle.is_wh_trace.specs.Trace.{trace_row};
 ghost use Rattle.is_wh_counts.specs.Counts.{grown_counters, collect_refusal, collect_after};
 ghost use Rattle.is_wh_counts.specs.Steps.{charge_some, charged_by_row, RowBelow};
 
-use answer::Answer;
+use answer::Refusal;
 use bitwise::{IS_B20, IS_HALF, NUM_LOOKUP_TYPES};
 use bitwise_counts::charge_word;
 use is_wh_rows::checks::ROW_SIZE;
@@ -57,27 +57,23 @@ fn charge_rows(rows: &[u64], n: usize, counters: &mut [u64])
     requires { (NUM-COUNTERS ≤ length counters.old) × ((c : ℕ) → c < NUM-COUNTERS → 0 < charged n 5 (λ r. is_wh_tuple (trace_row rows.now r)) c → word counters.old c < p) × GoodList 3 rows.now × (n ≡ length rows.now / 3) }
     ensures { counters.new ≡ grown_counters counters.old (charged n 5 (λ r. is_wh_tuple (trace_row rows.now r))) }
 {
-    let mut i: usize = 0;
-    while i < n {
+    for i in 0..n {
         charge_row(counters, rows[3 * i], rows[3 * i + 1], rows[3 * i + 2]);
-        i += 1;
     }
 }
 
 // The lookups of the IS_WH table of a list of rows, charged to the counters of the bitwise table.
-pub fn collect_bitwise_from_is_wh(rows: &[u64], counters: &mut [u64]) -> Answer
+pub fn collect_bitwise_from_is_wh(rows: &[u64], counters: &mut [u64]) -> Result<(), Refusal>
     ensures answer { result ≡ answer_of (collect_refusal rows.now counters.old) }
     ensures counters { counters.new ≡ collect_after rows.now counters.old }
 {
-    if let Answer::Refused(refusal) = checks::check_collect(rows, counters) {
-        return Answer::Refused(refusal);
-    }
+    checks::check_collect(rows, counters)?;
     let n = rows.len() / ROW_SIZE;
     if n == 0 {
-        return Answer::Done;
+        return Ok(());
     }
     let h = table_height(MIN_ROWS, n);
     charge_rows(rows, n, counters);
     charge_some(counters, IS_B20, (h - n) as u64);
-    Answer::Done
+    Ok(())
 }

@@ -10,8 +10,6 @@ use lib.ListN.{length, take, drop}
 use lib.Seq.{sets, take_at}
 use Rattle.lists.proofs.Laws.{sets-front}
 use Rattle.answer.specs.declared.Refusal.{Refusal}
-use Rattle.answer.specs.declared.Number.{Number}
-use Rattle.answer.specs.declared.Number.TheVariants as number
 use Rattle.answer.proofs.Laws.{kept, written, number-refused, number_is, sets-overwrite, new-words, old-words}
 use Rattle.sort.specs.Sorted.{sorted, Ascends}
 use Rattle.sort.proofs.Laws.{length-sorted}
@@ -22,15 +20,16 @@ use Rattle.is_wh_rows.specs.Calls.{dedup_refusal, dedup_answer, loads_after, row
 use Rattle.is_wh_rows.proofs.Weights.{total-sorted, loads-total}
 use Rattle.is_wh_rows.proofs.Flat.{length-flat}
 use Rattle.is_wh_rows.proofs.Refusals.{loads-few, sorted-rows, rows_few, dedup-passed}
+use Rattle.std.specs.Prelude.{Result, Ok, Err}
 
 module _ (keys C S R : List ℕ) where
-  abbrev Left : Number → List ℕ → List ℕ → List ℕ → Type 0
+  abbrev Left : Result ℕ Refusal → List ℕ → List ℕ → List ℕ → Type 0
   Left answer C₁ S₁ R₁ =
       (answer ≡ dedup_answer (length C) (length S) (length R) keys)
       × ((C₁ ≡ loads_after (length C) (length S) (length R) keys C)
       × ((S₁ ≡ loads_after (length C) (length S) (length R) keys S) × (R₁ ≡ rows_after (length C) (length S) keys R)))
 
-  pub keys-refused : {q : Refusal} → dedup_refusal (length C) (length S) (length R) keys ≡ some q → Left (number.Refused q) C S R
+  pub keys-refused : {q : Refusal} → dedup_refusal (length C) (length S) (length R) keys ≡ some q → Left (Err q) C S R
   unfolding dedup_answer loads_after rows_after
   keys-refused e = (number-refused _ e, (kept _ C e, (kept _ S e, kept _ R e)))
 
@@ -62,7 +61,7 @@ module _ (keys C S R : List ℕ) where
           omega (arith, ap length front-rows, rows_few keys, a.rows_long),
         )
 
-    pub rows-done : {count : ℕ} {R₁ : List ℕ} → count ≡ length (rows_in (take m C₁)) → R₁ ≡ sets R 0 (flat (rows_in (take m C₁))) → Left (number.Is count) C₁ S₁ R₁
+    pub rows-done : {count : ℕ} {R₁ : List ℕ} → count ≡ length (rows_in (take m C₁)) → R₁ ≡ sets R 0 (flat (rows_in (take m C₁))) → Left (Ok count) C₁ S₁ R₁
     unfolding dedup_answer loads_after rows_after
     rows-done e er =
         let a = (dedup-passed (length C) (length S) (length R) keys ok).0 in

@@ -6,7 +6,7 @@ use native.Mathlib.Numerals.{add-one, add-two}
 use native.Mathlib.Omega.{arith}
 use lib.ListN.{length, set}
 use lib.Seq.{sets, length-sets}
-use Rattle.lists.specs.Tab.{tab, tab_from, word}
+use Rattle.lists.specs.Tab.{tab, tab_from}
 use Rattle.lists.proofs.Laws.{sets-append, length-tab, tab-add}
 use Rattle.is_wh_rows.specs.Rows.{Row, row_of, rows_needed, mu_of, key_rows, flat}
 

@@ -123,9 +123,12 @@ module _ {l : List ℕ} {from x k count : ℕ} (r : Run l from x k count) where
       let lt : x < y = by_le y x (λ m. absurd (q (omega (arith, t.0)))) (λ m. m) in
       over (ap (λ (s : List ℕ). copies x (codes_in s)) e ∙ copies-below x y (y ∷ codes_in (drop (k + 1) l)) lt (omega arith, a.0))
 
-  pub run-over : length l ≤ k → (k ≡ from + copies x (codes_in (drop from l))) × (count ≡ weight x (drop from l))
+  pub run-over : length l ≤ k → (length l ≡ from + copies x (codes_in (drop from l))) × (count ≡ weight x (drop from l))
   unfolding codes_in
-  run-over b = over (ap (λ (s : List ℕ). copies x (codes_in s)) (drop_of_length-le l b) ∙ copies-none x)
+  run-over b =
+      let a = over (ap (λ (s : List ℕ). copies x (codes_in s)) (drop_of_length-le l b) ∙ copies-none x) in
+      let e : length l ≡ k = omega (arith, r.bound) in
+      (e ∙ a.0, a.1)
 
 -- ---- a turn: the run from i ends at `end` and holds n keys
 

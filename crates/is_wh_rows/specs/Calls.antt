@@ -2,12 +2,12 @@
 use Rattle.std.specs.Prelude.{ℕ, ◌*◌, ◌/◌, List, length}
 use Rattle.std.proofs.Math.Option.{Option}
 use Rattle.answer.specs.Refusal.{accepted, too_short, number_of, overwrite, afterwards}
-use Rattle.answer.specs.declared.Number.{Number}
 use Rattle.answer.specs.declared.Refusal.{Refusal}
 use Rattle.sort.specs.Sorted.{sorted}
 use Rattle.is_wh_rows.specs.Lists.{KEY-SIZE, ROW-SIZE, too_many_in, ragged_in, bad_in}
 use Rattle.is_wh_rows.specs.Loads.{loads}
 use Rattle.is_wh_rows.specs.Rows.{codes, rows_of, flat}
+use Rattle.std.specs.Prelude.{Result}
 
 abbrev pub key_count : List ℕ → ℕ
 key_count keys = length keys / KEY-SIZE
@@ -25,7 +25,7 @@ dedup_refusal codes spare rows keys =
     accepted)))))
 
 -- the answer: how many rows
-unfoldable pub dedup_answer : ℕ → ℕ → ℕ → List ℕ → Number
+unfoldable pub dedup_answer : ℕ → ℕ → ℕ → List ℕ → Result ℕ Refusal
 dedup_answer room spare rows keys = number_of (length (rows_of (codes keys))) (dedup_refusal room spare rows keys)
 
 -- what is left in `lent`, which is `codes` or `spare`: the loads in ascending order

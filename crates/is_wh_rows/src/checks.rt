@@ -5,8 +5,7 @@ ghost use Rattle.answer.specs.Refusal.{accepted, answer_of, too_short};
 ghost use Rattle.is_wh_rows.specs.Lists.{limit_of, bad_at, MAX-KEYS, too_many_in, ragged_in, rows_refusal};
 ghost use Rattle.is_wh_rows.specs.Calls.{dedup_refusal};
 
-use answer::{Answer, Refusal};
-use lists::Place;
+use answer::Refusal;
 
 const KEY_SIZE: usize = 2;
 
@@ -28,80 +27,72 @@ fn limit_of(part: usize) -> u64
 }
 
 // The first word of a list that is not below its limit.
-fn first_bad(list: &[u64], size: usize) -> Place
+fn first_bad(list: &[u64], size: usize) -> Option<usize>
     requires { 0 < size }
     ensures { result ≡ place_of (first_at (bad_at size list.now) (length list.now)) }
 {
-    let mut k: usize = 0;
-    while k < list.len() {
+    for k in 0..list.len() {
         let limit = limit_of(k % size);
         if limit <= list[k] {
-            return Place::At(k);
+            return Some(k);
         }
-        k += 1;
     }
-    Place::Nowhere
+    None
 }
 
 // How many entries a list has, and that they are whole.
-fn check_entries(list: &[u64], size: usize) -> Answer
+fn check_entries(list: &[u64], size: usize) -> Result<(), Refusal>
     requires { 0 < size }
     ensures { result ≡ answer_of (too_many_in size list.now (ragged_in size list.now accepted)) }
 {
     if list.len() / size > MAX_KEYS {
-        return Answer::Refused(Refusal::PastEnd(MAX_KEYS as u64 + 1));
+        return Err(Refusal::PastEnd(MAX_KEYS as u64 + 1));
     }
     if list.len() % size != 0 {
-        return Answer::Refused(Refusal::NotWhole(2));
+        return Err(Refusal::NotWhole(2));
     }
-    Answer::Done
+    Ok(())
 }
 
 // The room for n keys in the three slices that are lent.
-fn check_room(n: usize, codes: usize, spare: usize, rows: usize) -> Answer
+fn check_room(n: usize, codes: usize, spare: usize, rows: usize) -> Result<(), Refusal>
     requires { n ≤ MAX-KEYS }
     ensures { result ≡ answer_of (too_short codes n (too_short spare n (too_short rows (3 * n) accepted))) }
 {
     if codes < n {
-        return Answer::Refused(Refusal::TooShort(n as u64));
+        return Err(Refusal::TooShort(n as u64));
     }
     if spare < n {
-        return Answer::Refused(Refusal::TooShort(n as u64));
+        return Err(Refusal::TooShort(n as u64));
     }
     if rows < ROW_SIZE * n {
-        return Answer::Refused(Refusal::TooShort((ROW_SIZE * n) as u64));
+        return Err(Refusal::TooShort((ROW_SIZE * n) as u64));
     }
-    Answer::Done
+    Ok(())
 }
 
 // The checks of `dedup_is_wh_rows`.
-pub fn check_keys(keys: &[u64], codes: usize, spare: usize, rows: usize) -> Answer
+pub fn check_keys(keys: &[u64], codes: usize, spare: usize, rows: usize) -> Result<(), Refusal>
     ensures { result ≡ answer_of (dedup_refusal codes spare rows keys.now) }
 {
-    if let Answer::Refused(refusal) = check_entries(keys, KEY_SIZE) {
-        return Answer::Refused(refusal);
+    check_entries(keys, KEY_SIZE)?;
+    check_room(keys.len() / KEY_SIZE, codes, spare, rows)?;
+    if let Some(k) = first_bad(keys, KEY_SIZE) {
+        return Err(Refusal::NotElement(k as u64));
     }
-    if let Answer::Refused(refusal) = check_room(keys.len() / KEY_SIZE, codes, spare, rows) {
-        return Answer::Refused(refusal);
-    }
-    if let Place::At(k) = first_bad(keys, KEY_SIZE) {
-        return Answer::Refused(Refusal::NotElement(k as u64));
-    }
-    Answer::Done
+    Ok(())
 }
 
 // The checks of a call that takes a list of rows and a slice.
-pub fn check_rows(rows: &[u64], room: usize, needed: usize) -> Answer
+pub fn check_rows(rows: &[u64], room: usize, needed: usize) -> Result<(), Refusal>
     ensures { result ≡ answer_of (rows_refusal room needed rows.now accepted) }
 {
-    if let Answer::Refused(refusal) = check_entries(rows, ROW_SIZE) {
-        return Answer::Refused(refusal);
-    }
+    check_entries(rows, ROW_SIZE)?;
     if room < needed {
-        return Answer::Refused(Refusal::TooShort(needed as u64));
+        return Err(Refusal::TooShort(needed as u64));
     }
-    if let Place::At(k) = first_bad(rows, ROW_SIZE) {
-        return Answer::Refused(Refusal::NotElement(k as u64));
+    if let Some(k) = first_bad(rows, ROW_SIZE) {
+        return Err(Refusal::NotElement(k as u64));
     }
-    Answer::Done
+    Ok(())
 }

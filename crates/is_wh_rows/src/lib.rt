@@ -12,7 +12,7 @@ ghost use Rattle.is_wh_rows.specs.Rows.{rows_needed, key_rows, row_of, flat};
 ghost use Rattle.is_wh_rows.specs.Lists.{bad_at};
 ghost use Rattle.is_wh_rows.specs.Calls.{dedup_answer, loads_after, rows_after};
 
-use answer::{Answer, Number};
+use answer::Refusal;
 use checks::check_keys;
 use sort::sort;
 
@@ -74,10 +74,8 @@ fn put_loads(keys: &[u64], out: &mut [u64]) -> usize
 {
     let n = keys.len() / 2;
     let mut m: usize = 0;
-    let mut i: usize = 0;
-    while i < n {
+    for i in 0..n {
         m = put_load(out, m, keys[2 * i] * 65536 + keys[2 * i + 1]);
-        i += 1;
     }
     m
 }
@@ -108,20 +106,15 @@ fn run_from(words: &[u64], from: usize) -> Run
 {
     let x = words[from] / 65536;
     let mut count: usize = 0;
-    let mut k = from;
-    while k < words.len() {
+    for k in from..words.len() {
         if words[k] / 65536 != x {
-            return Run {
-                end: k,
-                count: count,
-            };
+            return Run { end: k, count };
         }
         count += (words[k] % 65536) as usize + 1;
-        k += 1;
     }
     Run {
-        end: k,
-        count: count,
+        end: words.len(),
+        count,
     }
 }
 
@@ -142,11 +135,9 @@ fn put_key_rows(rows: &mut [u64], at: usize, code: u64, n: usize) -> usize
     ensures words { rows.new ≡ sets rows.old at (flat (key_rows code n)) }
 {
     let needed = rows_needed(n);
-    let mut j: usize = 0;
-    while j < needed {
+    for j in 0..needed {
         let count = row_count(n - j * MU_MAX);
         put_row(rows, at + 3 * j, code, count);
-        j += 1;
     }
     needed
 }
@@ -159,6 +150,7 @@ fn put_rows(words: &[u64], rows: &mut [u64]) -> usize
 {
     let mut i: usize = 0;
     let mut count: usize = 0;
+    // no `for`: a turn goes on behind the run that it wrote
     while i < words.len() {
         let run = run_from(words, i);
         let added = put_key_rows(rows, 3 * count, words[i] / 65536, run.count);
@@ -175,17 +167,15 @@ pub fn dedup_is_wh_rows(
     codes: &mut [u64],
     spare: &mut [u64],
     rows: &mut [u64],
-) -> Number
+) -> Result<u64, Refusal>
     ensures answer { result ≡ dedup_answer (length codes.old) (length spare.old) (length rows.old) keys.now }
     ensures codes { codes.new ≡ loads_after (length codes.old) (length spare.old) (length rows.old) keys.now codes.old }
     ensures spare { spare.new ≡ loads_after (length codes.old) (length spare.old) (length rows.old) keys.now spare.old }
     ensures rows { rows.new ≡ rows_after (length codes.old) (length spare.old) keys.now rows.old }
 {
     let room = codes.len();
-    if let Answer::Refused(refusal) = check_keys(keys, room, spare.len(), rows.len()) {
-        return Number::Refused(refusal);
-    }
+    check_keys(keys, room, spare.len(), rows.len())?;
     let m = sort_loads(keys, codes, spare);
     let count = put_rows(&codes[..m], rows);
-    Number::Is(count as u64)
+    Ok(count as u64)
 }

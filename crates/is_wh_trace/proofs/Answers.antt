@@ -9,12 +9,12 @@ use lib.Seq.{sets}
 use Rattle.lists.specs.Tab.{table_of}
 use Rattle.answer.specs.Refusal.{accepted, answer_of}
 use Rattle.answer.specs.declared.Refusal.{Refusal}
-use Rattle.answer.specs.declared.Answer.TheVariants.{Done, Refused}
 use Rattle.answer.proofs.Laws.{refused, done, sets-overwrite, new-words, old-words}
 use Rattle.is_wh_rows.specs.Lists.{rows_refusal}
 use Rattle.is_wh_rows.proofs.Lists.{rows-passed}
 use Rattle.is_wh_trace.specs.Trace.{table_row, row_count, is_wh_height, is_wh_table, is_wh_trace_refusal, is_wh_trace_after}
 use Rattle.is_wh_trace.proofs.Rows.{length-is_wh_table}
+use Rattle.std.specs.Prelude.{Ok, Err}
 
 module _ (rows table : List ℕ) (h : ℕ) (eh : h ≡ is_wh_height rows) where
   same-checks : is_wh_trace_refusal (length table) rows ≡ rows_refusal (length table) (h * 4) rows accepted
@@ -22,12 +22,12 @@ module _ (rows table : List ℕ) (h : ℕ) (eh : h ≡ is_wh_height rows) where
   same-checks = ap (λ (k : ℕ). rows_refusal (length table) (k * 4) rows accepted) (sym eh)
 
   pub trace-refused : {q : Refusal} → rows_refusal (length table) (h * 4) rows accepted ≡ some q
-      → (Refused q ≡ answer_of (is_wh_trace_refusal (length table) rows)) × (table ≡ is_wh_trace_after rows table)
+      → (Err q ≡ answer_of (is_wh_trace_refusal (length table) rows)) × (table ≡ is_wh_trace_after rows table)
   unfolding is_wh_trace_after
   trace-refused e = refused _ table (same-checks ∙ e)
 
   pub trace-done : {t : List ℕ} → rows_refusal (length table) (h * 4) rows accepted ≡ none → t ≡ sets table 0 (table_of h 4 (table_row rows (row_count rows)))
-      → (Done ≡ answer_of (is_wh_trace_refusal (length table) rows)) × (t ≡ is_wh_trace_after rows table)
+      → (Ok tt ≡ answer_of (is_wh_trace_refusal (length table) rows)) × (t ≡ is_wh_trace_after rows table)
   unfolding is_wh_trace_after is_wh_table
   trace-done e s =
       let fits : h * 4 ≤ length table = (rows-passed (length table) (h * 4) rows accepted e).1 in

@@ -9,7 +9,7 @@ ghost use Rattle.is_wh.specs.Row.{pair_row};
 ghost use Rattle.keccak.specs.Height.{height, MIN-ROWS};
 ghost use Rattle.is_wh_trace.specs.Trace.{trace_row, table_row, height_refusal, is_wh_trace_refusal, is_wh_trace_after};
 
-use answer::{Answer, Number, Refusal};
+use answer::Refusal;
 use bits::put_zeros;
 use is_wh::NUM_COLUMNS;
 use is_wh_rows::checks::{MAX_KEYS, ROW_SIZE, check_rows};
@@ -17,14 +17,14 @@ use keccak::MIN_ROWS;
 use operations::table_height;
 
 // The height of the table of n rows.
-pub fn is_wh_height(n: usize) -> Number
+pub fn is_wh_height(n: usize) -> Result<u64, Refusal>
     ensures { result ≡ number_of (height MIN-ROWS n) (height_refusal n) }
 {
     if n > MAX_KEYS {
-        return Number::Refused(Refusal::PastEnd(MAX_KEYS as u64 + 1));
+        return Err(Refusal::PastEnd(MAX_KEYS as u64 + 1));
     }
     let h = table_height(MIN_ROWS, n);
-    Number::Is(h as u64)
+    Ok(h as u64)
 }
 
 // A row of four columns.
@@ -43,10 +43,8 @@ fn put_rows(rows: &[u64], n: usize, table: &mut [u64])
     requires { (3 * n ≤ length rows.now) × (n * 4 ≤ length table.old) }
     ensures { table.new ≡ sets table.old 0 (table_of n 4 (trace_row rows.now)) }
 {
-    let mut i: usize = 0;
-    while i < n {
+    for i in 0..n {
         put_row(table, i * 4, rows[3 * i], rows[3 * i + 1], rows[3 * i + 2]);
-        i += 1;
     }
 }
 
@@ -60,16 +58,14 @@ fn put_table(rows: &[u64], n: usize, h: usize, table: &mut [u64])
 }
 
 // The IS_WH table of a list of rows.
-pub fn generate_is_wh_trace(rows: &[u64], table: &mut [u64]) -> Answer
+pub fn generate_is_wh_trace(rows: &[u64], table: &mut [u64]) -> Result<(), Refusal>
     ensures answer { result ≡ answer_of (is_wh_trace_refusal (length table.old) rows.now) }
     ensures words { table.new ≡ is_wh_trace_after rows.now table.old }
 {
     let n = rows.len() / ROW_SIZE;
     let h = table_height(MIN_ROWS, n);
     let room = table.len();
-    if let Answer::Refused(refusal) = check_rows(rows, room, h * NUM_COLUMNS) {
-        return Answer::Refused(refusal);
-    }
+    check_rows(rows, room, h * NUM_COLUMNS)?;
     put_table(rows, n, h, table);
-    Answer::Done
+    Ok(())
 }

@@ -1,5 +1,5 @@
 -- n rows of a table from row a on: where they end, their words, that they are a table of their own, and its rows.
-use mathlib.Core.Path.{◌≡◌, refl, sym, ap, subst, ◌∙◌}
+use mathlib.Core.Path.{◌≡◌, sym, ap, subst, ◌∙◌}
 use mathlib.Core.List.{List}
 use Prim.Native.Nat.{ℕ, ◌+◌, ◌-◌, ◌*◌, ◌/◌, ◌%◌, ◌≤◌, ◌<◌}
 use native.Mathlib.Nat.{div-mul-le_self, le_trans, mul-le-mul_right, add-mul, mul-mod_left, mul-div_cancel}

@@ -20,7 +20,6 @@ use Rattle.lists.specs.Sum.{sum_below}
 use Rattle.lists.proofs.Laws.{length-table, table_at, length-row_at, word-row_at}
 use Rattle.lists.proofs.Then.{by_le}
 use Rattle.answer.specs.Refusal.{accepted, answer_of}
-use Rattle.answer.specs.declared.Answer.TheVariants.{Done}
 use Rattle.answer.proofs.Laws.{is-done, accepts, new_word, old-words}
 use Rattle.verdict.specs.Kind.{row, Active, SameTimestamp}
 use Rattle.verdict.specs.Verdict.{verdict_words}
@@ -38,6 +37,7 @@ use Rattle.job.proofs.Misfiled.{IsUnbalanced, holds-only, stranger-fails, misfil
 use Rattle.job.proofs.Filed.{filed-holds}
 use Rattle.job.proofs.job.Kinds as kinds
 use Rattle.job.proofs.job.Reads as reads
+use Rattle.std.specs.Prelude.{Ok}
 
 pub record Reported (nr : ℕ) (core round counts before after : List ℕ) : Type 0 where
   pub lifetimes : Lfts 3
@@ -49,7 +49,7 @@ pub record Reported (nr : ℕ) (core round counts before after : List ℕ) : Typ
   pub counts-are : lent.1.1.1.0.now ≡ counts
   pub before-is : lent.1.1.1.1.0.now ≡ before
   pub after_is : ended.1.1.1.1.0.now ≡ after
-  pub says : reads.Learnt lifetimes lent Done ended
+  pub says : reads.Learnt lifetimes lent (Ok tt) ended
 
 -- the verdict on a segment that is not refused
 on-segment : (nr : ℕ) (core round counts : List ℕ) (i : ℕ) → Checked (job_segment core round counts i).core-table (job_segment core round counts i).round-table →

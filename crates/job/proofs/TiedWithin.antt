@@ -15,8 +15,6 @@ use denote.Triple.Clauses.{AtExit}
 use borrow.Fn.Kinds.{Dens, ended_of}
 use Rattle.lists.specs.Tab.{tab}
 use Rattle.answer.specs.Refusal.{accepted, overwrite, answer_of}
-use Rattle.answer.specs.declared.Answer.{Answer}
-use Rattle.answer.specs.declared.Answer.TheVariants.{Done}
 use Rattle.answer.proofs.Laws.{is-done}
 use Rattle.sort_places.specs.Places.{place_count}
 use Rattle.job.specs.Report.{job_after}
@@ -25,8 +23,10 @@ use Rattle.job.proofs.Within.{within-accepted, job-within-same, scratch-used}
 use Rattle.job.proofs.Tied.{Reported, some-reported, left}
 use Rattle.job.proofs.job_within.Kinds as kinds
 use Rattle.job.proofs.job_within.Reads as reads
+use Rattle.std.specs.Prelude.{Result, Ok, ⊤}
+use Rattle.answer.specs.declared.Refusal.{Refusal}
 
-pub record CalledWithin (nr : ℕ) (core round counts before after scratch scratch' spare spare' : List ℕ) (answer : Answer) : Type 0 where
+pub record CalledWithin (nr : ℕ) (core round counts before after scratch scratch' spare spare' : List ℕ) (answer : Result ⊤ Refusal) : Type 0 where
   pub lifetimes : Lfts 5
   pub lent : Dens lifetimes kinds.ps
   pub ended : AtExit (ended_of 5 kinds.ps kinds.r) lifetimes
@@ -42,7 +42,7 @@ pub record CalledWithin (nr : ℕ) (core round counts before after scratch scrat
   pub spare-after : ended.1.1.1.1.1.1.0.now ≡ spare'
   pub says : reads.Learnt lifetimes lent answer ended
 
-module _ {nr : ℕ} {core round counts before after scratch scratch' spare spare' : List ℕ} {answer : Answer}
+module _ {nr : ℕ} {core round counts before after scratch scratch' spare spare' : List ℕ} {answer : Result ⊤ Refusal}
     (c : CalledWithin nr core round counts before after scratch scratch' spare spare' answer) where
   pub within-told : answer ≡ answer_of (job_within_refusal nr core round counts (length before) (length scratch) (length spare))
   within-told =
@@ -65,7 +65,7 @@ module _ {nr : ℕ} {core round counts before after scratch scratch' spare spare
       ∙ λ t. job_scratch_after (c.rounds-are t) (c.core_is t) (c.round_is t) (c.counts-are t) (length (c.before-is t)) (length (c.scratch-is t)) (length (c.spare-is t)) (c.spare-is t)
 
 abbrev pub ReportedWithin : ℕ → List ℕ → List ℕ → List ℕ → List ℕ → List ℕ → List ℕ → List ℕ → List ℕ → List ℕ → Type 0
-ReportedWithin nr core round counts before after scratch scratch' spare spare' = CalledWithin nr core round counts before after scratch scratch' spare spare' Done
+ReportedWithin nr core round counts before after scratch scratch' spare spare' = CalledWithin nr core round counts before after scratch scratch' spare spare' (Ok tt)
 
 module _ {nr : ℕ} {core round counts before after scratch scratch' spare spare' : List ℕ} (c : ReportedWithin nr core round counts before after scratch scratch' spare spare') where
   taken : job_within_refusal nr core round counts (length before) (length scratch) (length spare) ≡ accepted

@@ -16,7 +16,7 @@ use Rattle.lists.specs.Tab.{word}
 use Rattle.lists.specs.Sum.{sum_below}
 use Rattle.lists.proofs.Sum.{sum_same}
 use Rattle.bus.proofs.Listed.{mem-tab}
-use Rattle.verdict.specs.Kind.{Layout, Kind, rows, row, actives, Active, SameTimestamp, DistinctTimestamps, Whole, Passes}
+use Rattle.verdict.specs.Kind.{Kind, rows, row, actives, Active, SameTimestamp, DistinctTimestamps, Passes}
 use Rattle.verdict.specs.Verdict.{verdict_words, stage, from_round_balance, from_core_balance, from_round_lookup, from_round_value, from_repeat, from_core_lookup, from_core_value}
 use Rattle.verdict.specs.CoreAndRound.{core_layout, round_layout, core_kind, round_kind, verdict_at}
 use Rattle.verdict.specs.Claims.{EachActive, Computed, Addressed}

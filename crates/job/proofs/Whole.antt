@@ -7,11 +7,11 @@
 --     actives-joined    the active core rows, added up
 --     apart-joined      segments that are apart by their indices are apart as a list
 use mathlib.Core.Path.{◌≡◌, refl, sym, ap, ap₂, subst, ◌∙◌}
-use mathlib.Core.List.{List, [], ◌∷◌, ◌++◌, append_assoc, append-nil, Memᴰ}
-use Prim.Native.Nat.{ℕ, zero, suc, ◌+◌, ◌*◌, ◌/◌, ◌%◌, ◌≤◌, ◌<◌}
+use mathlib.Core.List.{List, [], ◌∷◌, ◌++◌, append_assoc, append-nil}
+use Prim.Native.Nat.{ℕ, zero, suc, ◌+◌, ◌*◌, ◌≤◌, ◌<◌}
 use native.Mathlib.Nat.{add-mul, zero-mul, div-add-mod'}
 use native.Mathlib.Omega.{arith}
-use lib.ListN.{length, take, drop}
+use lib.ListN.{length, take}
 use lib.Seq.{take-add, take_all}
 use Rattle.lists.specs.Tab.{word, tab, tab_from}
 use Rattle.lists.specs.Sum.{sum_below}
@@ -20,7 +20,7 @@ use Rattle.bus.proofs.Listed.{mem-tab}
 use Rattle.verdict.specs.Kind.{Layout, rows, row, actives, Active, Whole}
 use Rattle.verdict.specs.CoreAndRound.{core_layout, round_layout}
 use Rattle.verdict.specs.Job.{Segment, job_core, job_round, job_actives, Separate, SegmentsApart}
-use Rattle.job.specs.Report.{segment_count, core_rows, round_rows, rows_from, part_at, job_segment, segments, Split, Checked, Apart}
+use Rattle.job.specs.Report.{segment_count, core_rows, round_rows, rows_from, part_at, job_segment, segments, Split}
 use Rattle.job.proofs.Sums.{sum-next, sum-rises}
 use Rattle.job.proofs.Parts.{part-rows, part-row}
 

@@ -4,7 +4,7 @@ ghost use Rattle.answer.specs.Refusal.{accepted, answer_of};
 ghost use Rattle.job.specs.Report.{COUNT-WORDS, adds_up, splits, not_job, job_refusal};
 ghost use Rattle.job.specs.Within.{job_within_refusal};
 
-use answer::{Answer, Refusal, check_rounds};
+use answer::{Refusal, check_rounds};
 use judge::checks::{check_rows, check_words};
 use judge_within::places::place_count;
 use keccak;
@@ -22,14 +22,12 @@ fn adds_up(counts: &[u64], k: usize, rows: usize) -> bool
 {
     let n = counts.len() / COUNT_WORDS;
     let mut left = rows as u64;
-    let mut i: usize = 0;
-    while i < n {
+    for i in 0..n {
         let count = counts[i * COUNT_WORDS + k];
         if count > left {
             return false;
         }
         left -= count;
-        i += 1;
     }
     left == 0
 }
@@ -48,32 +46,38 @@ fn are_split(core: &[u64], round: &[u64], counts: &[u64]) -> bool
 }
 
 // The number of rounds, whole rows, the counts and the report's room.
-fn check_counts(nr: u64, core: &[u64], round: &[u64], counts: &[u64], room: usize) -> Answer
+fn check_counts(
+    nr: u64,
+    core: &[u64],
+    round: &[u64],
+    counts: &[u64],
+    room: usize,
+) -> Result<(), Refusal>
     ensures { result ≡ answer_of (not_job nr core.now round.now counts.now room accepted) }
 {
-    if let Answer::Refused(refusal) = check_rounds(nr) {
-        return Answer::Refused(refusal);
-    }
-    if let Answer::Refused(refusal) = check_rows(core, round) {
-        return Answer::Refused(refusal);
-    }
+    check_rounds(nr)?;
+    check_rows(core, round)?;
     if !are_split(core, round, counts) {
-        return Answer::Refused(Refusal::NotWhole(2));
+        return Err(Refusal::NotWhole(2));
     }
     let needed = (counts.len() / COUNT_WORDS + 1) * VERDICT_WORDS;
     if room < needed {
-        return Answer::Refused(Refusal::TooShort(needed as u64));
+        return Err(Refusal::TooShort(needed as u64));
     }
-    Answer::Done
+    Ok(())
 }
 
 // And then every word of both tables.
-pub fn check_job(nr: u64, core: &[u64], round: &[u64], counts: &[u64], room: usize) -> Answer
+pub fn check_job(
+    nr: u64,
+    core: &[u64],
+    round: &[u64],
+    counts: &[u64],
+    room: usize,
+) -> Result<(), Refusal>
     ensures { result ≡ answer_of (job_refusal nr core.now round.now counts.now room) }
 {
-    if let Answer::Refused(refusal) = check_counts(nr, core, round, counts, room) {
-        return Answer::Refused(refusal);
-    }
+    check_counts(nr, core, round, counts, room)?;
     check_words(core, round)
 }
 
@@ -86,18 +90,16 @@ pub fn check_job_within(
     room: usize,
     scratch: usize,
     spare: usize,
-) -> Answer
+) -> Result<(), Refusal>
     ensures { result ≡ answer_of (job_within_refusal nr core.now round.now counts.now room scratch spare) }
 {
-    if let Answer::Refused(refusal) = check_counts(nr, core, round, counts, room) {
-        return Answer::Refused(refusal);
-    }
+    check_counts(nr, core, round, counts, room)?;
     let n = place_count(core, round);
     if scratch < n {
-        return Answer::Refused(Refusal::TooShort(n as u64));
+        return Err(Refusal::TooShort(n as u64));
     }
     if spare < n {
-        return Answer::Refused(Refusal::TooShort(n as u64));
+        return Err(Refusal::TooShort(n as u64));
     }
     check_words(core, round)
 }

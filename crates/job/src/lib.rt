@@ -13,7 +13,7 @@ ghost use Rattle.judge_scan.specs.Tables.{layout_of};
 ghost use Rattle.job.specs.Report.{VERDICT-WORDS, segment_count, rows_from, Split, Checked, verdict_on, report_words, job_refusal, job_after};
 ghost use Rattle.job.specs.Within.{job_within_refusal, job_within_after, job_scratch_after};
 
-use answer::Answer;
+use answer::Refusal;
 use bits::put_zeros;
 use checks::{COUNT_WORDS, VERDICT_WORDS, check_job, check_job_within};
 use judge;
@@ -91,8 +91,7 @@ fn put_segments<'a>(
     let n = counts.len() / COUNT_WORDS;
     let mut a: usize = 0;
     let mut b: usize = 0;
-    let mut i: usize = 0;
-    while i < n {
+    for i in 0..n {
         let c = counts[i * COUNT_WORDS] as usize;
         let d = counts[i * COUNT_WORDS + 1] as usize;
         let x = rows_from(core, Table::Core, a, c);
@@ -100,7 +99,6 @@ fn put_segments<'a>(
         put_verdict(nr, x, y, report, i * VERDICT_WORDS, scratch, spare);
         a += c;
         b += d;
-        i += 1;
     }
 }
 
@@ -136,13 +134,11 @@ pub fn job<'a>(
     round: &'a [u64],
     counts: &[u64],
     report: &mut [u64],
-) -> Answer
+) -> Result<(), Refusal>
     ensures answer { result ≡ answer_of (job_refusal nr core.now round.now counts.now (length report.old)) }
     ensures words { report.new ≡ job_after nr core.now round.now counts.now report.old }
 {
-    if let Answer::Refused(refusal) = check_job(nr, core, round, counts, report.len()) {
-        return Answer::Refused(refusal);
-    }
+    check_job(nr, core, round, counts, report.len())?;
     let mut scratch = [0u64; 0];
     let mut spare = [0u64; 0];
     put_report(
@@ -154,7 +150,7 @@ pub fn job<'a>(
         &mut scratch,
         &mut spare,
     );
-    Answer::Done
+    Ok(())
 }
 
 // The same report in lent memory. The words of both slices that were used are zeros afterwards.
@@ -166,13 +162,13 @@ pub fn job_within<'a>(
     report: &mut [u64],
     scratch: &mut [u64],
     spare: &mut [u64],
-) -> Answer
+) -> Result<(), Refusal>
     ensures answer { result ≡ answer_of (job_within_refusal nr core.now round.now counts.now (length report.old) (length scratch.old) (length spare.old)) }
     ensures words { report.new ≡ job_within_after nr core.now round.now counts.now (length scratch.old) (length spare.old) report.old }
     ensures scratch { scratch.new ≡ job_scratch_after nr core.now round.now counts.now (length report.old) (length scratch.old) (length spare.old) scratch.old }
     ensures spare { spare.new ≡ job_scratch_after nr core.now round.now counts.now (length report.old) (length scratch.old) (length spare.old) spare.old }
 {
-    if let Answer::Refused(refusal) = check_job_within(
+    check_job_within(
         nr,
         core,
         round,
@@ -180,9 +176,7 @@ pub fn job_within<'a>(
         report.len(),
         scratch.len(),
         spare.len(),
-    ) {
-        return Answer::Refused(refusal);
-    }
+    )?;
     let n = place_count(core, round);
     put_report(
         nr as usize,
@@ -195,5 +189,5 @@ pub fn job_within<'a>(
     );
     put_zeros(scratch, 0, n);
     put_zeros(spare, 0, n);
-    Answer::Done
+    Ok(())
 }

@@ -18,7 +18,6 @@ use borrow.Fn.Kinds.{Dens, ended_of}
 use Rattle.answer.specs.Refusal.{accepted, overwrite, afterwards, answer_of, PowerFloor}
 use Rattle.answer.specs.declared.Refusal.{Refusal}
 use Rattle.answer.specs.declared.Refusal.TheVariants.{Rounds}
-use Rattle.answer.specs.declared.Answer.{Answer}
 use Rattle.keccak_rnd.specs.Refusals.{round_trace_refusal}
 use Rattle.keccak_rnd.specs.Calls.{round_trace_after}
 use Rattle.keccak_rnd.proofs.Refusals.{trace-later}
@@ -36,6 +35,7 @@ use Rattle.keccak_rnd_trace.proofs.generate_keccak_rnd_trace.Kinds as trace-kind
 use Rattle.keccak_rnd_trace.proofs.generate_keccak_rnd_trace.Reads as trace
 use Rattle.judge.proofs.verdict.Kinds as verdict-kinds
 use Rattle.judge.proofs.verdict.Reads as verdict
+use Rattle.std.specs.Prelude.{Result, ⊤}
 
 pub record Answered (nr : ℕ) (core round : List ℕ) (v : Verdict) : Type 0 where
   pub lifetimes : Lfts 2
@@ -76,7 +76,7 @@ answered-refilled {nr} {core} {round} {other} a b n e =
 pub record Wrote (nr floor : ℕ) (ops before after : List ℕ) : Type 0 where
   pub lifetimes : Lfts 2
   pub lent : Dens lifetimes trace-kinds.ps
-  pub answer : Answer
+  pub answer : Result ⊤ Refusal
   pub ended : AtExit (ended_of 2 trace-kinds.ps trace-kinds.r) lifetimes
   pub rounds-are : lent.0 ≡ nr
   pub floor-is : lent.1.0 ≡ floor

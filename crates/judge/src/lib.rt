@@ -9,13 +9,12 @@ ghost use Rattle.verdict.specs.Kind.{Elements};
 ghost use Rattle.verdict.specs.Verdict.{from_core_value, from_round_value, from_core_balance, from_round_balance};
 ghost use Rattle.judge_links.specs.Even.{Even};
 
-use answer::{Answer, check_rounds};
+use answer::check_rounds;
 use checks::{check_rows, check_words};
 use judge_bus::first_unbalanced;
 use judge_rows::{Check, first_failure};
 use judge_scan::{Spot, active_rows, first_repeat};
 use judge_walk::{Walked, walk};
-use lists::Place;
 use verdict::{Table, Verdict};
 
 pub mod checks;
@@ -25,7 +24,7 @@ fn from_round_balance(nr: usize, core: &[u64], round: &[u64], walked: Walked) ->
     requires { (walked.core ≤ rows core_layout core.now) × (walked.round ≤ rows round_layout round.now) × Even nr core.now round.now walked.core walked.round }
     ensures { result ≡ from_round_balance (core_kind nr) round_kind core.now round.now }
 {
-    if let Spot::At { row, index } = first_unbalanced(
+    if let Some(Spot { row, index }) = first_unbalanced(
         nr,
         core,
         round,
@@ -50,7 +49,7 @@ fn from_core_balance(nr: usize, core: &[u64], round: &[u64]) -> Verdict
     ensures { result ≡ from_core_balance (core_kind nr) round_kind core.now round.now }
 {
     let walked = walk(nr, core, round);
-    if let Spot::At { row, index } = first_unbalanced(
+    if let Some(Spot { row, index }) = first_unbalanced(
         nr,
         core,
         round,
@@ -73,14 +72,14 @@ fn from_round_value(nr: usize, core: &[u64], round: &[u64]) -> Verdict
     requires { Elements round.now }
     ensures { result ≡ from_round_value (core_kind nr) round_kind core.now round.now }
 {
-    if let Spot::At { row, index } = first_failure(round, Table::Round, Check::Values) {
+    if let Some(Spot { row, index }) = first_failure(round, Table::Round, Check::Values) {
         return Verdict::Value {
             table: Table::Round,
             row,
             index,
         };
     }
-    if let Spot::At { row, index } = first_failure(round, Table::Round, Check::Lookups) {
+    if let Some(Spot { row, index }) = first_failure(round, Table::Round, Check::Lookups) {
         return Verdict::Lookup {
             table: Table::Round,
             row,
@@ -95,21 +94,21 @@ pub fn from_core_value(nr: usize, core: &[u64], round: &[u64]) -> Verdict
     requires { Elements core.now × Elements round.now }
     ensures { result ≡ from_core_value (core_kind nr) round_kind core.now round.now }
 {
-    if let Spot::At { row, index } = first_failure(core, Table::Core, Check::Values) {
+    if let Some(Spot { row, index }) = first_failure(core, Table::Core, Check::Values) {
         return Verdict::Value {
             table: Table::Core,
             row,
             index,
         };
     }
-    if let Spot::At { row, index } = first_failure(core, Table::Core, Check::Lookups) {
+    if let Some(Spot { row, index }) = first_failure(core, Table::Core, Check::Lookups) {
         return Verdict::Lookup {
             table: Table::Core,
             row,
             index,
         };
     }
-    if let Place::At(row) = first_repeat(core) {
+    if let Some(row) = first_repeat(core) {
         return Verdict::Repeated { row };
     }
     from_round_value(nr, core, round)
@@ -119,10 +118,10 @@ pub fn from_core_value(nr: usize, core: &[u64], round: &[u64]) -> Verdict
 fn judged(nr: usize, core: &[u64], round: &[u64]) -> Verdict
     ensures { result ≡ verdict_at nr core.now round.now }
 {
-    if let Answer::Refused(refusal) = check_rows(core, round) {
+    if let Err(refusal) = check_rows(core, round) {
         return Verdict::Refused(refusal);
     }
-    if let Answer::Refused(refusal) = check_words(core, round) {
+    if let Err(refusal) = check_words(core, round) {
         return Verdict::Refused(refusal);
     }
     from_core_value(nr, core, round)
@@ -132,7 +131,7 @@ fn judged(nr: usize, core: &[u64], round: &[u64]) -> Verdict
 pub fn verdict(nr: u64, core: &[u64], round: &[u64]) -> Verdict
     ensures { result ≡ verdict_for nr core.now round.now }
 {
-    if let Answer::Refused(refusal) = check_rounds(nr) {
+    if let Err(refusal) = check_rounds(nr) {
         return Verdict::Refused(refusal);
     }
     judged(nr as usize, core, round)

@@ -21,8 +21,7 @@ use Rattle.verdict.specs.Verdict.{uneven, bad_tuple, first_unbalanced}
 use Rattle.verdict.specs.CoreAndRound.{core_layout, round_layout, core_kind, round_kind}
 use Rattle.verdict.proofs.Tuples.{active-tuples-count, core-bus, round-bus}
 use Rattle.judge_bus.proofs.UnevenRow.{two-early, two-late, two_none, bad-side, bad-other}
-use Rattle.judge_scan.specs.Spot.{spot_of}
-use Rattle.judge_scan.specs.declared.Spot.TheVariants.{At}
+use Rattle.judge_scan.specs.Spot.{spot, spot_of}
 use Rattle.verdict.specs.declared.Table.{Table}
 use Rattle.verdict.specs.declared.Table.TheVariants.{Core, Round}
 use Rattle.judge_scan.specs.Tables.{kind_of, layout_of}
@@ -35,6 +34,7 @@ use Rattle.judge_links.specs.Counting.{sent_by, received_by, counts_to}
 use Rattle.judge_links.specs.declared.Counts.{Counts}
 use Rattle.judge_links.proofs.Counting.{is-counted}
 use Rattle.judge_bus.specs.Order.{first_port, second_port, first_index}
+use Rattle.std.specs.Prelude.{Some}
 
 eqb_same : (a b c d : ℕ) → (a ≡ b → c ≡ d) → (c ≡ d → a ≡ b) → eqb a b ≡ eqb c d
 eqb_same a b c d f g = go (eqb a b) (eqb c d) refl refl
@@ -125,10 +125,10 @@ module _ (nr : ℕ) (core round : List ℕ) where
       }
 
 -- ---- the search, row by row
-pub spot_is : (o : Option (ℕ × ℕ)) (r i j : ℕ) → i ≡ j → o ≡ some (r, j) → At r i ≡ spot_of o
-spot_is o r i j e f = ap (At r) e ∙ sym (ap spot_of f)
+pub spot_is : (o : Option (ℕ × ℕ)) (r i j : ℕ) → i ≡ j → o ≡ some (r, j) → Some (spot r i) ≡ spot_of o
+spot_is o r i j e f = ap (λ (k : ℕ). Some (spot r k)) e ∙ sym (ap spot_of f)
 
-pub spot-next : (o : Option (ℕ × ℕ)) (r i j : ℕ) → i ≡ j → o ≡ some (r, j + 1) → At r (i + 1) ≡ spot_of o
+pub spot-next : (o : Option (ℕ × ℕ)) (r i j : ℕ) → i ≡ j → o ≡ some (r, j + 1) → Some (spot r (i + 1)) ≡ spot_of o
 spot-next o r i j e f = spot_is o r (i + 1) (j + 1) (ap (λ (k : ℕ). k + 1) e) f
 
 pub index-small : (t : Table) (i : ℕ) → i ≡ first_index t → i ≤ 2

@@ -94,29 +94,24 @@ pub fn first_unbalanced(
     b: usize,
     words: &[u64],
     table: Table,
-) -> Spot
+) -> Option<Spot>
     requires { (a ≤ rows core_layout core.now) × (b ≤ rows round_layout round.now) × Even nr core.now round.now a b }
     ensures { result ≡ spot_of (first_unbalanced (core_kind nr) round_kind core.now round.now (kind_of nr table) words.now) }
 {
     let rows = words.len() / width_of(table);
     let index = first_index(table);
-    let mut found = Spot::Nowhere;
-    let mut row = 0;
-    'rows: while row < rows {
+    for row in 0..rows {
         if is_active(words, table, row) {
             let x = row_at(words, table, row);
             let u = unbalanced_tuples(nr, core, round, a, b, x, table);
             if u.first {
-                found = Spot::At { row, index };
-                break 'rows;
+                return Some(Spot { row, index });
             }
             if u.second {
                 let index = index + 1;
-                found = Spot::At { row, index };
-                break 'rows;
+                return Some(Spot { row, index });
             }
         }
-        row += 1;
     }
-    found
+    None
 }

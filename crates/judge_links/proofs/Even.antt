@@ -4,7 +4,7 @@
 --     on-at, on-nowhere   what follows from the answer of a search
 --     even-to, to-even  the tuples by port are those of the two kinds by index
 use mathlib.Core.Path.{◌≡◌, refl, sym, ap, subst, ◌∙◌}
-use mathlib.Core.Bool.{Bool, true, false}
+use mathlib.Core.Bool.{Bool}
 use mathlib.Core.List.{List}
 use Prim.Native.Nat.{ℕ, ◌≤◌, ◌<◌}
 use native.Mathlib.Omega.{arith}
@@ -12,9 +12,6 @@ use lib.ListN.{length}
 use Rattle.lists.specs.Tab.{followed_by, row_at}
 use Rattle.lists.specs.First.{count_below}
 use Rattle.lists.proofs.Laws.{length-row_at}
-use Rattle.lists.proofs.Tests.{true-not-false}
-use Rattle.lists.specs.declared.Place.{Place}
-use Rattle.lists.specs.declared.Place.TheVariants.{At, Nowhere}
 use Rattle.lists.specs.Select.{words_test}
 use Rattle.keccak.specs.Tuples.{core_tuple}
 use Rattle.keccak_rnd.specs.Tuples.{round_tuple}
@@ -26,6 +23,8 @@ use Rattle.judge_tuples.specs.Port.{tuple_of, width_of}
 use Rattle.judge_tuples.specs.declared.Port.{Port}
 use Rattle.judge_tuples.specs.declared.Port.TheVariants.{CoreSend, CoreReceive, RoundReceive, RoundSend}
 use Rattle.judge_links.specs.Even.{has_tuple, Even, Started, on_place}
+use Rattle.std.specs.Prelude.{Some, None}
+use Rattle.lists.specs.First.{Place}
 
 -- ---- rows by port
 pub row-wide : (s : Port) (w : ℕ) (x ws : List ℕ) (r : ℕ) → width_of s ≤ w → x ≡ row_at w ws r → width_of s ≤ length x
@@ -36,37 +35,32 @@ pub linked : (s q : Port) (t : Bool) (x u y v z : List ℕ) → t ≡ words_test
     t ≡ words_test z (tuple_of q v)
 linked s q t x u y v z h e f g = h ∙ (λ i. words_test ((ap (tuple_of s) e ∙ sym g) i) (tuple_of q (f i)))
 
-pub started-in : (round : List ℕ) (last : Place) (r : ℕ) → last ≡ At r → Started round last → r < rows round_layout round
+pub started-in : (round : List ℕ) (last : Place) (r : ℕ) → last ≡ Some r → Started round last → r < rows round_layout round
 unfolding Started
 started-in round last r e s = subst (Started round) e s
 
-pub started-at : (round : List ℕ) (last : Place) (r : ℕ) → last ≡ At r → r < rows round_layout round → Started round last
+pub started-at : (round : List ℕ) (last : Place) (r : ℕ) → last ≡ Some r → r < rows round_layout round → Started round last
 unfolding Started
 started-at round last r e l = subst (Started round) (sym e) l
 
-pub started-nowhere : (round : List ℕ) → Started round Nowhere
+pub started-nowhere : (round : List ℕ) → Started round None
 unfolding Started
 started-nowhere round = tt
 
 -- ---- the answer of a search
-is_at : Place → Bool
-is_at Nowhere = false
-is_at (At k) = true
-
 module _ {A : Type 0} (f : ℕ → A) (d : A) where
-  pub on-at : {p : Place} {k : ℕ} → p ≡ At k → on_place f d p ≡ f k
+  pub on-at : {p : Place} {k : ℕ} → p ≡ Some k → on_place f d p ≡ f k
   unfolding on_place
   on-at e = ap (on_place f d) e
 
-  pub on-nowhere : {p : Place} → p ≡ Nowhere → on_place f d p ≡ d
+  pub on-nowhere : {p : Place} → p ≡ None → on_place f d p ≡ d
   unfolding on_place
   on-nowhere e = ap (on_place f d) e
 
-pub not_at : {k : ℕ} → Nowhere ≡ At k → ⊥
-unfolding is_at
-not_at e = true-not-false (sym (ap is_at e))
+pub not_at : {k : ℕ} → None ≡ Some k → ⊥
+not_at e = cc
 
-pub at_same : {k j : ℕ} → At k ≡ At j → k ≡ j
+pub at_same : {k j : ℕ} → Some k ≡ Some j → k ≡ j
 at_same e = cc
 
 -- ---- the tuples of the two kinds by port

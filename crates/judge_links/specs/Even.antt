@@ -4,14 +4,14 @@
 --     on_place    what follows from the answer of a search
 use Rattle.std.specs.Prelude.{◌≡◌, Bool, ◌&&◌, List, ℕ, ◌+◌, ◌<◌}
 use Rattle.lists.specs.First.{count_below}
-use Rattle.lists.specs.declared.Place.{Place}
-use Rattle.lists.specs.declared.Place.TheVariants.{At, Nowhere}
 use Rattle.lists.specs.Select.{words_test}
 use Rattle.verdict.specs.Kind.{Layout, rows, row, active}
 use Rattle.verdict.specs.CoreAndRound.{core_layout, round_layout}
 use Rattle.judge_tuples.specs.Port.{tuple_of}
 use Rattle.judge_tuples.specs.declared.Port.{Port}
 use Rattle.judge_tuples.specs.declared.Port.TheVariants.{CoreSend, CoreReceive, RoundReceive, RoundSend}
+use Rattle.std.specs.Prelude.{Some, None}
+use Rattle.lists.specs.First.{Place}
 
 -- whether row r of a table is active and has, as its tuple `port`, the tuple v
 unfoldable pub has_tuple : Layout → Port → List ℕ → List ℕ → ℕ → Bool
@@ -25,13 +25,13 @@ Even nr core round a b =
 
 -- the tuple that is owed in the chain of core row a: what the last round row of the chain sent, or what row a sent
 unfoldable pub owed_by : ℕ → List ℕ → ℕ → List ℕ → Place → List ℕ
-owed_by nr core a round Nowhere = tuple_of (CoreSend nr) (row core_layout core a)
-owed_by nr core a round (At r) = tuple_of RoundSend (row round_layout round r)
+owed_by nr core a round None = tuple_of (CoreSend nr) (row core_layout core a)
+owed_by nr core a round (Some r) = tuple_of RoundSend (row round_layout round r)
 
 -- the last round row of a chain, where there is one, is in the table
 unfoldable pub Started : List ℕ → Place → Type 0
-Started round Nowhere = Unit {0}
-Started round (At r) = r < rows round_layout round
+Started round None = Unit {0}
+Started round (Some r) = r < rows round_layout round
 
 -- whether round row q receives what is owed, and whether core row a receives what round row q sends
 abbrev pub takes_at : ℕ → List ℕ → ℕ → List ℕ → Place → ℕ → Bool
@@ -42,5 +42,5 @@ ends_at core a round q = words_test (tuple_of RoundSend (row round_layout round 
 
 -- f of the place that a search found, or d where it found none
 unfoldable pub on_place : {A : Type 0} → (ℕ → A) → A → Place → A
-on_place f d Nowhere = d
-on_place f d (At k) = f k
+on_place f d None = d
+on_place f d (Some k) = f k

@@ -14,21 +14,27 @@ ghost use Rattle.judge_links.specs.Counting.{sent_by, received_by, with_row, cou
 
 use judge_scan::{is_active, row_at, same_stamp, width_of};
 use judge_tuples::{Port, same_tuple};
-use lists::Place;
 use verdict::Table;
 
 // Whether round row q receives what is owed: what core row a sent, or what the last row of its chain sent.
-pub fn takes(nr: usize, core: &[u64], a: usize, round: &[u64], last: Place, q: usize) -> bool
+pub fn takes(
+    nr: usize,
+    core: &[u64],
+    a: usize,
+    round: &[u64],
+    last: Option<usize>,
+    q: usize,
+) -> bool
     requires { (a < rows core_layout core.now) × (q < rows round_layout round.now) × Started round.now last }
     ensures { result ≡ takes_at nr core.now a round.now last q }
 {
     let y = row_at(round, Table::Round, q);
     match last {
-        Place::Nowhere => {
+        None => {
             let x = row_at(core, Table::Core, a);
             same_tuple(x, Port::CoreSend(nr), y, Port::RoundReceive)
         }
-        Place::At(r) => {
+        Some(r) => {
             let x = row_at(round, Table::Round, r);
             same_tuple(x, Port::RoundSend, y, Port::RoundReceive)
         }
@@ -141,14 +147,12 @@ pub fn count(
         sent: 0,
         received: 0,
     };
-    let mut row = from;
-    while row < rows {
+    for row in from..rows {
         if of_call(x, words, table, row) {
             let y = row_at(words, table, row);
             first = add(y, send, receive, x, s, first);
             second = add(y, send, receive, x, q, second);
         }
-        row += 1;
     }
     Both { first, second }
 }

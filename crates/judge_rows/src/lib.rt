@@ -34,10 +34,8 @@ fn or_of(words: &[u64], n: usize) -> u64
     ensures { result ≡ or_all n (word words.now) }
 {
     let mut all: u64 = 0;
-    let mut i: usize = 0;
-    while i < n {
+    for i in 0..n {
         all = words[i] | all;
-        i += 1;
     }
     all
 }
@@ -77,7 +75,7 @@ fn put_words(row: &[u64], table: Table, check: Check, out: &mut [u64])
 
 // The first row of a table with one that is not good, and the first such one in it. Nothing that is looked at depends on
 // the number of rounds.
-pub fn first_failure(words: &[u64], table: Table, check: Check) -> Spot
+pub fn first_failure(words: &[u64], table: Table, check: Check) -> Option<Spot>
     requires { Elements words.now }
     ensures { (nr : ℕ) → result ≡ spot_of (first_failure (kind_of nr table) check words.now) }
 {
@@ -85,23 +83,17 @@ pub fn first_failure(words: &[u64], table: Table, check: Check) -> Spot
     let size = size_of(table, check);
     let rows = words.len() / width;
     let mut checks = [0u64; keccak_rnd::NUM_TUPLES];
-    let mut found = Spot::Nowhere;
-    let mut row = 0;
-    'rows: while row < rows {
+    for row in 0..rows {
         let start = row * width;
         let end = start + width;
         put_words(&words[start..end], table, check, &mut checks);
         if or_of(&checks, size) != 0 {
-            let mut index = 0;
-            while index < size {
+            for index in 0..size {
                 if checks[index] != 0 {
-                    found = Spot::At { row, index };
-                    break 'rows;
+                    return Some(Spot { row, index });
                 }
-                index += 1;
             }
         }
-        row += 1;
     }
-    found
+    None
 }

@@ -21,15 +21,16 @@ use Rattle.verdict.specs.Kind.{Layout, rows, is_active, active, Elements}
 use Rattle.verdict.specs.declared.Table.{Table}
 use Rattle.verdict.specs.declared.Table.TheVariants.{Core, Round}
 use Rattle.judge_scan.specs.Tables.{kind_of, layout_of}
+use Rattle.judge_scan.specs.declared.Spot.{Spot}
 use Rattle.judge_scan.specs.Spot.{spot_of}
-use Rattle.judge_scan.specs.declared.Spot.TheVariants as spot
+use Rattle.std.specs.Prelude.{Some, None}
 
 -- ---- the answer of a scan
-pub spot-at : (o : Option (ℕ × ℕ)) {r i : ℕ} → spot.At r i ≡ spot_of o → o ≡ some (r, i)
+pub spot-at : (o : Option (ℕ × ℕ)) {s : Spot} → Some s ≡ spot_of o → o ≡ some (s.row, s.index)
 spot-at none e = cc
-spot-at (some x) {r} {i} e = let a : x.0 ≡ r = cc in let b : x.1 ≡ i = cc in ap some (λ j. (a j, b j))
+spot-at (some x) {s} e = let a : x.0 ≡ s.row = cc in let b : x.1 ≡ s.index = cc in ap some (λ j. (a j, b j))
 
-pub spot-nowhere : (o : Option (ℕ × ℕ)) → spot.Nowhere ≡ spot_of o → o ≡ none
+pub spot-nowhere : (o : Option (ℕ × ℕ)) → None ≡ spot_of o → o ≡ none
 spot-nowhere none e = refl
 spot-nowhere (some x) e = cc
 

@@ -13,14 +13,13 @@ ghost use Rattle.judge_scan.specs.Highest.{exceeds};
 
 use keccak;
 use keccak_rnd;
-use lists::Place;
 use verdict::Table;
 
 // The lowest row, and in it the lowest index.
 #[derive(Clone, Copy)]
-pub enum Spot {
-    At { row: usize, index: usize },
-    Nowhere,
+pub struct Spot {
+    pub row: usize,
+    pub index: usize,
 }
 
 // How many words a row has. MU is the last of them in either table.
@@ -59,12 +58,10 @@ pub fn active_rows(words: &[u64], table: Table) -> usize
     let width = width_of(table);
     let rows = words.len() / width;
     let mut n = 0;
-    let mut row = 0;
-    while row < rows {
+    for row in 0..rows {
         if is_active(words, table, row) {
             n += 1;
         }
-        row += 1;
     }
     n
 }
@@ -86,15 +83,13 @@ fn has_same_stamp(core: &[u64], r: usize) -> bool
     ensures { result ≡ any_below (same_stamp_at core_layout core.now r) r }
 {
     let y = row_at(core, Table::Core, r);
-    let mut q = 0;
-    while q < r {
+    for q in 0..r {
         if is_active(core, Table::Core, q) {
             let x = row_at(core, Table::Core, q);
             if same_stamp(x, y) {
                 return true;
             }
         }
-        q += 1;
     }
     false
 }
@@ -121,7 +116,7 @@ fn above(top: Highest, high: u64, low: u64) -> bool
 }
 
 // A row above all before it repeats none of them, so rows in the writer's order are never compared with one another.
-pub fn first_repeat(core: &[u64]) -> Place
+pub fn first_repeat(core: &[u64]) -> Option<usize>
     ensures { result ≡ place_of (first_repeat core_layout core.now) }
 {
     let rows = core.len() / keccak::NUM_COLUMNS;
@@ -130,8 +125,7 @@ pub fn first_repeat(core: &[u64]) -> Place
         high: 0,
         low: 0,
     };
-    let mut row = 0;
-    while row < rows {
+    for row in 0..rows {
         if is_active(core, Table::Core, row) {
             let low = core[row * keccak::NUM_COLUMNS];
             let high = core[row * keccak::NUM_COLUMNS + 1];
@@ -142,10 +136,9 @@ pub fn first_repeat(core: &[u64]) -> Place
                     low,
                 };
             } else if has_same_stamp(core, row) {
-                return Place::At(row);
+                return Some(row);
             }
         }
-        row += 1;
     }
-    Place::Nowhere
+    None
 }

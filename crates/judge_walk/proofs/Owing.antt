@@ -9,8 +9,6 @@ use Prim.Native.Nat.{ℕ, zero, suc, ◌+◌, ◌-◌, ◌≤◌, ◌<◌}
 use native.Mathlib.Omega.{arith}
 use Rattle.lists.specs.Tab.{pick, followed_by}
 use Rattle.lists.proofs.Tests.{T_of}
-use Rattle.lists.specs.declared.Place.{Place}
-use Rattle.lists.specs.declared.Place.TheVariants.{At, Nowhere}
 use Rattle.lists.specs.Select.{words_test}
 use Rattle.lists.proofs.Select.{words-sound}
 use Rattle.keccak.specs.Tuples.{core_tuple}
@@ -25,6 +23,8 @@ use Rattle.judge_links.specs.Even.{Even, owed_by, takes_at, ends_at, on_place, S
 use Rattle.judge_walk.specs.Walk.{chain_to, chain_from, active_to, walk_to, skipped, walked}
 use Rattle.judge_walk.specs.declared.Walked.{Walked}
 use Rattle.judge_links.proofs.Even.{even-to, to-even, not_at, at_same}
+use Rattle.std.specs.Prelude.{Some, None}
+use Rattle.lists.specs.First.{Place}
 
 -- ---- the walk
 module _ (nr : ℕ) (core round : List ℕ) where
@@ -43,7 +43,7 @@ pub record Owed (nr : ℕ) (core round : List ℕ) (a b q : ℕ) (last : Place) 
   pub owing : Even nr core round a b → OwingTo (core-bus nr) round-bus core round a q (owed_by nr core a round last)
 
 module _ (nr : ℕ) (core round : List ℕ) (a b : ℕ) where
-  pub owed_start : active core_layout core a ≡ true → Owed nr core round a b b Nowhere
+  pub owed_start : active core_layout core a ≡ true → Owed nr core round a b b None
   unfolding Started owed_by tuple_of core_tuple followed_by
   owed_start e = record { started = tt; owing = λ h. owe-start (core-bus nr) round-bus core round a b _ e refl (even-to nr core round a b h) }
 
@@ -61,7 +61,7 @@ module _ (nr : ℕ) (core round : List ℕ) (a b : ℕ) where
       unfolding tuple_of round_tuple followed_by
       step h = owe-step (core-bus nr) round-bus core round a q _ _ e (sym (words-sound _ _ (T_of _ t))) refl (o.owing h)
 
-      pub owed-step : (next : Place) → next ≡ At q → Owed nr core round a b (q + 1) next
+      pub owed-step : (next : Place) → next ≡ Some q → Owed nr core round a b (q + 1) next
       unfolding Started owed_by
       owed-step next z = subst (Owed nr core round a b (q + 1)) (sym z) (record { started = l; owing = step })
 
@@ -74,9 +74,9 @@ module _ (nr : ℕ) (core round : List ℕ) (a b : ℕ) where
 
   -- the chain of core row a: where it ends, row a and its rows are even
   abbrev Reaches : Place → Type 0
-  Reaches p = (k : ℕ) → p ≡ At k → (k ≤ rows round_layout round) × (Even nr core round a b → Even nr core round (a + 1) k)
+  Reaches p = (k : ℕ) → p ≡ Some k → (k ≤ rows round_layout round) × (Even nr core round a b → Even nr core round (a + 1) k)
 
-  reaches-none : Reaches Nowhere
+  reaches-none : Reaches None
   reaches-none k e = absurd (not_at e)
 
   chain-reaches : active core_layout core a ≡ true → (n q : ℕ) (last : Place) → q + n ≤ rows round_layout round → Owed nr core round a b q last → Reaches (chain_to nr core a round last q n)
@@ -85,24 +85,24 @@ module _ (nr : ℕ) (core round : List ℕ) (a b : ℕ) where
   chain-reaches on (suc n) q last l o =
       go (active round_layout round q) (takes_at nr core a round last q) (ends_at core a round q)
       (λ e. chain-reaches on n (q + 1) last (omega arith) (owed-skip q last o last e refl))
-      (λ e t. chain-reaches on n (q + 1) (At q) (omega arith) (owed-step q last o (omega arith) e t (At q) refl))
+      (λ e t. chain-reaches on n (q + 1) (Some q) (omega arith) (owed-step q last o (omega arith) e t (Some q) refl))
       (λ e t f k z. subst (λ (m : ℕ). (m ≤ rows round_layout round) × (Even nr core round a b → Even nr core round (a + 1) m)) (at_same z) (owed-end q last o (omega arith) e t on f))
       refl refl refl
     where
       go : (x y z : Bool) → (active round_layout round q ≡ false → Reaches (chain_to nr core a round last (q + 1) n)) →
-          (active round_layout round q ≡ true → takes_at nr core a round last q ≡ true → Reaches (chain_to nr core a round (At q) (q + 1) n)) →
-          (active round_layout round q ≡ true → takes_at nr core a round last q ≡ true → ends_at core a round q ≡ true → Reaches (At (q + 1))) →
+          (active round_layout round q ≡ true → takes_at nr core a round last q ≡ true → Reaches (chain_to nr core a round (Some q) (q + 1) n)) →
+          (active round_layout round q ≡ true → takes_at nr core a round last q ≡ true → ends_at core a round q ≡ true → Reaches (Some (q + 1))) →
           active round_layout round q ≡ x → takes_at nr core a round last q ≡ y → ends_at core a round q ≡ z →
-          Reaches (pick x (pick y (pick z (At (q + 1)) (chain_to nr core a round (At q) (q + 1) n)) Nowhere) (chain_to nr core a round last (q + 1) n))
+          Reaches (pick x (pick y (pick z (Some (q + 1)) (chain_to nr core a round (Some q) (q + 1) n)) None) (chain_to nr core a round last (q + 1) n))
       go false y z off on end e t f = off e
       go true false z off on end e t f = reaches-none
       go true true false off on end e t f = on e t
       go true true true off on end e t f = end e t f
 
   chain-goes : active core_layout core a ≡ true → b ≤ rows round_layout round → Reaches (chain_from nr core a round b)
-  chain-goes on l = chain-reaches on (rows round_layout round - b) b Nowhere (omega arith) (owed_start on)
+  chain-goes on l = chain-reaches on (rows round_layout round - b) b None (omega arith) (owed_start on)
 
-  pub chain-in : active core_layout core a ≡ true → b ≤ rows round_layout round → (p : Place) (k d : ℕ) → p ≡ chain_from nr core a round b → p ≡ At k → d ≡ k → d ≤ rows round_layout round
+  pub chain-in : active core_layout core a ≡ true → b ≤ rows round_layout round → (p : Place) (k d : ℕ) → p ≡ chain_from nr core a round b → p ≡ Some k → d ≡ k → d ≤ rows round_layout round
   chain-in on l p k d e z w = omega (arith, (chain-goes on l k (sym e ∙ z)).0)
 
 -- ---- all of the walk
@@ -122,12 +122,12 @@ module _ (nr : ℕ) (core round : List ℕ) where
       refl refl
     where
       go : (x : Bool) (p : Place) → (active core_layout core a ≡ false → Good (walk_to nr core round (a + 1) b n)) → Good (record { core = a; round = b }) →
-          (active core_layout core a ≡ true → (k : ℕ) → chain_from nr core a round b ≡ At k → Good (walk_to nr core round (a + 1) k n)) →
+          (active core_layout core a ≡ true → (k : ℕ) → chain_from nr core a round b ≡ Some k → Good (walk_to nr core round (a + 1) k n)) →
           active core_layout core a ≡ x → chain_from nr core a round b ≡ p →
           Good (pick x (on_place (λ next. walk_to nr core round (a + 1) next n) (record { core = a; round = b }) p) (walk_to nr core round (a + 1) b n))
       go false p off stop on e z = off e
-      go true Nowhere off stop on e z = stop
-      go true (At k) off stop on e z = on e k z
+      go true None off stop on e z = stop
+      go true (Some k) off stop on e z = on e k z
 
   rest_goes : (n q a : ℕ) → q + n ≤ rows round_layout round → Even nr core round a q → (active_to round q n ≤ rows round_layout round) × Even nr core round a (active_to round q n)
   unfolding active_to

@@ -4,14 +4,14 @@ use mathlib.Core.Bool.{true, false}
 use mathlib.Core.List.{List}
 use Prim.Native.Nat.{ℕ, suc, ◌+◌, ◌-◌, ◌≤◌, ◌<◌}
 use native.Mathlib.Omega.{arith}
-use Rattle.lists.specs.declared.Place.{Place}
-use Rattle.lists.specs.declared.Place.TheVariants.{At, Nowhere}
 use Rattle.verdict.specs.Kind.{rows, active}
 use Rattle.verdict.specs.CoreAndRound.{core_layout, round_layout}
 use Rattle.judge_links.specs.Even.{takes_at, ends_at, on_place}
 use Rattle.judge_links.proofs.Even.{on-at, on-nowhere}
 use Rattle.judge_walk.specs.Walk.{chain_to, chain_from, active_to, active_from, walk_to, skipped, walked}
 use Rattle.judge_walk.specs.declared.Walked.{Walked}
+use Rattle.std.specs.Prelude.{Some, None}
+use Rattle.lists.specs.First.{Place}
 
 left_out : (n q : ℕ) → n ≤ q → n - q ≡ 0
 left_out n q l = omega arith
@@ -21,7 +21,7 @@ left_one n q l = omega arith
 
 -- ---- along the chain of core row a
 module _ (nr : ℕ) (core : List ℕ) (a : ℕ) (round : List ℕ) (last : Place) (q n : ℕ) where
-  pub chain-out : n ≤ q → chain_to nr core a round last q (n - q) ≡ Nowhere
+  pub chain-out : n ≤ q → chain_to nr core a round last q (n - q) ≡ None
   unfolding chain_to
   chain-out l = ap (chain_to nr core a round last q) (left_out n q l)
 
@@ -34,16 +34,16 @@ module _ (nr : ℕ) (core : List ℕ) (a : ℕ) (round : List ℕ) (last : Place
     chain-off e = turn ∙ rw e
 
     module _ (e : active round_layout round q ≡ true) where
-      pub chain-stop : takes_at nr core a round last q ≡ false → chain_to nr core a round last q (n - q) ≡ Nowhere
+      pub chain-stop : takes_at nr core a round last q ≡ false → chain_to nr core a round last q (n - q) ≡ None
       unfolding chain_to
       chain-stop t = turn ∙ rw (e, t)
 
       module _ (t : takes_at nr core a round last q ≡ true) where
-        pub chain-end : ends_at core a round q ≡ true → chain_to nr core a round last q (n - q) ≡ At (q + 1)
+        pub chain-end : ends_at core a round q ≡ true → chain_to nr core a round last q (n - q) ≡ Some (q + 1)
         unfolding chain_to
         chain-end f = turn ∙ rw (e, t, f)
 
-        pub chain-on : ends_at core a round q ≡ false → chain_to nr core a round last q (n - q) ≡ chain_to nr core a round (At q) (q + 1) (n - (q + 1))
+        pub chain-on : ends_at core a round q ≡ false → chain_to nr core a round last q (n - q) ≡ chain_to nr core a round (Some q) (q + 1) (n - (q + 1))
         unfolding chain_to
         chain-on f = turn ∙ rw (e, t, f)
 
@@ -53,9 +53,9 @@ chain-last nr core a round q n e = ap (λ (s : Place). chain_to nr core a round 
 
 -- ---- to the next active row
 module _ (round : List ℕ) (q n : ℕ) where
-  pub active-out : n ≤ q → active_to round q (n - q) ≡ q
+  pub active-out : n ≤ q → q ≤ n → active_to round q (n - q) ≡ n
   unfolding active_to
-  active-out l = ap (active_to round q) (left_out n q l)
+  active-out l m = let e : q ≡ n = omega arith in ap (active_to round q) (left_out n q l) ∙ e
 
   module _ (l : q < n) where
     pub active-here : active round_layout round q ≡ true → active_to round q (n - q) ≡ q
@@ -68,9 +68,11 @@ module _ (round : List ℕ) (q n : ℕ) where
 
 -- ---- the walk
 module _ (nr : ℕ) (core round : List ℕ) (a b n : ℕ) where
-  pub walk-out : n ≤ a → walk_to nr core round a b (n - a) ≡ record { core = a; round = b }
+  pub walk-out : n ≤ a → a ≤ n → walk_to nr core round a b (n - a) ≡ record { core = n; round = b }
   unfolding walk_to
-  walk-out l = ap (walk_to nr core round a b) (left_out n a l)
+  walk-out l m =
+      let e : a ≡ n = omega arith in
+      ap (walk_to nr core round a b) (left_out n a l) ∙ (λ i. record { core = e i; round = b })
 
   module _ (l : a < n) where
     pub walk-off : (d : ℕ) → d ≡ b → active core_layout core a ≡ false → walk_to nr core round a b (n - a) ≡ walk_to nr core round (a + 1) d (n - (a + 1))
@@ -82,10 +84,10 @@ module _ (nr : ℕ) (core round : List ℕ) (a b n : ℕ) where
       unfolding walk_to
       at = ap (walk_to nr core round a b) (left_one n a l) ∙ (rw e) ∙ ap (on_place _ _) (sym ep)
 
-      pub walk-on : (k d : ℕ) → p ≡ At k → d ≡ k → walk_to nr core round a b (n - a) ≡ walk_to nr core round (a + 1) d (n - (a + 1))
+      pub walk-on : (k d : ℕ) → p ≡ Some k → d ≡ k → walk_to nr core round a b (n - a) ≡ walk_to nr core round (a + 1) d (n - (a + 1))
       walk-on k d z w = at ∙ on-at _ _ z ∙ ap (λ (k : ℕ). walk_to nr core round (a + 1) k (n - (a + 1))) (sym w)
 
-      pub walk-stop : p ≡ Nowhere → walk_to nr core round a b (n - a) ≡ record { core = a; round = b }
+      pub walk-stop : p ≡ None → walk_to nr core round a b (n - a) ≡ record { core = a; round = b }
       walk-stop z = at ∙ on-nowhere _ _ z
 
 module _ (nr : ℕ) (core round : List ℕ) where

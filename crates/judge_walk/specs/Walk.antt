@@ -4,25 +4,25 @@
 --     walked        how far the walk comes: it stops at the first active core row that has no chain where it should begin
 use Rattle.std.specs.Prelude.{List, ℕ, zero, suc, ◌+◌, ◌-◌}
 use Rattle.lists.specs.Tab.{pick}
-use Rattle.lists.specs.declared.Place.{Place}
-use Rattle.lists.specs.declared.Place.TheVariants.{At, Nowhere}
 use Rattle.verdict.specs.Kind.{rows, active}
 use Rattle.verdict.specs.CoreAndRound.{core_layout, round_layout}
 use Rattle.judge_links.specs.Even.{takes_at, ends_at, on_place}
 use Rattle.judge_walk.specs.declared.Walked.{Walked}
+use Rattle.std.specs.Prelude.{Some, None}
+use Rattle.lists.specs.First.{Place}
 
 -- each active row from q on receives what the one before it sent, until core row a receives what one sends
 unfoldable pub chain_to : ℕ → List ℕ → ℕ → List ℕ → Place → ℕ → ℕ → Place
-chain_to nr core a round last q zero = Nowhere
+chain_to nr core a round last q zero = None
 chain_to nr core a round last q (suc n) =
     pick (active round_layout round q)
     (pick (takes_at nr core a round last q)
-    (pick (ends_at core a round q) (At (q + 1)) (chain_to nr core a round (At q) (q + 1) n))
-    Nowhere)
+    (pick (ends_at core a round q) (Some (q + 1)) (chain_to nr core a round (Some q) (q + 1) n))
+    None)
     (chain_to nr core a round last (q + 1) n)
 
 abbrev pub chain_from : ℕ → List ℕ → ℕ → List ℕ → ℕ → Place
-chain_from nr core a round b = chain_to nr core a round Nowhere b (rows round_layout round - b)
+chain_from nr core a round b = chain_to nr core a round None b (rows round_layout round - b)
 
 unfoldable pub active_to : List ℕ → ℕ → ℕ → ℕ
 active_to round q zero = q

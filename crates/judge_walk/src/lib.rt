@@ -10,32 +10,29 @@ use judge_links::{ends, takes};
 use judge_scan::is_active;
 use keccak;
 use keccak_rnd;
-use lists::Place;
 use verdict::Table;
 
 // The round row after the chain of core row a that begins at row b: each active row receives what the one before it
 // sent, the first what the core row sent, and the core row receives what the last one sent.
-fn chain(nr: usize, core: &[u64], a: usize, round: &[u64], b: usize) -> Place
+fn chain(nr: usize, core: &[u64], a: usize, round: &[u64], b: usize) -> Option<usize>
     requires { (a < rows core_layout core.now) × (b ≤ rows round_layout round.now) }
     ensures { result ≡ chain_from nr core.now a round.now b }
 {
     let rows = round.len() / keccak_rnd::NUM_COLUMNS;
-    let mut last = Place::Nowhere;
-    let mut q = b;
-    while q < rows {
+    let mut last = None;
+    for q in b..rows {
         if is_active(round, Table::Round, q) {
             if !takes(nr, core, a, round, last, q) {
-                return Place::Nowhere;
+                return None;
             }
             if ends(core, a, round, q) {
                 let next = q + 1;
-                return Place::At(next);
+                return Some(next);
             }
-            last = Place::At(q);
+            last = Some(q);
         }
-        q += 1;
     }
-    Place::Nowhere
+    None
 }
 
 // The first round row from b on that is active, or the end.
@@ -44,14 +41,12 @@ fn active_from(round: &[u64], b: usize) -> usize
     ensures { result ≡ active_from round.now b }
 {
     let rows = round.len() / keccak_rnd::NUM_COLUMNS;
-    let mut q = b;
-    while q < rows {
+    for q in b..rows {
         if is_active(round, Table::Round, q) {
             return q;
         }
-        q += 1;
     }
-    q
+    rows
 }
 
 // How far the walk came: so many core rows and round rows at the front balance among themselves.
@@ -66,23 +61,20 @@ pub fn walk(nr: usize, core: &[u64], round: &[u64]) -> Walked
     ensures { result ≡ walked nr core.now round.now }
 {
     let rows = core.len() / keccak::NUM_COLUMNS;
-    let mut a = 0;
     let mut b = 0;
-    'calls: while a < rows {
+    for a in 0..rows {
         if is_active(core, Table::Core, a) {
-            match chain(nr, core, a, round, b) {
-                Place::At(next) => {
-                    b = next;
-                }
-                Place::Nowhere => {
-                    break 'calls;
-                }
-            }
+            let Some(next) = chain(nr, core, a, round, b) else {
+                return Walked {
+                    core: a,
+                    round: active_from(round, b),
+                };
+            };
+            b = next;
         }
-        a += 1;
     }
     Walked {
-        core: a,
+        core: rows,
         round: active_from(round, b),
     }
 }

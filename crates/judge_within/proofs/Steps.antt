@@ -14,7 +14,6 @@ use lib.Dec.{ltb}
 use lib.ListN.{length}
 use Rattle.lists.specs.Tab.{pick, word}
 use Rattle.lists.specs.First.{first_at, place_of, any_below, first}
-use Rattle.lists.specs.declared.Place.TheVariants.{At, Nowhere}
 use Rattle.lists.specs.Select.{words_test}
 use Rattle.lists.proofs.Tests.{true-not-false, false-and}
 use Rattle.verdict.specs.Kind.{rows, row, active, same_stamp}
@@ -29,6 +28,7 @@ use Rattle.judge_within.specs.Places.{bad_place, arranged}
 use Rattle.judge_within.proofs.Groups.{Lowest, lowest_start, lowest-keep, lowest-new, lowest-some, lowest-none}
 use Rattle.judge_within.proofs.Repeats.{repeat-turn, repeat-first, repeat-place}
 use Rattle.judge_within.proofs.Unbalanced.{LowestTo, bad-place}
+use Rattle.std.specs.Prelude.{Some, None}
 
 module _ (least p : ℕ) (counts : Bool) where
   pub lower-off : counts ≡ false → least ≡ pick (counts && ltb p least) p least
@@ -59,10 +59,10 @@ pub unbalanced-start : (nr : ℕ) (core round xs : List ℕ) (n : ℕ) → n ≡
 unbalanced-start nr core round xs n e = subst (LowestTo nr core round xs 0) (sym e) (lowest_start (bad_place nr core round) (place_count core round) (word xs))
 
 module _ (nr : ℕ) (core round xs : List ℕ) (is : xs ≡ arranged true nr core round) (n k least : ℕ) (e : n ≡ place_count core round) (L : LowestTo nr core round xs k least) (end : length xs ≤ k) where
-  pub unbalanced-at : least < n → At least ≡ place_of (first_at (bad_place nr core round) (place_count core round))
+  pub unbalanced-at : least < n → Some least ≡ place_of (first_at (bad_place nr core round) (place_count core round))
   unbalanced-at l = sym (ap place_of (lowest-some (bad_place nr core round) (place_count core round) (word xs) k least L (bad-place nr core round xs is k end) (omega arith)))
 
-  pub unbalanced-none : n ≤ least → Nowhere ≡ place_of (first_at (bad_place nr core round) (place_count core round))
+  pub unbalanced-none : n ≤ least → None ≡ place_of (first_at (bad_place nr core round) (place_count core round))
   unbalanced-none l = sym (ap place_of (lowest-none (bad_place nr core round) (place_count core round) (word xs) k least L (bad-place nr core round xs is k end) (omega arith)))
 
 -- ---- the first row with a repeated timestamp
@@ -112,8 +112,8 @@ module _ (nr : ℕ) (core round xs : List ℕ) (is : xs ≡ arranged false nr co
     all_in : (r : ℕ) → r < rows core_layout core → repeats core_layout core r ≡ true → (i : ℕ) × (i < k) × (word xs i / 2 ≡ r)
     all_in r l e = let f = repeat-place nr core round xs is r l e in (f.0, omega (arith, f.1), f.2)
 
-    pub repeated-at : least < rows core_layout core → At least ≡ place_of (first_repeat core_layout core)
+    pub repeated-at : least < rows core_layout core → Some least ≡ place_of (first_repeat core_layout core)
     repeated-at l = sym (ap place_of (lowest-some (repeats core_layout core) (rows core_layout core) (λ i. word xs i / 2) k least L all_in l))
 
-    pub repeated-none : rows core_layout core ≤ least → Nowhere ≡ place_of (first_repeat core_layout core)
+    pub repeated-none : rows core_layout core ≤ least → None ≡ place_of (first_repeat core_layout core)
     repeated-none l = sym (ap place_of (lowest-none (repeats core_layout core) (rows core_layout core) (λ i. word xs i / 2) k least L all_in l))

@@ -4,34 +4,34 @@ ghost use Rattle.answer.specs.Refusal.{accepted, too_short, answer_of};
 ghost use Rattle.judge_within.specs.Within.{within_refusal};
 
 use super::places::place_count;
-use answer::{Answer, Refusal, check_rounds};
+use answer::{Refusal, check_rounds};
 use judge::checks::{check_rows, check_words};
 
 // Both slices have room for n places.
-fn check_room(n: usize, scratch: usize, spare: usize) -> Answer
+fn check_room(n: usize, scratch: usize, spare: usize) -> Result<(), Refusal>
     ensures { result ≡ answer_of (too_short scratch n (too_short spare n accepted)) }
 {
     if scratch < n {
-        return Answer::Refused(Refusal::TooShort(n as u64));
+        return Err(Refusal::TooShort(n as u64));
     }
     if spare < n {
-        return Answer::Refused(Refusal::TooShort(n as u64));
+        return Err(Refusal::TooShort(n as u64));
     }
-    Answer::Done
+    Ok(())
 }
 
 // The number of rounds, whole rows, room, then the words.
-pub fn check_within(nr: u64, core: &[u64], round: &[u64], scratch: usize, spare: usize) -> Answer
+pub fn check_within(
+    nr: u64,
+    core: &[u64],
+    round: &[u64],
+    scratch: usize,
+    spare: usize,
+) -> Result<(), Refusal>
     ensures { result ≡ answer_of (within_refusal nr core.now round.now scratch spare) }
 {
-    if let Answer::Refused(refusal) = check_rounds(nr) {
-        return Answer::Refused(refusal);
-    }
-    if let Answer::Refused(refusal) = check_rows(core, round) {
-        return Answer::Refused(refusal);
-    }
-    if let Answer::Refused(refusal) = check_room(place_count(core, round), scratch, spare) {
-        return Answer::Refused(refusal);
-    }
+    check_rounds(nr)?;
+    check_rows(core, round)?;
+    check_room(place_count(core, round), scratch, spare)?;
     check_words(core, round)
 }

@@ -11,12 +11,10 @@ ghost use Rattle.sort_places.specs.Places.{place_count};
 ghost use Rattle.judge_within.specs.Places.{unbalanced_at};
 ghost use Rattle.judge_within.specs.Within.{within_for, within_after};
 
-use answer::Answer;
 use bits::put_zeros;
 use checks::check_within;
 use judge_rows::{Check, first_failure};
 use judge_scan::{Spot, active_rows};
-use lists::Place;
 use places::{arrange, core_places, place_count};
 use verdict::{Table, Verdict};
 use walks::{first_repeated, first_unbalanced};
@@ -56,7 +54,7 @@ fn from_core_balance<'a>(
     ensures { result ≡ from_core_balance (core_kind nr) round_kind core.now round.now }
 {
     let m = arrange(nr, core, round, true, scratch, spare);
-    if let Place::At(p) = first_unbalanced(nr, core, round, &scratch[..m]) {
+    if let Some(p) = first_unbalanced(nr, core, round, &scratch[..m]) {
         return unbalanced_at(core, p);
     }
     Verdict::Holds {
@@ -75,14 +73,14 @@ fn from_round_value<'a>(
     requires { Elements round.now × (place_count core.now round.now ≤ length scratch.old) × (place_count core.now round.now ≤ length spare.old) }
     ensures { result ≡ from_round_value (core_kind nr) round_kind core.now round.now }
 {
-    if let Spot::At { row, index } = first_failure(round, Table::Round, Check::Values) {
+    if let Some(Spot { row, index }) = first_failure(round, Table::Round, Check::Values) {
         return Verdict::Value {
             table: Table::Round,
             row,
             index,
         };
     }
-    if let Spot::At { row, index } = first_failure(round, Table::Round, Check::Lookups) {
+    if let Some(Spot { row, index }) = first_failure(round, Table::Round, Check::Lookups) {
         return Verdict::Lookup {
             table: Table::Round,
             row,
@@ -99,7 +97,7 @@ fn first_repeat<'a>(
     round: &'a [u64],
     scratch: &mut [u64],
     spare: &mut [u64],
-) -> Place
+) -> Option<usize>
     requires { (place_count core.now round.now ≤ length scratch.old) × (place_count core.now round.now ≤ length spare.old) }
     ensures { result ≡ place_of (first_repeat core_layout core.now) }
 {
@@ -118,21 +116,21 @@ pub fn from_core_value<'a>(
     requires { Elements core.now × Elements round.now × (place_count core.now round.now ≤ length scratch.old) × (place_count core.now round.now ≤ length spare.old) }
     ensures { result ≡ from_core_value (core_kind nr) round_kind core.now round.now }
 {
-    if let Spot::At { row, index } = first_failure(core, Table::Core, Check::Values) {
+    if let Some(Spot { row, index }) = first_failure(core, Table::Core, Check::Values) {
         return Verdict::Value {
             table: Table::Core,
             row,
             index,
         };
     }
-    if let Spot::At { row, index } = first_failure(core, Table::Core, Check::Lookups) {
+    if let Some(Spot { row, index }) = first_failure(core, Table::Core, Check::Lookups) {
         return Verdict::Lookup {
             table: Table::Core,
             row,
             index,
         };
     }
-    if let Place::At(row) = first_repeat(nr, core, round, scratch, spare) {
+    if let Some(row) = first_repeat(nr, core, round, scratch, spare) {
         return Verdict::Repeated { row };
     }
     from_round_value(nr, core, round, scratch, spare)
@@ -151,7 +149,7 @@ pub fn verdict_within<'a>(
     ensures scratch { scratch.new ≡ within_after nr core.now round.now (length scratch.old) (length spare.old) scratch.old }
     ensures spare { spare.new ≡ within_after nr core.now round.now (length scratch.old) (length spare.old) spare.old }
 {
-    if let Answer::Refused(refusal) = check_within(nr, core, round, scratch.len(), spare.len()) {
+    if let Err(refusal) = check_within(nr, core, round, scratch.len(), spare.len()) {
         return Verdict::Refused(refusal);
     }
     let n = place_count(core, round);

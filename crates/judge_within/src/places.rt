@@ -73,13 +73,11 @@ pub fn put_places(core: &[u64], round: &[u64], whole: bool, out: &mut [u64]) -> 
 {
     let n = place_count(core, round);
     let mut m: usize = 0;
-    let mut p: usize = 0;
-    while p < n {
+    for p in 0..n {
         if is_wanted(core, round, whole, p) {
             out[m] = p as u64;
             m += 1;
         }
-        p += 1;
     }
     m
 }

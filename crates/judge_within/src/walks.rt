@@ -16,7 +16,6 @@ use judge_links::Counts;
 use judge_scan::{row_at, same_stamp};
 use judge_tuples::same_tuple;
 use keccak;
-use lists::Place;
 use sort_places::{port_of, row_of};
 use verdict::Table;
 
@@ -87,8 +86,7 @@ fn group_from<'a>(
         sent: 0,
         received: 0,
     };
-    let mut end = start;
-    while end < places.len() {
+    for end in start..places.len() {
         if !same_places(nr, core, round, first, places[end]) {
             return Group {
                 end,
@@ -96,31 +94,36 @@ fn group_from<'a>(
             };
         }
         t = with_place(core, places[end], t);
-        end += 1;
     }
     Group {
-        end,
+        end: places.len(),
         uneven: t.sent != t.received,
     }
 }
 
 // The least place whose tuple is unbalanced: the first of its group is the least of it.
-pub fn first_unbalanced<'a>(nr: usize, core: &'a [u64], round: &'a [u64], places: &[u64]) -> Place
+pub fn first_unbalanced<'a>(
+    nr: usize,
+    core: &'a [u64],
+    round: &'a [u64],
+    places: &[u64],
+) -> Option<usize>
     requires { places.now ≡ arranged true nr core.now round.now }
     ensures { result ≡ place_of (first_at (bad_place nr core.now round.now) (place_count core.now round.now)) }
 {
     let n = place_count(core, round);
     let mut least = n;
     let mut start: usize = 0;
+    // each turn goes on where its group ends: no range fits
     while start < places.len() {
         let g = group_from(nr, core, round, places, start);
         least = lower(least, places[start] as usize, g.uneven);
         start = g.end;
     }
     if least < n {
-        return Place::At(least);
+        return Some(least);
     }
-    Place::Nowhere
+    None
 }
 
 // Whether two core rows have one timestamp.
@@ -134,22 +137,20 @@ fn same_stamps(core: &[u64], q: usize, r: usize) -> bool
 }
 
 // The first active core row with the timestamp of an earlier one: the place in front of it has that timestamp too.
-pub fn first_repeated(core: &[u64], places: &[u64]) -> Place
+pub fn first_repeated(core: &[u64], places: &[u64]) -> Option<usize>
     requires { (nr : ℕ) × (round : List ℕ) × (places.now ≡ arranged false nr core.now round) }
     ensures { result ≡ place_of (first_repeat core_layout core.now) }
 {
     let rows = core.len() / keccak::NUM_COLUMNS;
     let mut least = rows;
-    let mut k: usize = 1;
-    while k < places.len() {
+    for k in 1..places.len() {
         let q = places[k - 1] as usize / 2;
         let r = places[k] as usize / 2;
         let repeats = same_stamps(core, q, r);
         least = lower(least, r, repeats);
-        k += 1;
     }
     if least < rows {
-        return Place::At(least);
+        return Some(least);
     }
-    Place::Nowhere
+    None
 }

@@ -12,11 +12,10 @@ use Rattle.answer.specs.Limits.{MAX-OPS}
 use Rattle.answer.specs.Refusal.{accepted, answer_of, too_short}
 use Rattle.answer.specs.declared.Refusal.{Refusal}
 use Rattle.answer.specs.declared.Refusal.TheVariants.{PastEnd}
-use Rattle.answer.specs.declared.Answer.{Answer}
-use Rattle.answer.specs.declared.Answer.TheVariants.{Done, Refused}
 use Rattle.answer.proofs.Laws.{refuse-yes, refuse-no, is-refused, is-done, passed-if, passed-at}
 use Rattle.keccak.specs.Row.{OP-WORDS, LAST-ADDRESS, LAST-SEGMENT}
 use Rattle.keccak.specs.Refusals.{op_count, address_at, segment_at, high_at, unaligned_at, wide_at, not_whole, bad_operation, operations_refusal}
+use Rattle.std.specs.Prelude.{Result, Ok, Err, ⊤}
 
 -- the pointers of an operation whose address is not too high
 pub address-fits : (ops : List ℕ) (n i : ℕ) → first_at (high_at ops) n ≡ none → i < n → address_at ops i + 192 < 2 ^ 64
@@ -57,14 +56,14 @@ module _ (room needed : ℕ) (ops : List ℕ) where
   unfolding operations_refusal
   too_many_lem h = refuse-yes _ _ (lt-ltb _ _ h)
 
-  module _ {n : ℕ} {a : Answer} (few : op_count ops ≤ MAX-OPS) (same : n ≡ needed) (told : a ≡ answer_of (not_whole ops (too_short room n (bad_operation ops accepted)))) where
+  module _ {n : ℕ} {a : Result ⊤ Refusal} (few : op_count ops ≤ MAX-OPS) (same : n ≡ needed) (told : a ≡ answer_of (not_whole ops (too_short room n (bad_operation ops accepted)))) where
     others : a ≡ answer_of (not_whole ops (too_short room needed (bad_operation ops accepted)))
     others = told ∙ ap (λ (k : ℕ). answer_of (not_whole ops (too_short room k (bad_operation ops accepted)))) same
 
-    pub told-refused : {r : Refusal} → a ≡ Refused r → operations_refusal room needed ops ≡ some r
+    pub told-refused : {r : Refusal} → a ≡ Err r → operations_refusal room needed ops ≡ some r
     unfolding operations_refusal
     told-refused e = refuse-no _ (le-ltb _ _ few) (is-refused _ (sym e ∙ others))
 
-    pub told-done : a ≡ Done → (operations_refusal room needed ops ≡ none) × Passed room needed ops
+    pub told-done : a ≡ Ok tt → (operations_refusal room needed ops ≡ none) × Passed room needed ops
     unfolding operations_refusal
     told-done e = let clear = is-done _ (sym e ∙ others) in (refuse-no _ (le-ltb _ _ few) clear, passed room needed ops clear)

@@ -2,16 +2,14 @@
 -- the rows of the first and then those of the second, and parts of a list can be written into parts of one table.
 use mathlib.Core.Path.{◌≡◌, sym, ap, ◌∙◌}
 use mathlib.Core.List.{List, ◌++◌}
-use Prim.Native.Nat.{ℕ, ◌+◌, ◌*◌, ◌/◌, ◌%◌, ◌<◌}
+use Prim.Native.Nat.{ℕ, ◌+◌, ◌*◌, ◌%◌, ◌<◌}
 use native.Mathlib.Nat.{add_assoc, add-zero}
 use native.Mathlib.Omega.{arith}
 use lib.ListN.{length, get_or, get_or-append, length-append}
 use lib.Seq.{get_or-append-add}
-use Rattle.lists.specs.Tab.{tab}
 use Rattle.lists.proofs.Laws.{tab-same, table-add}
 use Rattle.keccak.specs.Row.{OP-WORDS, SEGMENT-WORD, op_at, core_row, core_rows}
 use Rattle.keccak.specs.Refusals.{op_count}
-use Rattle.keccak.specs.declared.KeccakOperation.{KeccakOperation}
 
 -- an operation is known by its words
 pub op_same : (a b : List ℕ) (i j : ℕ) → ((k : ℕ) → k < OP-WORDS → get_or a (OP-WORDS * i + k) 0 ≡ get_or b (OP-WORDS * j + k) 0) → op_at a i ≡ op_at b j

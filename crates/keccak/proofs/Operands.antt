@@ -1,6 +1,6 @@
 -- The words of ADD's operands on a core row, where no column passes p: they are the sums that value 50 and the Memw tuples
 -- write out, and the carry in value 50 is ADD's. Nothing is asked of the range of a byte or a limb.
-use mathlib.Core.Path.{◌≡◌, sym, ap, ap₂, ◌∙◌}
+use mathlib.Core.Path.{◌≡◌, ap, ap₂, ◌∙◌}
 use mathlib.Core.List.{List}
 use Prim.Native.Nat.{ℕ, ◌+◌, ◌%◌, ◌<◌}
 use native.Mathlib.Nat.{mod-eq_of_lt, zero-add, add-zero, mul-one}

@@ -16,7 +16,6 @@ use Rattle.is_wh.specs.Tuples.{is-whh}
 use Rattle.tuple.specs.Tuple.{sender, receiver}
 use Rattle.tuple.specs.declared.Bus.TheVariants.{ByteAlu, AreBytes, Memw, Keccak, Ecall, IsWh, IsHalfword}
 use Rattle.tuple.specs.Call.{tuple_answer}
-use Rattle.tuple.specs.declared.TupleAnswer.{TupleAnswer}
 use Rattle.tuple.proofs.Call.{tuple-refused}
 use Rattle.answer.specs.Refusal.{overwrite, afterwards}
 use Rattle.answer.specs.declared.Refusal.{Refusal}
@@ -27,6 +26,8 @@ use Rattle.keccak.specs.Values.{NUM-VALUES, pointer_value, word_of_bytes, word_o
 use Rattle.keccak.specs.Tuples.{NUM-TUPLES, ecall_tuple, addr_memw, keccak_values, core_sent, core_received, pointer_tuple, align_tuple, addr_bytes_tuple, lane_memw, core_tuple}
 use Rattle.keccak.specs.TupleCalls.{core_tuple_refusal, core_tuple_answer, core_tuple_after}
 use Rattle.keccak.proofs.TupleCalls.{tuple-later}
+use Rattle.std.specs.Prelude.{Result}
+use Rattle.tuple.specs.declared.BusInteraction.{BusInteraction}
 
 -- ---- for any table: entries by x, y and b, and the 203 values of a Keccak tuple
 pub by-xyb-same : {A : Type 0} (f g : ℕ → ℕ → ℕ → A) → ((x y b : ℕ) → x < 5 → y < 5 → b < 8 → f x y b ≡ g x y b)
@@ -209,7 +210,7 @@ rest-not-read nr syscall row i out =
     front : List ℕ
     front = take NUM-COLUMNS row
 
-    answered : List ℕ → Option Refusal → TupleAnswer
+    answered : List ℕ → Option Refusal → Result BusInteraction Refusal
     answered r o = tuple_answer (core_tuple nr syscall r i) o
 
     left : List ℕ → Option Refusal → List ℕ

@@ -20,11 +20,9 @@ fn charge_pointers(address: u64, counters: &mut [u64])
     requires { ElementRow NUM-COUNTERS counters.old × (address ≤ LAST-ADDRESS) }
     ensures { counters.new ≡ charged_counters counters.old (hits 25 (pointer_place address)) }
 {
-    let mut i: u64 = 0;
-    while i < 25 {
+    for i in 0..25 {
         let low = (address + 8 * i) % 65536;
         charge_word(counters, low as usize * NUM_LOOKUP_TYPES + IS_HALF, 1);
-        i += 1;
     }
 }
 
@@ -33,13 +31,9 @@ fn charge_pairs(address: u64, counters: &mut [u64])
     requires { ElementRow NUM-COUNTERS counters.old }
     ensures { counters.new ≡ charged_counters counters.old (hits 4 (pair_place address)) }
 {
-    let mut rest = address;
-    let mut i: usize = 0;
-    while i < 4 {
-        let pair = rest % 65536;
+    for i in 0..4u64 {
+        let pair = (address >> (16 * i)) % 65536;
         charge_word(counters, pair as usize * NUM_LOOKUP_TYPES + ARE_BYTES, 1);
-        rest = rest / 65536;
-        i += 1;
     }
 }
 
@@ -59,9 +53,7 @@ pub fn charge_core_rows(ops: &[u64], n: usize, counters: &mut [u64])
     requires { (OP-WORDS * n ≤ length ops.now) × ElementRow NUM-COUNTERS counters.old × ((i : ℕ) → i < n → address_at ops.now i ≤ LAST-ADDRESS) }
     ensures { (nr : ℕ) → counters.new ≡ charged_counters counters.old (charged n 84 (λ r. core_tuple nr 0 (core_row (op_at ops.now r)))) }
 {
-    let mut i: usize = 0;
-    while i < n {
+    for i in 0..n {
         charge_core_row(ops[OP_WORDS * i + 1], counters);
-        i += 1;
     }
 }

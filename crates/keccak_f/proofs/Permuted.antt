@@ -5,7 +5,7 @@
 --     state-permuted    the first 25 words are then Keccak-p[1600, nr] of FIPS 202 of what they were, bit by bit
 --     state-past        and the words past them what they were
 use Prim.Native.Nat.{ℕ, ◌+◌, ◌*◌, ◌^◌, ◌≤◌, ◌<◌}
-use mathlib.Core.Path.{◌≡◌, refl, sym, ap, ◌∙◌, subst}
+use mathlib.Core.Path.{◌≡◌, sym, ap, ◌∙◌, subst}
 use mathlib.Core.Logic.{◌↔◌}
 use mathlib.Core.Option.{some}
 use mathlib.Core.List.{List}

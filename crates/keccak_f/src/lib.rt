@@ -6,7 +6,7 @@ ghost use Rattle.std.proofs.lemmas.List.Edits.{sets};
 ghost use Rattle.answer.specs.Refusal.{answer_of};
 ghost use Rattle.keccak_f.specs.KeccakF.{LANES, permuted, state_refusal, state_after};
 
-use answer::{Answer, Refusal, check_rounds};
+use answer::{Refusal, check_rounds};
 use lists::put_words;
 use operations::lanes_at;
 use permutation::State;
@@ -26,16 +26,14 @@ fn put_permuted(nr: usize, state: &mut [u64])
     put_words(state, 0, &words, LANES);
 }
 
-pub fn keccak_f(nr: u64, state: &mut [u64]) -> Answer
+pub fn keccak_f(nr: u64, state: &mut [u64]) -> Result<(), Refusal>
     ensures answer { result ≡ answer_of (state_refusal nr (length state.old)) }
     ensures words { state.new ≡ state_after nr state.old }
 {
-    if let Answer::Refused(refusal) = check_rounds(nr) {
-        return Answer::Refused(refusal);
-    }
+    check_rounds(nr)?;
     if state.len() < LANES {
-        return Answer::Refused(Refusal::TooShort(LANES as u64));
+        return Err(Refusal::TooShort(LANES as u64));
     }
     put_permuted(nr as usize, state);
-    Answer::Done
+    Ok(())
 }

@@ -3,11 +3,11 @@ use Rattle.std.specs.Prelude.{ℕ, List, length}
 use Rattle.std.proofs.Math.Option.{Option}
 use Rattle.answer.specs.Refusal.{answer_of, overwrite, afterwards, not_rounds}
 use Rattle.answer.specs.declared.Refusal.{Refusal}
-use Rattle.answer.specs.declared.Answer.{Answer}
 use Rattle.tuple.specs.Words.{tuples_words}
 use Rattle.tuple.specs.Values.{values_refusal}
 use Rattle.keccak.specs.Columns.{NUM-COLUMNS}
 use Rattle.keccak.specs.Tuples.{NUM-TUPLES, core_tuple}
+use Rattle.std.specs.Prelude.{Result, ⊤}
 
 -- four for each of the 84 tuples, and their 1,121 values
 abbrev pub NUM-WORDS : ℕ
@@ -19,7 +19,7 @@ unfoldable pub core_tuples_refusal : ℕ → List ℕ → ℕ → Option Refusal
 core_tuples_refusal nr row room = not_rounds nr (values_refusal NUM-COLUMNS NUM-WORDS row room)
 
 -- what it answers, and what it leaves in the slice that it is lent
-abbrev pub core_tuples_answer : ℕ → List ℕ → List ℕ → Answer
+abbrev pub core_tuples_answer : ℕ → List ℕ → List ℕ → Result ⊤ Refusal
 core_tuples_answer nr row out = answer_of (core_tuples_refusal nr row (length out))
 
 abbrev pub core_tuples_after : ℕ → ℕ → List ℕ → List ℕ → List ℕ

@@ -9,7 +9,7 @@ ghost use Rattle.keccak.specs.Columns.{NUM-COLUMNS};
 ghost use Rattle.keccak.specs.Tuples.{NUM-TUPLES, core_tuple};
 ghost use Rattle.keccak_interactions.specs.Words.{NUM-WORDS, core_tuples_answer, core_tuples_after};
 
-use answer::{Answer, check_rounds};
+use answer::{Refusal, check_rounds};
 use keccak::{NUM_COLUMNS, NUM_TUPLES};
 use keccak_tuples::row_tuple;
 use tuple::check::check_values;
@@ -43,26 +43,20 @@ fn put_tuples(nr: usize, row: &[u64], syscall: u64, out: &mut [u64])
     ensures { out.new ≡ sets out.old 0 (tuples_words (core_tuple nr syscall row.now) NUM-TUPLES) }
 {
     let mut at: usize = 0;
-    let mut i: usize = 0;
-    while i < NUM_TUPLES {
+    for i in 0..NUM_TUPLES {
         at = put_tuple(nr, row, i, syscall, out, at);
-        i += 1;
     }
 }
 
 // The tuples of a core row, of nr rounds, whoever filled it: its columns are checked once. The syscall number is handed
 // over.
-pub fn bus_interactions(nr: u64, row: &[u64], syscall: u64, out: &mut [u64]) -> Answer
+pub fn bus_interactions(nr: u64, row: &[u64], syscall: u64, out: &mut [u64]) -> Result<(), Refusal>
     ensures answer { result ≡ core_tuples_answer nr row.now out.old }
     ensures words { out.new ≡ core_tuples_after nr syscall row.now out.old }
 {
-    if let Answer::Refused(refusal) = check_rounds(nr) {
-        return Answer::Refused(refusal);
-    }
+    check_rounds(nr)?;
     let room = out.len();
-    if let Answer::Refused(refusal) = check_values(NUM_COLUMNS, NUM_WORDS, row, room) {
-        return Answer::Refused(refusal);
-    }
+    check_values(NUM_COLUMNS, NUM_WORDS, row, room)?;
     put_tuples(nr as usize, row, syscall, out);
-    Answer::Done
+    Ok(())
 }

@@ -12,7 +12,7 @@ ghost use Rattle.keccak.specs.Row.{OP-WORDS, KEY-WORDS, key_word, pointer_key, k
 ghost use Rattle.keccak.specs.Refusals.{high_at, wide_at, keys_refusal};
 ghost use Rattle.keccak.specs.Calls.{keys_after};
 
-use answer::{Answer, MAX_OPS, Refusal};
+use answer::{MAX_OPS, Refusal};
 use is_wh::IsWhKey;
 use keccak::{KEY_WORDS, KeccakOperation, OP_WORDS};
 use operations::{check_operations, operation_at};
@@ -33,10 +33,8 @@ fn put_keys(out: &mut [u64], at: usize, op: KeccakOperation)
     ensures { out.new ≡ sets out.old at (tab KEY-WORDS (pointer_key op.state_addr)) }
 {
     let addr = op.state_addr;
-    let mut i: usize = 0;
-    while i < 25 {
+    for i in 0..25 {
         put_key(out, at + 2 * i, addr + 8 * (i as u64));
-        i += 1;
     }
 }
 
@@ -45,27 +43,23 @@ fn put_op_keys(ops: &[u64], n: usize, out: &mut [u64])
     requires { (OP-WORDS * n ≤ length ops.now) × (n * KEY-WORDS ≤ length out.old) × (first_at (high_at ops.now) n ≡ none) × (first_at (wide_at ops.now) n ≡ none) }
     ensures { out.new ≡ sets out.old 0 (key_words n (op_at ops.now)) }
 {
-    let mut i: usize = 0;
-    while i < n {
+    for i in 0..n {
         let op = operation_at(ops, i);
         put_keys(out, i * KEY_WORDS, op);
-        i += 1;
     }
 }
 
 // The IS_WH keys of a list of operations: per lane the pointer's upper 32 bits, then its bits 16 to 31.
-pub fn is_wh_keys(ops: &[u64], out: &mut [u64]) -> Answer
+pub fn is_wh_keys(ops: &[u64], out: &mut [u64]) -> Result<(), Refusal>
     ensures answer { result ≡ answer_of (keys_refusal (length out.old) ops.now) }
     ensures words { out.new ≡ keys_after ops.now out.old }
 {
     let n = ops.len() / OP_WORDS;
     if n as u64 > MAX_OPS {
-        return Answer::Refused(Refusal::PastEnd(MAX_OPS + 1));
+        return Err(Refusal::PastEnd(MAX_OPS + 1));
     }
     let room = out.len();
-    if let Answer::Refused(refusal) = check_operations(ops, room, n * KEY_WORDS) {
-        return Answer::Refused(refusal);
-    }
+    check_operations(ops, room, n * KEY_WORDS)?;
     put_op_keys(ops, n, out);
-    Answer::Done
+    Ok(())
 }

@@ -18,14 +18,12 @@ fn put_pointers(row: &[u64], out: &mut [u64])
     requires { (NUM-COLUMNS ≤ length row.now) × (54 ≤ length out.old) }
     ensures { out.new ≡ sets out.old 4 (tab 50 (residues (λ i. pointer_tuple row.now (i / 2) (i % 2)))) }
 {
-    let mut i: usize = 0;
-    while i < 25 {
+    for i in 0..25 {
         let at = STATE_PTR + 3 * i;
         let pair = is_wh_residue(row[MU], row[at + 2], row[at + 1]);
         let low = half_residue(row[MU], row[at]);
         out[POINTER_TUPLES + 2 * i] = pair;
         out[POINTER_TUPLES + (2 * i + 1)] = low;
-        i += 1;
     }
 }
 
@@ -42,10 +40,8 @@ fn put_address(row: &[u64], out: &mut [u64])
     requires { (NUM-COLUMNS ≤ length row.now) × (59 ≤ length out.old) }
     ensures { out.new ≡ sets out.old 55 (tab 4 (residues (addr_bytes_tuple row.now))) }
 {
-    let mut i: usize = 0;
-    while i < 4 {
+    for i in 0..4 {
         out[ADDR_TUPLES + i] = bytes_residue(row[MU], row[ADDR + 2 * i], row[ADDR + (2 * i + 1)]);
-        i += 1;
     }
 }
 

@@ -7,7 +7,7 @@ ghost use Rattle.answer.specs.Refusal.{answer_of};
 ghost use Rattle.keccak_rc.specs.Row.{rc_row, rc_row_refusal, rc_row_after};
 ghost use Rattle.keccak_rc.specs.Table.{rc_table, times_looked_up, rc_trace_refusal, updated, update_refusal, rc_trace_after, update_after};
 
-use answer::{Answer, MAX_OPS, Refusal, check_rounds};
+use answer::{MAX_OPS, Refusal, check_rounds};
 use bits::put_dword_bl;
 use fips202::round_constant;
 use keccak_rc::{MU, NUM_COLUMNS, NUM_PRECOMPUTED_COLS, NUM_REAL_ROWS, NUM_ROWS, TABLE_WORDS};
@@ -23,18 +23,19 @@ fn put_row(row: &mut [u64], at: usize, round: usize)
 }
 
 // The nine fixed words of row `round`.
-pub fn generate_row(round: usize, out: &mut [u64]) -> Answer
+#[tactic(auto, unfolding(keccak_rc::specs::Row::rc_row_refusal, answer::specs::Refusal::refuse_if, answer::specs::Refusal::answer_of, answer::specs::Refusal::afterwards))]
+pub fn generate_row(round: usize, out: &mut [u64]) -> Result<(), Refusal>
     ensures answer { result ≡ answer_of (rc_row_refusal round out.old) }
     ensures words { out.new ≡ rc_row_after round out.old }
 {
     if round >= NUM_ROWS {
-        return Answer::Refused(Refusal::PastEnd(NUM_ROWS as u64));
+        return Err(Refusal::PastEnd(NUM_ROWS as u64));
     }
     if out.len() < NUM_PRECOMPUTED_COLS {
-        return Answer::Refused(Refusal::TooShort(NUM_PRECOMPUTED_COLS as u64));
+        return Err(Refusal::TooShort(NUM_PRECOMPUTED_COLS as u64));
     }
     put_row(out, 0, round);
-    Answer::Done
+    Ok(())
 }
 
 // The ten words of a row that nothing has looked up, from `at` on.
@@ -50,26 +51,26 @@ fn put_table(table: &mut [u64])
     requires { 320 ≤ length table.old }
     ensures { table.new ≡ sets table.old 0 rc_table }
 {
-    let mut round: usize = 0;
-    while round < NUM_ROWS {
+    for round in 0..NUM_ROWS {
         put_table_row(table, round * NUM_COLUMNS, round);
-        round += 1;
     }
 }
 
 // The whole table, each MU being 0.
-pub fn generate_keccak_rc_trace(table: &mut [u64]) -> Answer
+#[tactic(auto, unfolding(keccak_rc::specs::Table::rc_trace_refusal, answer::specs::Refusal::refuse_if, answer::specs::Refusal::answer_of, answer::specs::Refusal::afterwards))]
+pub fn generate_keccak_rc_trace(table: &mut [u64]) -> Result<(), Refusal>
     ensures answer { result ≡ answer_of (rc_trace_refusal table.old) }
     ensures words { table.new ≡ rc_trace_after table.old }
 {
     if table.len() < TABLE_WORDS {
-        return Answer::Refused(Refusal::TooShort(TABLE_WORDS as u64));
+        return Err(Refusal::TooShort(TABLE_WORDS as u64));
     }
     put_table(table);
-    Answer::Done
+    Ok(())
 }
 
 // How often n operations of nr rounds look up a round: those before round 24 - nr never.
+#[tactic(auto, unfolding(keccak_rc::specs::Table::times_looked_up))]
 fn times_looked_up(nr: usize, n: u64, round: usize) -> u64
     requires { nr ≤ 24 }
     ensures { result ≡ times_looked_up nr n round }
@@ -84,27 +85,24 @@ fn put_multiplicities(nr: usize, table: &mut [u64], n: u64)
     requires { (nr ≤ 24) × (320 ≤ length table.old) }
     ensures { table.new ≡ updated nr n table.old }
 {
-    let mut round: usize = 0;
-    while round < NUM_REAL_ROWS {
+    for round in 0..NUM_REAL_ROWS {
         table[round * NUM_COLUMNS + MU] = times_looked_up(nr, n, round);
-        round += 1;
     }
 }
 
 // MU of the rounds 24 - nr to 23 set to the number of operations, that of the rounds before them to 0.
-pub fn update_multiplicities(nr: u64, table: &mut [u64], n: u64) -> Answer
+#[tactic(auto, unfolding(keccak_rc::specs::Table::update_refusal, answer::specs::Refusal::refuse_if, answer::specs::Refusal::answer_of, answer::specs::Refusal::afterwards))]
+pub fn update_multiplicities(nr: u64, table: &mut [u64], n: u64) -> Result<(), Refusal>
     ensures answer { result ≡ answer_of (update_refusal nr table.old n) }
     ensures words { table.new ≡ update_after nr table.old n }
 {
-    if let Answer::Refused(refusal) = check_rounds(nr) {
-        return Answer::Refused(refusal);
-    }
+    check_rounds(nr)?;
     if n > MAX_OPS {
-        return Answer::Refused(Refusal::PastEnd(MAX_OPS + 1));
+        return Err(Refusal::PastEnd(MAX_OPS + 1));
     }
     if table.len() < TABLE_WORDS {
-        return Answer::Refused(Refusal::TooShort(TABLE_WORDS as u64));
+        return Err(Refusal::TooShort(TABLE_WORDS as u64));
     }
     put_multiplicities(nr as usize, table, n);
-    Answer::Done
+    Ok(())
 }

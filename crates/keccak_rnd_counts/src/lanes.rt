@@ -13,8 +13,7 @@ pub fn charge_lane(counters: &mut [u64], kind: usize, a: u64, b: u64)
     requires { ElementRow NUM-COUNTERS counters.old × (kind < 10) }
     ensures { counters.new ≡ charged_counters counters.old (lane_adds kind a b) }
 {
-    let mut z: usize = 0;
-    while z < 8 {
+    for z in 0..8usize {
         let x = (a >> (8 * z)) % 256;
         let y = (b >> (8 * z)) % 256;
         charge_word(
@@ -22,7 +21,6 @@ pub fn charge_lane(counters: &mut [u64], kind: usize, a: u64, b: u64)
             (x + y * 256) as usize * NUM_LOOKUP_TYPES + kind,
             1,
         );
-        z += 1;
     }
 }
 
@@ -31,8 +29,7 @@ pub fn charge_halves(counters: &mut [u64], a: u64)
     requires { ElementRow NUM-COUNTERS counters.old }
     ensures { counters.new ≡ charged_counters counters.old (halves_add a) }
 {
-    let mut h: usize = 0;
-    while h < 4 {
+    for h in 0..4usize {
         let x = (a >> (8 * (2 * h))) % 256;
         let y = (a >> (8 * (2 * h + 1))) % 256;
         charge_word(
@@ -40,6 +37,5 @@ pub fn charge_halves(counters: &mut [u64], a: u64)
             (x + y * 256) as usize * NUM_LOOKUP_TYPES + ARE_BYTES,
             1,
         );
-        h += 1;
     }
 }

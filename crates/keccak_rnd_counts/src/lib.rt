@@ -71,12 +71,10 @@ fn charge_rounds(counters: &mut [u64], nr: usize, first: [u64; 25])
     ensures { (stamp : ℕ → ℕ) → counters.new ≡ charged_counters counters.old (charged nr NUM-TUPLES (λ j. round_tuple (round_row stamp (24 - nr + j) (rounds_l (24 - nr) j first)))) }
 {
     let mut lanes = first;
-    let mut j: usize = 0;
-    while j < nr {
+    for j in 0..nr {
         let r = ROUNDS - nr + j;
         let next = charge_round(counters, r, lanes);
         lanes = next;
-        j += 1;
     }
 }
 
@@ -85,10 +83,8 @@ pub fn charge_op_rounds(nr: usize, ops: &[u64], n: usize, counters: &mut [u64])
     requires { (nr ≤ 24) × (OP-WORDS * n ≤ length ops.now) × ElementRow NUM-COUNTERS counters.old }
     ensures { counters.new ≡ charged_counters counters.old (charged (n * nr) NUM-TUPLES (λ q. round_tuple (op_row nr (op_at ops.now (q / nr)) (q % nr)))) }
 {
-    let mut i: usize = 0;
-    while i < n {
+    for i in 0..n {
         let lanes = lanes_at(ops, OP_WORDS * i + 2);
         charge_rounds(counters, nr, lanes);
-        i += 1;
     }
 }

@@ -29,10 +29,8 @@ pub fn charge_columns(counters: &mut [u64], s: [u64; 25])
     requires { ElementRow NUM-COUNTERS counters.old }
     ensures { counters.new ≡ charged_counters counters.old (parts 5 (column_adds s)) }
 {
-    let mut x: usize = 0;
-    while x < 5 {
+    for x in 0..5 {
         charge_column(counters, s, x);
-        x += 1;
     }
 }
 
@@ -51,10 +49,8 @@ pub fn charge_turns(counters: &mut [u64], c: [u64; 5])
     requires { ElementRow NUM-COUNTERS counters.old }
     ensures { counters.new ≡ charged_counters counters.old (parts 5 (turn_adds c)) }
 {
-    let mut x: usize = 0;
-    while x < 5 {
+    for x in 0..5 {
         charge_turn(counters, c, x);
-        x += 1;
     }
 }
 
@@ -63,10 +59,8 @@ pub fn charge_theta(counters: &mut [u64], s: [u64; 25], d: [u64; 5])
     requires { ElementRow NUM-COUNTERS counters.old }
     ensures { counters.new ≡ charged_counters counters.old (parts 25 (theta_adds s d)) }
 {
-    let mut i: usize = 0;
-    while i < 25 {
+    for i in 0..25 {
         charge_lane(counters, XOR, s[i], d[i % 5]);
-        i += 1;
     }
 }
 
@@ -75,11 +69,9 @@ pub fn charge_rho(counters: &mut [u64], t: [u64; 25])
     requires { ElementRow NUM-COUNTERS counters.old }
     ensures { counters.new ≡ charged_counters counters.old (parts 25 (rho_adds t)) }
 {
-    let mut i: usize = 0;
-    while i < 25 {
+    for i in 0..25 {
         let shifted = shift_lane(t[i], rho_offset(i % 5, i / 5) % 16);
         charge_lane(counters, ARE_BYTES, shifted.low, shifted.carry);
-        i += 1;
     }
 }
 
@@ -88,12 +80,10 @@ pub fn charge_chi(counters: &mut [u64], u: [u64; 25])
     requires { ElementRow NUM-COUNTERS counters.old }
     ensures { counters.new ≡ charged_counters counters.old (parts 25 (chi_adds u)) }
 {
-    let mut i: usize = 0;
-    while i < 25 {
+    for i in 0..25 {
         let a = !u[(i % 5 + 1) % 5 + 5 * (i / 5)];
         let b = u[(i % 5 + 2) % 5 + 5 * (i / 5)];
         charge_lane(counters, AND, a, b);
         charge_lane(counters, XOR, u[i], a & b);
-        i += 1;
     }
 }

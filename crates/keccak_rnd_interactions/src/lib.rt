@@ -12,7 +12,7 @@ ghost use Rattle.keccak_rnd_terms.specs.Terms.{TermsOf};
 ghost use Rattle.keccak_rnd_operands.specs.Lanes.{NUM-LANES, alu_tuple};
 ghost use Rattle.keccak_rnd_interactions.specs.Words.{NUM-WORDS, CXZ-WORDS, round_tuples_after};
 
-use answer::Answer;
+use answer::Refusal;
 use byte_tuples::words::{put_alu_lane, put_bytes, put_bytes_lane};
 use keccak_rnd::{MU, NUM_COLUMNS};
 use keccak_rnd_operands::{
@@ -56,10 +56,8 @@ fn put_first(row: &[u64], out: &mut [u64])
     ensures { out.new ≡ sets out.old 0 (tuples_words (round_tuple row.now) 3) }
 {
     let mut at: usize = 0;
-    let mut i: usize = 0;
-    while i < 3 {
+    for i in 0..3 {
         at = put_tuple(row, i, out, at);
-        i += 1;
     }
 }
 
@@ -75,13 +73,11 @@ fn put_alu_lanes<'a>(
     requires { (NUM-COLUMNS ≤ length row.now) × TermsOf row.now terms.now × (from + n ≤ NUM-LANES) × (at + 64 * n ≤ length out.old) }
     ensures { out.new ≡ sets out.old at (tuples_words (λ i. alu_tuple row.now (8 * from + i)) (8 * n)) }
 {
-    let mut l: usize = 0;
-    while l < n {
+    for l in 0..n {
         let Operands { op, a, b, c } = lane_operands(from + l);
         let first = operand_lane(row, terms, a);
         let second = operand_lane(row, terms, b);
         put_alu_lane(row[MU], op, first, second, row, c, out, at + 64 * l);
-        l += 1;
     }
 }
 
@@ -90,11 +86,9 @@ fn put_left(row: &[u64], out: &mut [u64], at: usize)
     requires { (NUM-COLUMNS ≤ length row.now) × (at + 120 ≤ length out.old) }
     ensures { out.new ≡ sets out.old at (tuples_words (λ i. round_tuple row.now (CXZ-LEFT-TUPLES + i)) 20) }
 {
-    let mut i: usize = 0;
-    while i < 20 {
+    for i in 0..20 {
         let Pair { a, b } = left_pair(i);
         put_bytes(out, at + 6 * i, row[a], row[b]);
-        i += 1;
     }
 }
 
@@ -103,11 +97,9 @@ fn put_rot(row: &[u64], out: &mut [u64], at: usize)
     requires { (NUM-COLUMNS ≤ length row.now) × (at + 1200 ≤ length out.old) }
     ensures { out.new ≡ sets out.old at (tuples_words (λ i. round_tuple row.now (ROT-TUPLES + i)) 200) }
 {
-    let mut l: usize = 0;
-    while l < 25 {
+    for l in 0..25 {
         let Pair { a, b } = rot_lane(l);
         put_bytes_lane(row, a, b, out, at + 48 * l);
-        l += 1;
     }
 }
 
@@ -149,14 +141,12 @@ fn put_tuples(row: &[u64], out: &mut [u64])
 }
 
 // The tuples of a round row, whoever filled it: its columns are checked once.
-pub fn bus_interactions(row: &[u64], out: &mut [u64]) -> Answer
+pub fn bus_interactions(row: &[u64], out: &mut [u64]) -> Result<(), Refusal>
     ensures answer { result ≡ values_answer NUM-COLUMNS NUM-WORDS row.now out.old }
     ensures words { out.new ≡ round_tuples_after row.now out.old }
 {
     let room = out.len();
-    if let Answer::Refused(refusal) = check_values(NUM_COLUMNS, NUM_WORDS, row, room) {
-        return Answer::Refused(refusal);
-    }
+    check_values(NUM_COLUMNS, NUM_WORDS, row, room)?;
     put_tuples(row, out);
-    Answer::Done
+    Ok(())
 }

@@ -7,7 +7,7 @@ use native.Mathlib.Omega.{arith}
 use borrow.Author.Tests.{lt-ltb, le-ltb}
 use lib.Bits.{bit_xor}
 use lib.Dec.{ltb}
-use lib.ListN.{length, get_or, set}
+use lib.ListN.{get_or, set}
 use lib.Seq.{sets}
 use Rattle.lists.specs.Tab.{pick, tab_from, tab, word}
 use Rattle.lists.proofs.Laws.{get_d-tab, tab-same}
@@ -18,10 +18,10 @@ use Rattle.tuple.specs.declared.Bus.TheVariants.{KeccakRc, Keccak}
 use Rattle.keccak_rnd.specs.Columns.{MU}
 use Rattle.keccak_rnd.specs.Tuples.{round_received, round_sent, constant_tuple, round_tuple}
 use Rattle.keccak_rnd.proofs.Places.{tuple_at_lem}
-use Rattle.residue.specs.Residue.{constant_residue, rc_residue, residue_on, residue, residues, Marked}
+use Rattle.residue.specs.Residue.{constant_residue, rc_residue, residue_on, residue, residues}
 use Rattle.residue.proofs.Or.{or_same}
 use Rattle.residue.proofs.Residue.{idle, sent, free}
-use Rattle.residue.proofs.Stored.{stored-rest, marked}
+use Rattle.residue.proofs.Stored.{stored-rest}
 use Rattle.keccak_rnd_operands.specs.Lanes.{alu_tuple}
 use Rattle.keccak_rnd_operands.proofs.Groups.{front-run, middle-run, back-run, alu-sent-by-mu}
 

@@ -47,13 +47,11 @@ fn put_alu_lanes<'a>(
     requires { (NUM-COLUMNS ≤ length row.now) × TermsOf row.now terms.now × (from + n ≤ NUM-LANES) × (at + 8 * n ≤ length out.old) }
     ensures { out.new ≡ sets out.old at (tab (8 * n) (residues (λ i. alu_tuple row.now (8 * from + i)))) }
 {
-    let mut l: usize = 0;
-    while l < n {
+    for l in 0..n {
         let Operands { op, a, b, c } = lane_operands(from + l);
         let first = operand_lane(row, terms, a);
         let second = operand_lane(row, terms, b);
         put_alu_lane(row[MU], op, first, second, row, c, out, at + 8 * l);
-        l += 1;
     }
 }
 
@@ -62,11 +60,9 @@ fn put_left(row: &[u64], out: &mut [u64])
     requires { (NUM-COLUMNS ≤ length row.now) × (DXZ-TUPLES ≤ length out.old) }
     ensures { out.new ≡ sets out.old CXZ-LEFT-TUPLES (tab 20 (residues (λ i. round_tuple row.now (CXZ-LEFT-TUPLES + i)))) }
 {
-    let mut i: usize = 0;
-    while i < 20 {
+    for i in 0..20 {
         let Pair { a, b } = left_pair(i);
         out[CXZ_LEFT_TUPLES + i] = bytes_residue(1, row[a], row[b]);
-        i += 1;
     }
 }
 
@@ -75,11 +71,9 @@ fn put_rot(row: &[u64], out: &mut [u64])
     requires { (NUM-COLUMNS ≤ length row.now) × (CHI-ANDS-TUPLES ≤ length out.old) }
     ensures { out.new ≡ sets out.old ROT-TUPLES (tab 200 (residues (λ i. round_tuple row.now (ROT-TUPLES + i)))) }
 {
-    let mut l: usize = 0;
-    while l < 25 {
+    for l in 0..25 {
         let Pair { a, b } = rot_lane(l);
         put_bytes_lane(row, a, b, out, ROT_TUPLES + 8 * l);
-        l += 1;
     }
 }
 

@@ -15,11 +15,9 @@ fn constant_residue(row: &[u64], constant: u64) -> u64
     ensures { result ≡ constant_residue constant (λ b. word row.now (1463 + b)) }
 {
     let mut off: u64 = 0;
-    let mut b: usize = 0;
-    while b < 8 {
+    for b in 0..8 {
         let byte = (constant >> (8 * b)) % 256;
         off = (byte ^ row[RC + b]) | off;
-        b += 1;
     }
     off
 }

@@ -2,16 +2,16 @@
 -- `round_tuple`, the operands are those that the leaves answer.
 use mathlib.Core.Path.{◌≡◌, refl, sym, ap, ap₂, subst, ◌∙◌}
 use mathlib.Core.List.{List}
-use Prim.Native.Nat.{ℕ, ◌+◌, ◌-◌, ◌*◌, ◌/◌, ◌%◌, ◌≤◌, ◌<◌}
+use Prim.Native.Nat.{ℕ, ◌+◌, ◌*◌, ◌/◌, ◌%◌, ◌≤◌, ◌<◌}
 use native.Mathlib.Nat.{zero-add}
 use native.Mathlib.Omega.{arith}
 use lib.ListN.{length}
-use Rattle.lists.specs.Tab.{tab, followed_by, word}
+use Rattle.lists.specs.Tab.{tab, word}
 use Rattle.lists.proofs.Laws.{get_d-tab, length-tab}
 use Rattle.lists.proofs.Then.{then-lt, then-ge, then-all, at-two, at-three}
 use Rattle.tuple.specs.Tuple.{Tuple}
 use Rattle.keccak_rnd.specs.Columns.{MU}
-use Rattle.keccak_rnd.specs.Tuples.{alu, are_bytes, cxz_tuple0, cxz_tuple, cxz_left_tuple, dxz_tuple, theta_tuple, rot_tuple, chi_ands_tuple, chi_tuple, iota_tuple, round_tuple}
+use Rattle.keccak_rnd.specs.Tuples.{alu, are_bytes, cxz_tuple0, cxz_tuple, dxz_tuple, theta_tuple, rot_tuple, chi_ands_tuple, chi_tuple, iota_tuple, round_tuple}
 use Rattle.keccak_rnd.proofs.Places.{tuple_at_lem, tuples-from}
 use Rattle.byte_tuples.specs.Lanes.{op_number, alu_lane}
 use Rattle.byte_tuples.specs.declared.Op.TheVariants.{And, Xor}

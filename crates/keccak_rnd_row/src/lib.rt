@@ -11,7 +11,7 @@ ghost use Rattle.keccak_rnd.specs.Refusals.{round_row_refusal};
 ghost use Rattle.keccak_rnd.specs.Calls.{round_row_after};
 ghost use Rattle.keccak_rnd.specs.Parts.{stage_cell, byte_cell, bit_cell, cxz_table, left_table, right_table, d_table, front_groups, rho_groups, chi_groups};
 
-use answer::{Answer, Refusal};
+use answer::Refusal;
 use bits::{put_dword_bl, put_dword_wl, put_lanes};
 use fips202::round_constant;
 use keccak_rnd::{
@@ -41,10 +41,8 @@ fn put_stages(row: &mut [u64], at: usize, t: [[[u8; 8]; 4]; 5])
     requires { at + 160 ≤ length row.old }
     ensures { row.new ≡ sets row.old at (tab 160 (stage_cell t)) }
 {
-    let mut k: usize = 0;
-    while k < 160 {
+    for k in 0..160 {
         row[at + k] = word_of(t[k / 32][k / 8 % 4][k % 8]);
-        k += 1;
     }
 }
 
@@ -53,10 +51,8 @@ fn put_table(row: &mut [u64], at: usize, t: [[u8; 8]; 5])
     requires { at + 40 ≤ length row.old }
     ensures { row.new ≡ sets row.old at (tab 40 (byte_cell t)) }
 {
-    let mut k: usize = 0;
-    while k < 40 {
+    for k in 0..40 {
         row[at + k] = word_of(t[k / 8][k % 8]);
-        k += 1;
     }
 }
 
@@ -65,10 +61,8 @@ fn put_bits(row: &mut [u64], at: usize, t: [[u8; 4]; 5])
     requires { at + 20 ≤ length row.old }
     ensures { row.new ≡ sets row.old at (tab 20 (bit_cell t)) }
 {
-    let mut k: usize = 0;
-    while k < 20 {
+    for k in 0..20 {
         row[at + k] = word_of(t[k / 4][k % 4]);
-        k += 1;
     }
 }
 
@@ -157,20 +151,25 @@ pub fn put_round_row(row: &mut [u64], at: usize, timestamp: u64, round: usize, s
 }
 
 // The row of a round: START is the first 25 words of `start`.
-pub fn keccak_rnd_row(timestamp: u64, start: &[u64], round: usize, row: &mut [u64]) -> Answer
+pub fn keccak_rnd_row(
+    timestamp: u64,
+    start: &[u64],
+    round: usize,
+    row: &mut [u64],
+) -> Result<(), Refusal>
     ensures answer { result ≡ answer_of (round_row_refusal round start.now row.old) }
     ensures words { row.new ≡ round_row_after timestamp start.now round row.old }
 {
     if round >= ROUNDS {
-        return Answer::Refused(Refusal::PastEnd(ROUNDS as u64));
+        return Err(Refusal::PastEnd(ROUNDS as u64));
     }
     if start.len() < 25 {
-        return Answer::Refused(Refusal::TooShort(25));
+        return Err(Refusal::TooShort(25));
     }
     if row.len() < NUM_COLUMNS {
-        return Answer::Refused(Refusal::TooShort(NUM_COLUMNS as u64));
+        return Err(Refusal::TooShort(NUM_COLUMNS as u64));
     }
     let lanes = lanes_at(start, 0);
     put_round_row(row, 0, timestamp, round, lanes);
-    Answer::Done
+    Ok(())
 }

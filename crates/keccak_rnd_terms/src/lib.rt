@@ -42,10 +42,8 @@ fn put_rotated(row: &[u64], out: &mut [u64])
     requires { ElementRow NUM-COLUMNS row.now × (PI ≤ length out.old) }
     ensures { out.new ≡ sets out.old 0 (tab PI (λ k. rotated_c_at row.now (k / 8) (k % 8))) }
 {
-    let mut k: usize = 0;
-    while k < PI {
+    for k in 0..PI {
         out[k] = rotated_c(row, k / 8, k % 8);
-        k += 1;
     }
 }
 
@@ -88,10 +86,8 @@ fn put_pi_lane(row: &[u64], source: Source, out: &mut [u64], at: usize)
     requires { ElementRow NUM-COLUMNS row.now × (source.left + 8 ≤ NUM-COLUMNS) × (source.right + 8 ≤ NUM-COLUMNS) × (source.moved ≤ 8) × (at + 8 ≤ length out.old) }
     ensures { out.new ≡ sets out.old at (tab 8 (sum_of row.now source)) }
 {
-    let mut z: usize = 0;
-    while z < 8 {
+    for z in 0..8 {
         out[at + z] = pi_byte(row, source, z);
-        z += 1;
     }
 }
 
@@ -100,11 +96,9 @@ fn put_pi(row: &[u64], out: &mut [u64])
     requires { ElementRow NUM-COLUMNS row.now × (NOT-PI ≤ length out.old) }
     ensures { out.new ≡ sets out.old PI (tab 200 (by_xyb (pi_at row.now))) }
 {
-    let mut l: usize = 0;
-    while l < 25 {
+    for l in 0..25 {
         let source = pi_source(l / 5, l % 5);
         put_pi_lane(row, source, out, PI + 8 * l);
-        l += 1;
     }
 }
 
@@ -122,10 +116,8 @@ fn put_not_pi(out: &mut [u64])
     requires { (NUM-TERMS ≤ length out.old) × ((k : ℕ) → k < 200 → word out.old (PI + k) < p) }
     ensures { out.new ≡ sets out.old NOT-PI (tab 200 (λ k. fsub 255 (word out.old (PI + k)))) }
 {
-    let mut k: usize = 0;
-    while k < 200 {
+    for k in 0..200 {
         out[NOT_PI + k] = not_byte(out[PI + k]);
-        k += 1;
     }
 }
 

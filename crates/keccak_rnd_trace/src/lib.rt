@@ -12,7 +12,7 @@ ghost use Rattle.keccak_rnd.specs.Refusals.{round_trace_refusal, round_rows_refu
 ghost use Rattle.keccak_rnd.specs.Calls.{round_trace_after, round_rows_after};
 ghost use Rattle.keccak_rnd.specs.Parts.{row_after};
 
-use answer::{Answer, MAX_OPS, Number, Refusal, check_rounds, check_rounds_and_floor};
+use answer::{MAX_OPS, Refusal, check_rounds, check_rounds_and_floor};
 use bits::put_zeros;
 use keccak::OP_WORDS;
 use keccak_rnd::{ARE_BYTES_PER_ROW, NUM_COLUMNS, ROUNDS};
@@ -28,13 +28,11 @@ fn put_rounds(nr: usize, table: &mut [u64], at: usize, timestamp: u64, start: St
 {
     let first = ROUNDS - nr;
     let mut state = start;
-    let mut r: usize = 0;
-    while r < nr {
+    for r in 0..nr {
         let lanes = state.lanes;
         put_round_row(table, at + r * NUM_COLUMNS, timestamp, first + r, lanes);
         let next = state.round(first + r);
         state = next;
-        r += 1;
     }
 }
 
@@ -44,12 +42,10 @@ fn put_op_rounds(nr: usize, ops: &[u64], n: usize, table: &mut [u64])
     ensures { table.new ≡ sets table.old 0 (table_of (n * nr) NUM-COLUMNS (λ q. op_row nr (op_at ops.now (q / nr)) (q % nr))) }
 {
     let words = nr * NUM_COLUMNS;
-    let mut i: usize = 0;
-    while i < n {
+    for i in 0..n {
         let at = OP_WORDS * i;
         let lanes = lanes_at(ops, at + 2);
         put_rounds(nr, table, i * words, ops[at], State { lanes });
-        i += 1;
     }
 }
 
@@ -64,77 +60,70 @@ fn put_round_rows(nr: usize, ops: &[u64], n: usize, h: usize, table: &mut [u64])
 }
 
 // The round table of a list of operations, of nr rounds each, of `floor` rows or more.
-pub fn generate_keccak_rnd_trace(nr: u64, floor: u64, ops: &[u64], table: &mut [u64]) -> Answer
+pub fn generate_keccak_rnd_trace(
+    nr: u64,
+    floor: u64,
+    ops: &[u64],
+    table: &mut [u64],
+) -> Result<(), Refusal>
     ensures answer { result ≡ answer_of (round_trace_refusal nr floor (length table.old) ops.now) }
     ensures words { table.new ≡ round_trace_after nr floor ops.now table.old }
 {
-    if let Answer::Refused(refusal) = check_rounds_and_floor(nr, floor) {
-        return Answer::Refused(refusal);
-    }
+    check_rounds_and_floor(nr, floor)?;
     let n = ops.len() / OP_WORDS;
     if n as u64 > MAX_OPS {
-        return Answer::Refused(Refusal::PastEnd(MAX_OPS + 1));
+        return Err(Refusal::PastEnd(MAX_OPS + 1));
     }
     let rounds = nr as usize;
     let h = table_height(floor as usize, n * rounds);
     let room = table.len();
-    if let Answer::Refused(refusal) = check_operations(ops, room, h * NUM_COLUMNS) {
-        return Answer::Refused(refusal);
-    }
+    check_operations(ops, room, h * NUM_COLUMNS)?;
     put_round_rows(rounds, ops, n, h, table);
-    Answer::Done
+    Ok(())
 }
 
 // The rows of a list of operations, with no padding: parts of a list fill parts of one table.
-pub fn keccak_rnd_rows(nr: u64, ops: &[u64], table: &mut [u64]) -> Answer
+pub fn keccak_rnd_rows(nr: u64, ops: &[u64], table: &mut [u64]) -> Result<(), Refusal>
     ensures answer { result ≡ answer_of (round_rows_refusal nr (length table.old) ops.now) }
     ensures words { table.new ≡ round_rows_after nr ops.now table.old }
 {
-    if let Answer::Refused(refusal) = check_rounds(nr) {
-        return Answer::Refused(refusal);
-    }
+    check_rounds(nr)?;
     let n = ops.len() / OP_WORDS;
     if n as u64 > MAX_OPS {
-        return Answer::Refused(Refusal::PastEnd(MAX_OPS + 1));
+        return Err(Refusal::PastEnd(MAX_OPS + 1));
     }
     let rounds = nr as usize;
     let room = table.len();
-    if let Answer::Refused(refusal) = check_operations(ops, room, n * rounds * NUM_COLUMNS) {
-        return Answer::Refused(refusal);
-    }
+    check_operations(ops, room, n * rounds * NUM_COLUMNS)?;
     put_op_rounds(rounds, ops, n, table);
-    Answer::Done
+    Ok(())
 }
 
 // The height of the round table of n operations, `floor` or more.
-pub fn keccak_rnd_height(nr: u64, floor: u64, n: usize) -> Number
+pub fn keccak_rnd_height(nr: u64, floor: u64, n: usize) -> Result<u64, Refusal>
     ensures { result ≡ number_of (round_height nr floor n) (round_count_refusal nr floor n) }
 {
-    if let Answer::Refused(refusal) = check_rounds_and_floor(nr, floor) {
-        return Number::Refused(refusal);
-    }
+    check_rounds_and_floor(nr, floor)?;
     if n as u64 > MAX_OPS {
-        return Number::Refused(Refusal::PastEnd(MAX_OPS + 1));
+        return Err(Refusal::PastEnd(MAX_OPS + 1));
     }
     let h = table_height(floor as usize, n * nr as usize);
-    Number::Is(h as u64)
+    Ok(h as u64)
 }
 
 // The AreBytes lookups of the padding rows of n operations' round table; none where there is no table, whatever the floor.
-pub fn padding_are_bytes(nr: u64, floor: u64, n: usize) -> Number
+pub fn padding_are_bytes(nr: u64, floor: u64, n: usize) -> Result<u64, Refusal>
     ensures { result ≡ number_of (padding-are-bytes nr floor n) (round_count_refusal nr floor n) }
 {
-    if let Answer::Refused(refusal) = check_rounds_and_floor(nr, floor) {
-        return Number::Refused(refusal);
-    }
+    check_rounds_and_floor(nr, floor)?;
     if n as u64 > MAX_OPS {
-        return Number::Refused(Refusal::PastEnd(MAX_OPS + 1));
+        return Err(Refusal::PastEnd(MAX_OPS + 1));
     }
     if n == 0 {
-        return Number::Is(0);
+        return Ok(0);
     }
     let used = n * nr as usize;
     let rows = table_height(floor as usize, used) - used;
     let lookups = rows * ARE_BYTES_PER_ROW;
-    Number::Is(lookups as u64)
+    Ok(lookups as u64)
 }

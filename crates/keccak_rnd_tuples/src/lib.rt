@@ -14,7 +14,7 @@ ghost use Rattle.keccak_rnd.specs.Columns.{NUM-COLUMNS};
 ghost use Rattle.keccak_rnd.specs.Tuples.{NUM-TUPLES, CXZ-TUPLES, round_tuple, constant_tuple};
 ghost use Rattle.keccak_rnd_tuples.specs.States.{lane_word, column_word, state_word};
 
-use answer::Answer;
+use answer::Refusal;
 use field::Fe;
 use keccak_rnd::{
     CHI, CHI_ANDS_TUPLES, CXZ_LEFT_TUPLES, CXZ_TUPLES, DXZ_TUPLES, IOTA, MU, NUM_COLUMNS,
@@ -23,7 +23,7 @@ use keccak_rnd::{
 use keccak_rnd_byte_tuples::byte_tuple;
 use lists::put_part;
 use tuple::check::check_tuple;
-use tuple::{Bus, BusInteraction, Side, TupleAnswer};
+use tuple::{Bus, BusInteraction, Side};
 
 // The lengths of the tuples, bus by bus.
 pub const KECCAK_VALUES: usize = 203;
@@ -39,10 +39,8 @@ fn copy_lanes(row: &[u64], from: usize, n: usize, out: &mut [u64], at: usize)
     requires { (n ≤ 5) × (from + n * 40 ≤ length row.now + 32) × (at + n * 8 ≤ length out.old) }
     ensures { out.new ≡ sets out.old at (tab (n * 8) (lane_word row.now from)) }
 {
-    let mut y: usize = 0;
-    while y < n {
+    for y in 0..n {
         put_part(out, at + y * 8, row, from + y * 40, 8);
-        y += 1;
     }
 }
 
@@ -51,10 +49,8 @@ fn copy_columns(row: &[u64], base: usize, out: &mut [u64])
     requires { (base + 200 ≤ length row.now) × (203 ≤ length out.old) }
     ensures { out.new ≡ sets out.old 43 (tab 160 (λ k. by_xyb (column_word row.now base) (40 + k))) }
 {
-    let mut x: usize = 0;
-    while x < 4 {
+    for x in 0..4 {
         copy_lanes(row, base + 8 + x * 8, 5, out, 43 + x * 40);
-        x += 1;
     }
 }
 
@@ -179,21 +175,16 @@ pub fn row_tuple(row: &[u64], index: usize, out: &mut [u64]) -> BusInteraction
 }
 
 // Tuple `index` of a round row: its values go into `out`.
-pub fn bus_interaction(row: &[u64], index: usize, out: &mut [u64]) -> TupleAnswer
+pub fn bus_interaction(
+    row: &[u64],
+    index: usize,
+    out: &mut [u64],
+) -> Result<BusInteraction, Refusal>
     ensures answer { result ≡ tuple_answer_of NUM-COLUMNS NUM-TUPLES round_tuple row.now index out.old }
     ensures words { out.new ≡ tuple_after NUM-COLUMNS NUM-TUPLES round_tuple row.now index out.old }
 {
     let length = tuple_length(index);
     let room = out.len();
-    if let Answer::Refused(refusal) = check_tuple(
-        NUM_COLUMNS,
-        NUM_TUPLES,
-        row,
-        index,
-        length,
-        room,
-    ) {
-        return TupleAnswer::Refused(refusal);
-    }
-    TupleAnswer::Is(row_tuple(row, index, out))
+    check_tuple(NUM_COLUMNS, NUM_TUPLES, row, index, length, room)?;
+    Ok(row_tuple(row, index, out))
 }

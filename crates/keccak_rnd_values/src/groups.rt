@@ -14,11 +14,9 @@ pub fn put_carry_values(row: &[u64], out: &mut [u64])
     requires { ElementRow NUM-COLUMNS row.now × (20 ≤ length out.old) }
     ensures { out.new ≡ sets out.old 0 (tab 20 (λ i. carry_value row.now (i / 4) (i % 4))) }
 {
-    let mut i: usize = 0;
-    while i < THETA_VALUES {
+    for i in 0..THETA_VALUES {
         let value = carry_value(row, i);
         out[i] = value.value;
-        i += 1;
     }
 }
 
@@ -27,11 +25,9 @@ fn put_theta_column(row: &[u64], x: usize, out: &mut [u64], at: usize)
     requires { ElementRow NUM-COLUMNS row.now × (x < 5) × (at + 4 ≤ length out.old) }
     ensures { out.new ≡ sets out.old at (tab 4 (theta_value row.now x)) }
 {
-    let mut hw: usize = 0;
-    while hw < 4 {
+    for hw in 0..4 {
         let value = theta_value(row, x, hw);
         out[at + hw] = value.value;
-        hw += 1;
     }
 }
 
@@ -39,10 +35,8 @@ pub fn put_theta_values(row: &[u64], out: &mut [u64])
     requires { ElementRow NUM-COLUMNS row.now × (40 ≤ length out.old) }
     ensures { out.new ≡ sets out.old 20 (tab 20 (λ i. theta_value row.now (i / 4) (i % 4))) }
 {
-    let mut x: usize = 0;
-    while x < 5 {
+    for x in 0..5 {
         put_theta_column(row, x, out, THETA_VALUES + 4 * x);
-        x += 1;
     }
 }
 
@@ -52,11 +46,9 @@ fn put_rho_lane(row: &[u64], x: usize, y: usize, out: &mut [u64], at: usize)
     ensures { out.new ≡ sets out.old at (tab 4 (rho_value row.now x y)) }
 {
     let power = rho_offset(x, y) % 16;
-    let mut hw: usize = 0;
-    while hw < 4 {
+    for hw in 0..4 {
         let value = rho_value(row, x, y, power, hw);
         out[at + hw] = value.value;
-        hw += 1;
     }
 }
 
@@ -65,10 +57,8 @@ fn put_rho_lanes(row: &[u64], x: usize, out: &mut [u64], at: usize)
     requires { ElementRow NUM-COLUMNS row.now × (x < 5) × (at + 20 ≤ length out.old) }
     ensures { out.new ≡ sets out.old at (tab 20 (λ i. rho_value row.now x (i / 4) (i % 4))) }
 {
-    let mut y: usize = 0;
-    while y < 5 {
+    for y in 0..5 {
         put_rho_lane(row, x, y, out, at + 4 * y);
-        y += 1;
     }
 }
 
@@ -76,9 +66,7 @@ pub fn put_rho_values(row: &[u64], out: &mut [u64])
     requires { ElementRow NUM-COLUMNS row.now × (140 ≤ length out.old) }
     ensures { out.new ≡ sets out.old 40 (tab 100 (λ i. rho_value row.now (i / 20) (i / 4 % 5) (i % 4))) }
 {
-    let mut x: usize = 0;
-    while x < 5 {
+    for x in 0..5 {
         put_rho_lanes(row, x, out, RHO_VALUES + 20 * x);
-        x += 1;
     }
 }

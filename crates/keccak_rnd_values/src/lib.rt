@@ -10,7 +10,7 @@ ghost use Rattle.keccak_rnd.specs.Columns.{NUM-COLUMNS};
 ghost use Rattle.keccak_rnd.specs.Values.{NUM-VALUES, round_value};
 
 use add_template::is_bit;
-use answer::Answer;
+use answer::Refusal;
 use groups::{put_carry_values, put_rho_values, put_theta_values};
 use keccak_rnd::{MU, MU_VALUE, NUM_COLUMNS, NUM_VALUES};
 use keccak_rnd_value::element;
@@ -31,14 +31,12 @@ pub fn put_round_values(row: &[u64], out: &mut [u64])
 }
 
 // The values of a row, whoever filled it.
-pub fn round_values(row: &[u64], out: &mut [u64]) -> Answer
+pub fn round_values(row: &[u64], out: &mut [u64]) -> Result<(), Refusal>
     ensures answer { result ≡ values_answer NUM-COLUMNS NUM-VALUES row.now out.old }
     ensures words { out.new ≡ values_after NUM-COLUMNS NUM-VALUES round_value row.now out.old }
 {
     let room = out.len();
-    if let Answer::Refused(refusal) = check_values(NUM_COLUMNS, NUM_VALUES, row, room) {
-        return Answer::Refused(refusal);
-    }
+    check_values(NUM_COLUMNS, NUM_VALUES, row, room)?;
     put_round_values(row, out);
-    Answer::Done
+    Ok(())
 }

@@ -10,7 +10,7 @@ ghost use Rattle.keccak.specs.Row.{pointer_limb, core_row, core_pad};
 ghost use Rattle.keccak.specs.Refusals.{core_row_refusal};
 ghost use Rattle.keccak.specs.Calls.{core_row_after};
 
-use answer::{Answer, MAX_OPS, Refusal};
+use answer::{MAX_OPS, Refusal};
 use bits::{put_dword_bl, put_dword_whh, put_dword_wl, put_lanes, put_zeros};
 use keccak::{
     ADDR, INPUT_STATE, KeccakOperation, MU, NUM_COLUMNS, OP_WORDS, OUTPUT_STATE, STATE_PTR,
@@ -22,10 +22,8 @@ fn put_pointers(row: &mut [u64], at: usize, addr: u64)
     requires { (at + 75 ≤ length row.old) × (addr + 192 < 2 ^ 64) }
     ensures { row.new ≡ sets row.old at (tab 75 (pointer_limb addr)) }
 {
-    let mut i: usize = 0;
-    while i < 25 {
+    for i in 0..25 {
         put_dword_whh(row, at + 3 * i, addr + 8 * (i as u64));
-        i += 1;
     }
 }
 
@@ -56,22 +54,20 @@ pub fn put_pad_row(row: &mut [u64], at: usize)
 }
 
 // The row of operation `index` of a list.
-pub fn keccak_row(ops: &[u64], index: usize, row: &mut [u64]) -> Answer
+pub fn keccak_row(ops: &[u64], index: usize, row: &mut [u64]) -> Result<(), Refusal>
     ensures answer { result ≡ answer_of (core_row_refusal (length row.old) ops.now index) }
     ensures words { row.new ≡ core_row_after ops.now index row.old }
 {
     let n = ops.len() / OP_WORDS;
     if n as u64 > MAX_OPS {
-        return Answer::Refused(Refusal::PastEnd(MAX_OPS + 1));
+        return Err(Refusal::PastEnd(MAX_OPS + 1));
     }
     if index >= n {
-        return Answer::Refused(Refusal::PastEnd(n as u64));
+        return Err(Refusal::PastEnd(n as u64));
     }
     let room = row.len();
-    if let Answer::Refused(refusal) = check_operations(ops, room, NUM_COLUMNS) {
-        return Answer::Refused(refusal);
-    }
+    check_operations(ops, room, NUM_COLUMNS)?;
     let op = operation_at(ops, index);
     put_core_row(row, 0, op);
-    Answer::Done
+    Ok(())
 }

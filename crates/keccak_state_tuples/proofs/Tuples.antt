@@ -2,7 +2,6 @@
 use mathlib.Core.Path.{◌≡◌, refl, ap}
 use mathlib.Core.List.{List}
 use Prim.Native.Nat.{ℕ}
-use lib.ListN.{length}
 use Rattle.lists.specs.Tab.{word}
 use Rattle.tuple.specs.Tuple.{sender, receiver}
 use Rattle.tuple.specs.Call.{interaction_of}

@@ -25,10 +25,8 @@ fn put_sheet(out: &mut [u64], at: usize, row: &[u64], base: usize, x: usize)
     requires { (at + 40 ≤ length out.old) × (base + 200 ≤ length row.now) × (x < 5) }
     ensures { out.new ≡ sets out.old at (tab 40 (sheet_word row.now base x)) }
 {
-    let mut y: usize = 0;
-    while y < 5 {
+    for y in 0..5 {
         put_part(out, at + 8 * y, row, base + (x + 5 * y) * 8, 8);
-        y += 1;
     }
 }
 
@@ -37,10 +35,8 @@ fn put_state(out: &mut [u64], at: usize, row: &[u64], base: usize)
     requires { (at + 200 ≤ length out.old) × (base + 200 ≤ length row.now) }
     ensures { out.new ≡ sets out.old at (tab 200 (by_xyb (λ x y b. word row.now (lane_column base x y b)))) }
 {
-    let mut x: usize = 0;
-    while x < 5 {
+    for x in 0..5 {
         put_sheet(out, at + 40 * x, row, base, x);
-        x += 1;
     }
 }
 

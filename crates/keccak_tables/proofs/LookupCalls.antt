@@ -4,7 +4,6 @@ use Rattle.bitwise.specs.Row.{index_refusal}
 use Rattle.bitwise.specs.Tuples.{kind_at}
 use Rattle.bitwise.specs.declared.BitwiseOperationType.TheVariants.{Zero, IsB20}
 use Rattle.bitwise_operations.specs.Operation.{operation, twenty_bits, operation_of, zero_refusal}
-use Rattle.bitwise_operations.specs.declared.OperationAnswer.TheVariants.{Is}
 use Rattle.flat.specs.FlatLookup.{of_kind, flat_lookup}
 use Rattle.keccak_tables.proofs.Kept.{Kept}
 use Rattle.keccak_tables.proofs.lookup_calls.keccak_tables_lookup_new.Kinds as lookup-new-kinds
@@ -21,6 +20,7 @@ use Rattle.keccak_tables.proofs.lookup_calls.keccak_tables_lookup_shift_op.Kinds
 use Rattle.keccak_tables.proofs.lookup_calls.keccak_tables_lookup_shift_op.Reads as lookup-shift-op-reads
 use Rattle.keccak_tables.proofs.lookup_calls.keccak_tables_lookup_b20.Kinds as lookup-b20-kinds
 use Rattle.keccak_tables.proofs.lookup_calls.keccak_tables_lookup_b20.Reads as lookup-b20-reads
+use Rattle.std.specs.Prelude.{Ok}
 
 pub record LookupCalls : Type 0 where
   -- lookup_new(kind, x, y, z) → FlatLookup
@@ -35,18 +35,18 @@ pub record LookupCalls : Type 0 where
       let kind = lent.0 in
       let x = lent.1.0 in
       let y = lent.1.1.0 in
-      answer ≡ flat_lookup (of_kind kind (Is (operation (kind_at kind) x y 0))))
+      answer ≡ flat_lookup (of_kind kind (Ok (operation (kind_at kind) x y 0))))
   -- lookup_single_byte(kind, x) → FlatLookup
   pub lookup-single-byte : Kept _ lookup-single-byte-kinds.ps lookup-single-byte-kinds.r lookup-single-byte-reads.Asked lookup-single-byte-reads.Learnt (λ _ lent answer ended.
       let kind = lent.0 in
       let x = lent.1.0 in
-      answer ≡ flat_lookup (of_kind kind (Is (operation (kind_at kind) x 0 0))))
+      answer ≡ flat_lookup (of_kind kind (Ok (operation (kind_at kind) x 0 0))))
   -- lookup_halfword(kind, x, y) → FlatLookup
   pub lookup-halfword : Kept _ lookup-halfword-kinds.ps lookup-halfword-kinds.r lookup-halfword-reads.Asked lookup-halfword-reads.Learnt (λ _ lent answer ended.
       let kind = lent.0 in
       let x = lent.1.0 in
       let y = lent.1.1.0 in
-      answer ≡ flat_lookup (of_kind kind (Is (operation (kind_at kind) x y 0))))
+      answer ≡ flat_lookup (of_kind kind (Ok (operation (kind_at kind) x y 0))))
   -- lookup_zero(value) → FlatLookup
   pub lookup-zero : Kept _ lookup-zero-kinds.ps lookup-zero-kinds.r lookup-zero-reads.Asked lookup-zero-reads.Learnt (λ _ lent answer ended.
       let value = lent.0 in

@@ -4,8 +4,8 @@ ghost use Rattle.bitwise.specs.Row.{index_refusal};
 ghost use Rattle.bitwise.specs.Tuples.{kind_at};
 ghost use Rattle.bitwise.specs.declared.BitwiseOperationType.TheVariants.{Zero, IsB20};
 ghost use Rattle.bitwise_operations.specs.Operation.{operation, twenty_bits, operation_of, zero_refusal};
-ghost use Rattle.bitwise_operations.specs.declared.OperationAnswer.TheVariants.{Is};
 ghost use Rattle.flat.specs.FlatLookup.{of_kind, flat_lookup};
+ghost use Rattle.std.specs.Prelude.{Ok};
 
 use flat::FlatLookup;
 
@@ -18,21 +18,21 @@ pub extern "C" fn keccak_tables_lookup_new(kind: usize, x: u8, y: u8, z: u8) -> 
 
 #[unsafe(no_mangle)]
 pub extern "C" fn keccak_tables_lookup_byte_op(kind: usize, x: u8, y: u8) -> FlatLookup
-    ensures { result ≡ flat_lookup (of_kind kind (Is (operation (kind_at kind) x y 0))) }
+    ensures { result ≡ flat_lookup (of_kind kind (Ok (operation (kind_at kind) x y 0))) }
 {
     keccak_tables::lookup_calls::keccak_tables_lookup_byte_op(kind, x, y)
 }
 
 #[unsafe(no_mangle)]
 pub extern "C" fn keccak_tables_lookup_single_byte(kind: usize, x: u8) -> FlatLookup
-    ensures { result ≡ flat_lookup (of_kind kind (Is (operation (kind_at kind) x 0 0))) }
+    ensures { result ≡ flat_lookup (of_kind kind (Ok (operation (kind_at kind) x 0 0))) }
 {
     keccak_tables::lookup_calls::keccak_tables_lookup_single_byte(kind, x)
 }
 
 #[unsafe(no_mangle)]
 pub extern "C" fn keccak_tables_lookup_halfword(kind: usize, x: u8, y: u8) -> FlatLookup
-    ensures { result ≡ flat_lookup (of_kind kind (Is (operation (kind_at kind) x y 0))) }
+    ensures { result ≡ flat_lookup (of_kind kind (Ok (operation (kind_at kind) x y 0))) }
 {
     keccak_tables::lookup_calls::keccak_tables_lookup_halfword(kind, x, y)
 }

@@ -13,7 +13,7 @@ ghost use Rattle.keccak.specs.Row.{OP-WORDS, core_row, core_pad, core_row_at, op
 ghost use Rattle.keccak.specs.Refusals.{high_at, wide_at, core_trace_refusal, core_rows_refusal, core_count_refusal};
 ghost use Rattle.keccak.specs.Calls.{core_trace_after, core_rows_after};
 
-use answer::{Answer, MAX_OPS, Number, Refusal, check_floor};
+use answer::{MAX_OPS, Refusal, check_floor};
 use keccak::{NUM_COLUMNS, OP_WORDS};
 pub use keccak_row::keccak_row;
 use keccak_row::{put_core_row, put_pad_row};
@@ -24,11 +24,9 @@ fn put_op_rows(ops: &[u64], n: usize, table: &mut [u64])
     requires { (OP-WORDS * n ≤ length ops.now) × (n * NUM-COLUMNS ≤ length table.old) × (first_at (high_at ops.now) n ≡ none) × (first_at (wide_at ops.now) n ≡ none) }
     ensures { table.new ≡ sets table.old 0 (table_of n NUM-COLUMNS (λ i. core_row (op_at ops.now i))) }
 {
-    let mut i: usize = 0;
-    while i < n {
+    for i in 0..n {
         let op = operation_at(ops, i);
         put_core_row(table, i * NUM_COLUMNS, op);
-        i += 1;
     }
 }
 
@@ -37,10 +35,8 @@ fn put_pad_rows(table: &mut [u64], at: usize, m: usize)
     requires { at + m * NUM-COLUMNS ≤ length table.old }
     ensures { table.new ≡ sets table.old at (table_of m NUM-COLUMNS (λ i. core_pad)) }
 {
-    let mut i: usize = 0;
-    while i < m {
+    for i in 0..m {
         put_pad_row(table, at + i * NUM_COLUMNS);
-        i += 1;
     }
 }
 
@@ -54,53 +50,45 @@ fn put_core_rows(ops: &[u64], n: usize, h: usize, table: &mut [u64])
 }
 
 // The core table of a list of operations, of `floor` rows or more.
-pub fn generate_keccak_trace(floor: u64, ops: &[u64], table: &mut [u64]) -> Answer
+pub fn generate_keccak_trace(floor: u64, ops: &[u64], table: &mut [u64]) -> Result<(), Refusal>
     ensures answer { result ≡ answer_of (core_trace_refusal floor (length table.old) ops.now) }
     ensures words { table.new ≡ core_trace_after floor ops.now table.old }
 {
-    if let Answer::Refused(refusal) = check_floor(floor) {
-        return Answer::Refused(refusal);
-    }
+    check_floor(floor)?;
     let n = ops.len() / OP_WORDS;
     if n as u64 > MAX_OPS {
-        return Answer::Refused(Refusal::PastEnd(MAX_OPS + 1));
+        return Err(Refusal::PastEnd(MAX_OPS + 1));
     }
     let h = table_height(floor as usize, n);
     let room = table.len();
-    if let Answer::Refused(refusal) = check_operations(ops, room, h * NUM_COLUMNS) {
-        return Answer::Refused(refusal);
-    }
+    check_operations(ops, room, h * NUM_COLUMNS)?;
     put_core_rows(ops, n, h, table);
-    Answer::Done
+    Ok(())
 }
 
 // The rows of a list of operations, with no padding: parts of a list fill parts of one table.
-pub fn keccak_rows(ops: &[u64], table: &mut [u64]) -> Answer
+pub fn keccak_rows(ops: &[u64], table: &mut [u64]) -> Result<(), Refusal>
     ensures answer { result ≡ answer_of (core_rows_refusal (length table.old) ops.now) }
     ensures words { table.new ≡ core_rows_after ops.now table.old }
 {
     let n = ops.len() / OP_WORDS;
     if n as u64 > MAX_OPS {
-        return Answer::Refused(Refusal::PastEnd(MAX_OPS + 1));
+        return Err(Refusal::PastEnd(MAX_OPS + 1));
     }
     let room = table.len();
-    if let Answer::Refused(refusal) = check_operations(ops, room, n * NUM_COLUMNS) {
-        return Answer::Refused(refusal);
-    }
+    check_operations(ops, room, n * NUM_COLUMNS)?;
     put_op_rows(ops, n, table);
-    Answer::Done
+    Ok(())
 }
 
 // The height of the core table of n operations, `floor` or more.
-pub fn keccak_height(floor: u64, n: usize) -> Number
+pub fn keccak_height(floor: u64, n: usize) -> Result<u64, Refusal>
     ensures { result ≡ number_of (height floor n) (core_count_refusal floor n) }
 {
-    if let Answer::Refused(refusal) = check_floor(floor) {
-        return Number::Refused(refusal);
-    }
+    check_floor(floor)?;
     if n as u64 > MAX_OPS {
-        return Number::Refused(Refusal::PastEnd(MAX_OPS + 1));
+        Err(Refusal::PastEnd(MAX_OPS + 1))
+    } else {
+        Ok(table_height(floor as usize, n) as u64)
     }
-    let rows = table_height(floor as usize, n);
-    Number::Is(rows as u64)
 }

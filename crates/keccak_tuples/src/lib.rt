@@ -10,7 +10,7 @@ ghost use Rattle.keccak.specs.Tuples.{NUM-TUPLES, ecall_tuple, core_tuple};
 ghost use Rattle.keccak.specs.TupleCalls.{core_tuple_answer, core_tuple_after};
 
 use address::{addr_bytes_tuple, align_tuple, pointer_tuple};
-use answer::{Answer, check_rounds};
+use answer::{Refusal, check_rounds};
 use keccak::{
     ADDR_TUPLES, ALIGN_TUPLE, LANE_TUPLES, MU, NUM_COLUMNS, NUM_TUPLES, POINTER_TUPLES,
     TIMESTAMP_0, TIMESTAMP_1,
@@ -18,7 +18,7 @@ use keccak::{
 use keccak_state_tuples::memw::{addr_memw, lane_memw};
 use keccak_state_tuples::{keccak_received, keccak_sent};
 use tuple::check::check_tuple;
-use tuple::{Bus, BusInteraction, Side, TupleAnswer};
+use tuple::{Bus, BusInteraction, Side};
 
 pub mod address;
 
@@ -129,24 +129,13 @@ pub fn bus_interaction(
     index: usize,
     syscall: u64,
     out: &mut [u64],
-) -> TupleAnswer
+) -> Result<BusInteraction, Refusal>
     ensures answer { result ≡ core_tuple_answer nr syscall row.now index out.old }
     ensures words { out.new ≡ core_tuple_after nr syscall row.now index out.old }
 {
-    if let Answer::Refused(refusal) = check_rounds(nr) {
-        return TupleAnswer::Refused(refusal);
-    }
+    check_rounds(nr)?;
     let length = tuple_length(index);
     let room = out.len();
-    if let Answer::Refused(refusal) = check_tuple(
-        NUM_COLUMNS,
-        NUM_TUPLES,
-        row,
-        index,
-        length,
-        room,
-    ) {
-        return TupleAnswer::Refused(refusal);
-    }
-    TupleAnswer::Is(row_tuple(nr as usize, row, index, syscall, out))
+    check_tuple(NUM_COLUMNS, NUM_TUPLES, row, index, length, room)?;
+    Ok(row_tuple(nr as usize, row, index, syscall, out))
 }

@@ -12,7 +12,7 @@ ghost use Rattle.keccak.specs.Columns.{ADDR, NUM-COLUMNS};
 ghost use Rattle.keccak.specs.Values.{NUM-VALUES, top_value, core_value};
 
 use add_template::{AddWords, Pair, add_pair_carry_hi, add_words, emit_add_pair, emit_is_bit};
-use answer::Answer;
+use answer::Refusal;
 use field::Fe;
 use keccak::{ADDR, MU, NUM_COLUMNS, NUM_VALUES, STATE_PTR};
 use templates::{AddOperand, Cond};
@@ -45,12 +45,10 @@ fn put_lane_values(row: &[u64], addr: AddWords, out: &mut [u64])
     requires { ElementRow NUM-COLUMNS row.now × (50 ≤ length out.old) × (addr ≡ words_on row.now (from-dword-bl ADDR)) × Elements addr }
     ensures { out.new ≡ sets out.old 0 (tab 50 (core_value row.now)) }
 {
-    let mut i: usize = 0;
-    while i < 25 {
+    for i in 0..25 {
         let v = lane_values(row, i, addr);
         out[2 * i] = v.low;
         out[2 * i + 1] = v.high;
-        i += 1;
     }
 }
 
@@ -68,14 +66,12 @@ pub fn put_core_values(row: &[u64], out: &mut [u64])
 }
 
 // The 52 values of a core row.
-pub fn core_values(row: &[u64], out: &mut [u64]) -> Answer
+pub fn core_values(row: &[u64], out: &mut [u64]) -> Result<(), Refusal>
     ensures answer { result ≡ values_answer NUM-COLUMNS NUM-VALUES row.now out.old }
     ensures words { out.new ≡ values_after NUM-COLUMNS NUM-VALUES core_value row.now out.old }
 {
     let room = out.len();
-    if let Answer::Refused(refusal) = check_values(NUM_COLUMNS, NUM_VALUES, row, room) {
-        return Answer::Refused(refusal);
-    }
+    check_values(NUM_COLUMNS, NUM_VALUES, row, room)?;
     put_core_values(row, out);
-    Answer::Done
+    Ok(())
 }

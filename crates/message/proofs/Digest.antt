@@ -23,7 +23,7 @@ use Rattle.keccak.specs.declared.KeccakOperation.{KeccakOperation}
 use Rattle.keccak.proofs.Listed.{count-listed, whole-listed, listed-read, listed_below, words-below}
 use Rattle.keccak.proofs.Refusals.{none-bad}
 use Rattle.message.specs.Message.{operation_from, message_op, message_list, Chained, last_digest, Hashable, message_refusal, message_after, judged_refusal, IsMessage, is_message, judged_of}
-use Rattle.message.specs.declared.Judgement.TheVariants.{Yes}
+use Rattle.std.specs.Prelude.{Ok}
 use Rattle.message.proofs.Message.{op-lanes, length-list}
 use Rattle.message.proofs.Refusals.{message-accepted, judged-rest}
 use Rattle.message.proofs.Judging.{message-decides, judge-says}
@@ -143,7 +143,7 @@ module _ (m : List ℕ) (address timestamp : ℕ) where
         let t : (op_at L 0).timestamp ≡ timestamp = omega (arith, list-stamp 0 (omega arith)) in
         record { list = sym (ap₂ (message_list m) a t); stamps = omega (arith, t, hashable.stamps) }
 
-    pub left-judged : judged_of (judged_refusal m L) (is_message m L) ≡ Yes
+    pub left-judged : judged_of (judged_refusal m L) (is_message m L) ≡ Ok true
     left-judged = sym (judge-says true left-accepted (T_true _ ((message-decides m L).from left-message)))
 
 -- ---- of a list that the judge says yes to

@@ -18,16 +18,16 @@ use Rattle.answer.specs.Refusal.{accepted}
 use Rattle.answer.specs.declared.Refusal.{Refusal}
 use Rattle.keccak.specs.Row.{OP-WORDS, op_at}
 use Rattle.keccak.specs.Refusals.{address_at}
-use Rattle.message.specs.Message.{is_late, message_list, judged_refusal, IsMessage, is_message, judged_by, judged_of}
-use Rattle.message.specs.declared.Judgement.TheVariants.{Yes, No, Refused}
+use Rattle.message.specs.Message.{is_late, message_list, judged_refusal, IsMessage, is_message, judged_of}
+use Rattle.std.specs.Prelude.{Ok, Err}
 use Rattle.message.proofs.Message.{test-same, test-apart, length-list}
 
 -- ---- the answer, once the checks are known
-pub judge-refused : {o : Option Refusal} {r : Refusal} (b : Bool) → o ≡ some r → Refused r ≡ judged_of o b
+pub judge-refused : {o : Option Refusal} {r : Refusal} (b : Bool) → o ≡ some r → Err r ≡ judged_of o b
 unfolding judged_of
 judge-refused b e = rw e
 
-pub judge-says : {o : Option Refusal} {b : Bool} (t : Bool) → o ≡ none → b ≡ t → judged_by t ≡ judged_of o b
+pub judge-says : {o : Option Refusal} {b : Bool} (t : Bool) → o ≡ none → b ≡ t → Ok t ≡ judged_of o b
 unfolding judged_of
 judge-says t e q = rw (e, q)
 
@@ -59,6 +59,11 @@ module _ (m ops : List ℕ) where
   unfolding is_message
   message-yes e q = true-and (not (is_late m first)) (words_test ops L) (ap not e) q
 
+  -- where they are not late, the words decide
+  pub words-say : is_late m first ≡ false → is_message m ops ≡ words_test ops L
+  unfolding is_message
+  words-say e = rw e
+
   pub message-decides : Decides (is_message m ops) (IsMessage m ops)
   unfolding is_message is_late
   message-decides =
@@ -71,16 +76,16 @@ module _ (m ops : List ℕ) where
 
 -- ---- "yes exactly when it is that list for its own first address and timestamp", and no for every other list that is not refused
 module _ (m ops : List ℕ) where
-  pub judge-yes : (judged_of (judged_refusal m ops) (is_message m ops) ≡ Yes) ↔ ((judged_refusal m ops ≡ accepted) × IsMessage m ops)
+  pub judge-yes : (judged_of (judged_refusal m ops) (is_message m ops) ≡ Ok true) ↔ ((judged_refusal m ops ≡ accepted) × IsMessage m ops)
   unfolding judged_of
   judge-yes = (go (judged_refusal m ops) refl (is_message m ops) refl, λ h. sym (judge-says true h.0 (T_true _ ((message-decides m ops).from h.1))))
     where
-      go : (o : Option Refusal) → judged_refusal m ops ≡ o → (b : Bool) → is_message m ops ≡ b → judged_of o b ≡ Yes → (judged_refusal m ops ≡ accepted) × IsMessage m ops
+      go : (o : Option Refusal) → judged_refusal m ops ≡ o → (b : Bool) → is_message m ops ≡ b → judged_of o b ≡ Ok true → (judged_refusal m ops ≡ accepted) × IsMessage m ops
       go none e true q y = (e, (message-decides m ops).to (T_of _ q))
       go none e false q y = let z : ◌≡◌ {A = ℕ} 0 1 = cc in absurd (omega arith)
       go (some r) e b q y = let z : ◌≡◌ {A = ℕ} 0 1 = cc in absurd (omega arith)
 
-  pub judge-no : (judged_of (judged_refusal m ops) (is_message m ops) ≡ No) ↔ ((judged_refusal m ops ≡ accepted) × (IsMessage m ops → ⊥))
+  pub judge-no : (judged_of (judged_refusal m ops) (is_message m ops) ≡ Ok false) ↔ ((judged_refusal m ops ≡ accepted) × (IsMessage m ops → ⊥))
   unfolding judged_of
   judge-no = (go (judged_refusal m ops) refl (is_message m ops) refl, λ h. sym (judge-says false h.0 (not-message (is_message m ops) refl h.1)))
     where
@@ -88,7 +93,7 @@ module _ (m ops : List ℕ) where
       not-message true q other = absurd (other ((message-decides m ops).to (T_of _ q)))
       not-message false q other = refl
 
-      go : (o : Option Refusal) → judged_refusal m ops ≡ o → (b : Bool) → is_message m ops ≡ b → judged_of o b ≡ No → (judged_refusal m ops ≡ accepted) × (IsMessage m ops → ⊥)
+      go : (o : Option Refusal) → judged_refusal m ops ≡ o → (b : Bool) → is_message m ops ≡ b → judged_of o b ≡ Ok false → (judged_refusal m ops ≡ accepted) × (IsMessage m ops → ⊥)
       go none e true q y = let z : ◌≡◌ {A = ℕ} 0 1 = cc in absurd (omega arith)
       go none e false q y = (e, λ h. true-not-false (sym (T_true _ ((message-decides m ops).from h)) ∙ q))
       go (some r) e b q y = let z : ◌≡◌ {A = ℕ} 0 1 = cc in absurd (omega arith)

@@ -17,11 +17,11 @@ use Rattle.answer.specs.Limits.{MAX-OPS}
 use Rattle.answer.specs.Refusal.{refuse_if, accepted, too_short, number_of}
 use Rattle.answer.specs.declared.Refusal.{Refusal}
 use Rattle.answer.specs.declared.Refusal.TheVariants.{PastEnd, TooShort, HighAddress, Unaligned, LongMessage, LateTimestamp}
-use Rattle.answer.specs.declared.Number.TheVariants as number
 use Rattle.answer.proofs.Laws.{refuse-yes, refuse-no, passed-if}
 use Rattle.keccak.specs.Row.{OP-WORDS, LAST-ADDRESS}
 use Rattle.keccak.specs.Refusals.{op_count, operations_refusal}
 use Rattle.message.specs.Message.{MAX-MESSAGE, is_late, too_late, bad_place, Hashable, message_refusal, judged_refusal}
+use Rattle.std.specs.Prelude.{Ok}
 
 module _ (room : ℕ) (m : List ℕ) (address timestamp : ℕ) where
   pub long-refused : MAX-MESSAGE < length m → message_refusal room m address timestamp ≡ some (LongMessage (length m))
@@ -79,11 +79,11 @@ module _ (room : ℕ) (m : List ℕ) (address timestamp : ℕ) where
   )
 
   -- what an answer that is a number says
-  pub number-told : {n : ℕ} → number.Is n ≡ number_of (blocks m) (message_refusal room m address timestamp) → (n ≡ blocks m) × Hashable room m address timestamp
+  pub number-told : {n : ℕ} → Ok n ≡ number_of (blocks m) (message_refusal room m address timestamp) → (n ≡ blocks m) × Hashable room m address timestamp
   unfolding number_of
   number-told {n} e = go (message_refusal room m address timestamp) refl e
     where
-      go : (o : Option Refusal) → message_refusal room m address timestamp ≡ o → number.Is n ≡ number_of (blocks m) o → (n ≡ blocks m) × Hashable room m address timestamp
+      go : (o : Option Refusal) → message_refusal room m address timestamp ≡ o → Ok n ≡ number_of (blocks m) o → (n ≡ blocks m) × Hashable room m address timestamp
       go none q e = (cc, message-accepted.0 q)
       go (some r) q e = let z : ◌≡◌ {A = ℕ} 0 1 = cc in absurd (omega arith)
 

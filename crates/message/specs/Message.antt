@@ -4,7 +4,7 @@
 --     message_refusal             the checks of `message_operations`
 --     judged_refusal              the checks of `judge_message`
 --     is_message                  whether a list is a message's
-use Rattle.std.specs.Prelude.{ℕ, suc, ◌+◌, ◌-◌, ◌*◌, ◌%◌, ◌^◌, ◌≤◌, ◌<◌, ◌≡◌, Bool, true, false, not, ◌&&◌, List, eqb, leb, ltb, length, replicate}
+use Rattle.std.specs.Prelude.{ℕ, suc, ◌+◌, ◌-◌, ◌*◌, ◌%◌, ◌^◌, ◌≤◌, ◌<◌, ◌≡◌, Bool, not, ◌&&◌, List, eqb, leb, ltb, length, replicate}
 use Rattle.std.proofs.Math.Option.{Option, none, some}
 use Rattle.lists.specs.Tab.{tab, table_of}
 use Rattle.lists.specs.Select.{words_test}
@@ -17,8 +17,7 @@ use Rattle.answer.specs.declared.Refusal.TheVariants.{HighAddress, Unaligned, Lo
 use Rattle.keccak.specs.Row.{OP-WORDS, LAST-ADDRESS, op_at, list_words}
 use Rattle.keccak.specs.Refusals.{op_count, address_at, too_many, not_whole, bad_operation}
 use Rattle.keccak.specs.declared.KeccakOperation.{KeccakOperation}
-use Rattle.message.specs.declared.Judgement.{Judgement}
-use Rattle.message.specs.declared.Judgement.TheVariants.{Yes, No, Refused}
+use Rattle.std.specs.Prelude.{Result, Ok, Err}
 
 -- "a message of at most 65,536 bytes"
 abbrev pub MAX-MESSAGE : ℕ
@@ -120,11 +119,7 @@ unfoldable pub is_message : List ℕ → List ℕ → Bool
 is_message m ops =
     not (is_late m (op_at ops 0).timestamp) && words_test ops (message_list m (address_at ops 0) (op_at ops 0).timestamp)
 
-abbrev pub judged_by : Bool → Judgement
-judged_by true = Yes
-judged_by false = No
-
 -- the answer of the judge, from what its checks found and the test
-unfoldable pub judged_of : Option Refusal → Bool → Judgement
-judged_of none b = judged_by b
-judged_of (some r) b = Refused r
+unfoldable pub judged_of : Option Refusal → Bool → Result Bool Refusal
+judged_of none b = Ok b
+judged_of (some r) b = Err r

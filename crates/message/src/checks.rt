@@ -5,7 +5,7 @@ ghost use Rattle.answer.specs.Refusal.{accepted, answer_of};
 ghost use Rattle.message.specs.Message.{is_late, bad_place, message_refusal, judged_refusal};
 
 use crate::blocks::block_count;
-use answer::{Answer, MAX_OPS, Refusal};
+use answer::{MAX_OPS, Refusal};
 use keccak::{LAST_ADDRESS, OP_WORDS};
 use operations::check_operations;
 
@@ -24,46 +24,51 @@ pub fn is_late(message: &[u8], timestamp: u64) -> bool
 }
 
 // The checks of an address.
-fn check_address(address: u64) -> Answer
+fn check_address(address: u64) -> Result<(), Refusal>
     ensures { result ≡ answer_of (bad_place address accepted) }
 {
     if address > LAST_ADDRESS {
-        return Answer::Refused(Refusal::HighAddress(address));
+        return Err(Refusal::HighAddress(address));
     }
     if address % 8 != 0 {
-        return Answer::Refused(Refusal::Unaligned(address));
+        return Err(Refusal::Unaligned(address));
     }
-    Answer::Done
+    Ok(())
 }
 
 // The checks of `message_operations`, with room for so many words.
-pub fn check_message(message: &[u8], address: u64, timestamp: u64, room: usize) -> Answer
+pub fn check_message(
+    message: &[u8],
+    address: u64,
+    timestamp: u64,
+    room: usize,
+) -> Result<(), Refusal>
     ensures { result ≡ answer_of (message_refusal room message.now address timestamp) }
 {
     let n = message.len();
     if n > MAX_MESSAGE {
-        return Answer::Refused(Refusal::LongMessage(n as u64));
+        return Err(Refusal::LongMessage(n as u64));
     }
     if is_late(message, timestamp) {
-        return Answer::Refused(Refusal::LateTimestamp(timestamp));
+        return Err(Refusal::LateTimestamp(timestamp));
     }
     let needed = block_count(message) * OP_WORDS;
     if room < needed {
-        return Answer::Refused(Refusal::TooShort(needed as u64));
+        return Err(Refusal::TooShort(needed as u64));
     }
     check_address(address)
 }
 
 // The checks of `judge_message`.
-pub fn check_list(message: &[u8], ops: &[u64]) -> Answer
+pub fn check_list(message: &[u8], ops: &[u64]) -> Result<(), Refusal>
     ensures { result ≡ answer_of (judged_refusal message.now ops.now) }
 {
     if (ops.len() / OP_WORDS) as u64 > MAX_OPS {
-        return Answer::Refused(Refusal::PastEnd(MAX_OPS + 1));
+        return Err(Refusal::PastEnd(MAX_OPS + 1));
     }
     let n = message.len();
     if n > MAX_MESSAGE {
-        return Answer::Refused(Refusal::LongMessage(n as u64));
+        return Err(Refusal::LongMessage(n as u64));
     }
     check_operations(ops, 0, 0)
 }

@@ -23,28 +23,21 @@ height-one a b e =
     let k : 2 + b ≤ 2 + a = exponent-le (2 + b) (2 + a) (omega (arith, e)) in
     omega arith
 
--- ---- from one height to the next
-pub height-twice : (e : ℕ) → height_of e * 2 ≡ height_of (e + 1)
-height-twice e = let q : 2 + (e + 1) ≡ suc (2 + e) = omega arith in sym (ap (λ (k : ℕ). 2 ^ k) q ∙ pow-suc 2 (2 + e))
+-- the exponent of the greatest power that is not above a height
+module _ (h e : ℕ) (x : (k : ℕ) × (k < HEIGHTS) × (h ≡ height_of k)) (low : 2 ^ e ≤ h) (high : h < 2 * 2 ^ e) where
+  exponent-is : e ≡ 2 + x.0
+  exponent-is =
+      let a : e ≤ 2 + x.0 = exponent-le e (2 + x.0) (omega (arith, low, x.2)) in
+      let b : 2 + x.0 ≤ e = by_le (2 + x.0) e (λ g. g) (λ g. absurd (omega (arith, high, x.2, pow-suc 2 e, pow_mono {i = suc e} {j = 2 + x.0} (omega (arith, g))))) in
+      omega arith
 
-pub height-pos : (e : ℕ) → 4 ≤ height_of e
-height-pos e = pow_mono {i = 2} {j = 2 + e} (omega arith)
+  pub exponent-least : 2 ≤ e
+  exponent-least = omega (arith, exponent-is)
 
--- below a height, the next is not above it, and a height that is not below it is it
-module _ (h p e : ℕ) (x : (k : ℕ) × (k < HEIGHTS) × (h ≡ height_of k)) (is : p ≡ height_of e) where
-  exponent_lt : p < h → e < x.0
-  exponent_lt l = by_le x.0 e (λ g. absurd (omega (arith, l, is, x.2, pow_mono {i = 2 + x.0} {j = 2 + e} (omega arith)))) (λ g. g)
-
-  pub height-next : p < h → (e < HEIGHTS) × (p * 2 ≡ height_of (e + 1)) × (p * 2 ≤ h)
-  height-next l =
-      let g = exponent_lt l in
-      let q : p * 2 ≡ height_of (e + 1) = ap (λ (w : ℕ). w * 2) is ∙ height-twice e in
-      (omega (arith, g, x.1), q, omega (arith, q, x.2, pow_mono {i = 2 + (e + 1)} {j = 2 + x.0} (omega arith)))
-
-  pub height-found : p ≤ h → h ≤ p → (e < HEIGHTS) × (h ≡ height_of e)
-  height-found l g =
-      let q : x.0 ≡ e = height-one x.0 e (omega (arith, l, g, is, x.2)) in
-      (omega (arith, q, x.1), omega (arith, l, g, is))
+  pub height-found : (e - 2 < HEIGHTS) × (h ≡ height_of (e - 2))
+  height-found =
+      let q : e - 2 ≡ x.0 = omega (arith, exponent-is) in
+      (omega (arith, q, x.1), x.2 ∙ ap height_of (sym q))
 
 -- ---- a file's rows
 module _ (nr floor n : ℕ) (h : nr ≤ MAX-ROUNDS) (f : PowerFloor floor) (l : n ≤ MAX-OPS) where

@@ -11,7 +11,7 @@ ghost use Rattle.answer.specs.Refusal.{answer_of, PowerFloor, overwrite};
 ghost use Rattle.keccak_rnd.specs.Row.{round_height};
 ghost use Rattle.month.specs.Month.{MAX-FILES, MONTH-WORDS, HEIGHTS, height_of, used_at, total_at, fuller, operations_of, fullest, emptiest, files_at, shown, month_words, month_refusal, month_after, Planned};
 
-use answer::{Answer, MAX_OPS, Refusal, check_rounds_and_floor};
+use answer::{MAX_OPS, Refusal, check_rounds_and_floor};
 use lists::put_words;
 use operations::table_height;
 
@@ -70,12 +70,10 @@ fn first_unbeaten(full: bool, nr: u64, floor: u64, counts: &[u64]) -> usize
     ensures { pick full (fullest nr floor counts.now) (emptiest nr floor counts.now) ≡ some result }
 {
     let mut best: usize = 0;
-    let mut i: usize = 1;
-    while i < counts.len() {
+    for i in 1..counts.len() {
         if beats(full, nr, floor, counts[i], counts[best]) {
             best = i;
         }
-        i += 1;
     }
     best
 }
@@ -98,10 +96,8 @@ fn all_operations(counts: &[u64]) -> u64
     ensures { result ≡ operations_of counts.now }
 {
     let mut sum: u64 = 0;
-    let mut i: usize = 0;
-    while i < counts.len() {
+    for i in 0..counts.len() {
         sum += counts[i];
-        i += 1;
     }
     sum
 }
@@ -112,11 +108,9 @@ fn all_rows(nr: u64, floor: u64, counts: &[u64]) -> u64
     ensures { result ≡ sum_below (length counts.now) (total_at nr floor counts.now) }
 {
     let mut sum: u64 = 0;
-    let mut i: usize = 0;
-    while i < counts.len() {
+    for i in 0..counts.len() {
         let rows = rows_of(nr, floor, counts[i]);
         sum += rows.total;
-        i += 1;
     }
     sum
 }
@@ -126,13 +120,7 @@ fn height_place(h: u64) -> usize
     requires { (e : ℕ) × (e < HEIGHTS) × (h ≡ height_of e) }
     ensures { (result < HEIGHTS) × (h ≡ height_of result) }
 {
-    let mut power: u64 = 4;
-    let mut e: usize = 0;
-    while power < h {
-        power = power * 2;
-        e += 1;
-    }
-    e
+    h.ilog2() as usize - 2
 }
 
 // The files at each height.
@@ -141,12 +129,10 @@ fn file_counts(nr: u64, floor: u64, counts: &[u64]) -> [u64; 30]
     ensures { result ≡ tab HEIGHTS (λ e. files_at nr floor counts.now (height_of e)) }
 {
     let mut files = [0u64; 30];
-    let mut i: usize = 0;
-    while i < counts.len() {
+    for i in 0..counts.len() {
         let rows = rows_of(nr, floor, counts[i]);
         let e = height_place(rows.total);
-        files[e] = files[e] + 1;
-        i += 1;
+        files[e] += 1;
     }
     files
 }
@@ -193,43 +179,37 @@ fn put_month(nr: u64, floor: u64, counts: &[u64], out: &mut [u64])
 fn any_past(counts: &[u64]) -> bool
     ensures { result ≡ any_below (λ i. ltb MAX-OPS (word counts.now i)) (length counts.now) }
 {
-    let mut i: usize = 0;
-    while i < counts.len() {
+    for i in 0..counts.len() {
         if counts[i] > MAX_OPS {
             return true;
         }
-        i += 1;
     }
     false
 }
 
 // The checks: 8, 9, 14, 1, 3.
-fn check_month(nr: u64, floor: u64, counts: &[u64], room: usize) -> Answer
+fn check_month(nr: u64, floor: u64, counts: &[u64], room: usize) -> Result<(), Refusal>
     ensures { result ≡ answer_of (month_refusal nr floor counts.now room) }
 {
-    if let Answer::Refused(refusal) = check_rounds_and_floor(nr, floor) {
-        return Answer::Refused(refusal);
-    }
+    check_rounds_and_floor(nr, floor)?;
     if counts.len() > MAX_FILES {
-        return Answer::Refused(Refusal::Files(counts.len() as u64));
+        return Err(Refusal::Files(counts.len() as u64));
     }
     if any_past(counts) {
-        return Answer::Refused(Refusal::PastEnd(MAX_OPS + 1));
+        return Err(Refusal::PastEnd(MAX_OPS + 1));
     }
     if room < MONTH_WORDS {
-        return Answer::Refused(Refusal::TooShort(MONTH_WORDS as u64));
+        return Err(Refusal::TooShort(MONTH_WORDS as u64));
     }
-    Answer::Done
+    Ok(())
 }
 
 // The month of files with these operation counts, of nr rounds each, in tables of `floor` rows or more.
-pub fn month(nr: u64, floor: u64, counts: &[u64], out: &mut [u64]) -> Answer
+pub fn month(nr: u64, floor: u64, counts: &[u64], out: &mut [u64]) -> Result<(), Refusal>
     ensures answer { result ≡ answer_of (month_refusal nr floor counts.now (length out.old)) }
     ensures words { out.new ≡ month_after nr floor counts.now out.old }
 {
-    if let Answer::Refused(refusal) = check_month(nr, floor, counts, out.len()) {
-        return Answer::Refused(refusal);
-    }
+    check_month(nr, floor, counts, out.len())?;
     put_month(nr, floor, counts, out);
-    Answer::Done
+    Ok(())
 }

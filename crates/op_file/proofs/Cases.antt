@@ -29,21 +29,19 @@ use Rattle.keccak.specs.Height.{doubled, next-power-of-two, height}
 use Rattle.keccak.specs.Row.{LAST-ADDRESS, op_at}
 use Rattle.keccak.specs.Tuples.{core_table_sum}
 use Rattle.keccak.specs.declared.KeccakOperation.{KeccakOperation}
-use Rattle.keccak.proofs.Height.{height-below}
+use Rattle.keccak.proofs.Height.{height-found}
 use Rattle.keccak_rnd.specs.Row.{padding-are-bytes}
 use Rattle.keccak_rnd.specs.Tuples.{round_table_sum}
 use Rattle.op_file.specs.File.{RECORD-BYTES, is_mark, is_marked, record_size, size_of, segment_of, operation_words, record_word, is_whole, address_of, fault_of, first_fault, split, records_of, is_aligned, is_unaligned, aligned_of, unaligned_of, records_words, any_marked, none_told, told, segments_of, written_sum, bus_total, sums_of, file_sums, unless, tally_of}
-use Rattle.op_file.specs.Reader.{wrong, record_count, step_of, padding_sum, counts_of, end_of, checked, finish_of}
+use Rattle.op_file.specs.Reader.{wrong, record_count, reading, step_of, padding_sum, counts_of, end_of, checked, finish_of}
 use Rattle.op_file.specs.declared.Whole.{Whole}
-use Rattle.op_file.specs.declared.Cursor.{Cursor}
-use Rattle.op_file.specs.declared.Cursor.TheVariants as cursor
-use Rattle.op_file.specs.declared.Cursor.TheVariants.{Reading}
+use Rattle.op_file.specs.declared.Reading.{Reading}
 use Rattle.op_file.specs.declared.Segments.{Segments}
 use Rattle.op_file.specs.declared.Sums.{Sums}
-use Rattle.op_file.specs.declared.Tally.TheVariants.{Counted, Refused}
 use Rattle.op_file.proofs.Totals.{counts-are-sums}
 use Rattle.op_file.proofs.Laws.{over-fault}
 use Rattle.op_file.proofs.Steps.{begun, step-wrong}
+use Rattle.std.specs.Prelude.{Result, Ok, Err}
 
 -- ---- the floor
 -- what a file says where the floor is checked
@@ -57,11 +55,11 @@ module _ (floor : ℕ) (shipped : Bool) where
   unfolding tally_of
   floor-counts h syscall file = says _ (floor-later floor (first_fault 0 0 (records_of file)) h)
 
-  pub floor-ends : PowerFloor floor → (c : Cursor) → finish_of floor shipped c ≡ end_of floor shipped c
+  pub floor-ends : PowerFloor floor → (c : Result Reading Refusal) → finish_of floor shipped c ≡ end_of floor shipped c
   unfolding finish_of
   floor-ends h c = ap (λ (o : Option Refusal). checked o (end_of floor shipped c)) (floor-later floor none h)
 
-  pub other-floor : (PowerFloor floor → ⊥) → (syscall : ℕ) (file : List ℕ) → tally_of floor shipped syscall file ≡ Refused (Floor floor)
+  pub other-floor : (PowerFloor floor → ⊥) → (syscall : ℕ) (file : List ℕ) → tally_of floor shipped syscall file ≡ Err (Floor floor)
   unfolding tally_of
   other-floor h syscall file =
       says (file_sums floor shipped syscall file) (floor-refused floor (first_fault 0 0 (records_of file)) h)
@@ -79,19 +77,19 @@ empty_sums rows are-bytes =
 module _ (floor : ℕ) (h : PowerFloor floor) where
   empty-height : floor ≡ height floor 0
   unfolding next-power-of-two doubled
-  empty-height = height-below 0 refl (omega (arith, floor-least floor h))
+  empty-height = height-found {h = floor} {w = 1} floor 0 (omega (arith, floor-least floor h)) refl
 
-  pub empty-file : (syscall : ℕ) → tally_of floor false syscall [] ≡ Counted (empty_sums floor 0)
+  pub empty-file : (syscall : ℕ) → tally_of floor false syscall [] ≡ Ok (empty_sums floor 0)
   unfolding records_of split selected first_fault sums_of bus_total segments_of told any_marked
-  empty-file syscall = floor-counts floor false h syscall [] ∙ ap (λ (k : ℕ). Counted (empty_sums k 0)) (sym empty-height)
+  empty-file syscall = floor-counts floor false h syscall [] ∙ ap (λ (k : ℕ). Ok (empty_sums k 0)) (sym empty-height)
 
-  pub empty-shipped : (syscall : ℕ) → tally_of floor true syscall [] ≡ Counted (empty_sums floor (220 * floor))
+  pub empty-shipped : (syscall : ℕ) → tally_of floor true syscall [] ≡ Ok (empty_sums floor (220 * floor))
   unfolding records_of split selected first_fault counts_of padding_sum segments_of told any_marked
   empty-shipped syscall =
       let rows = sym empty-height in
       let sent : 0 + (height floor 0 - 0) * 220 ≡ 220 * floor = omega (arith, empty-height) in
       floor-counts floor true h syscall []
-      ∙ ap Counted (sym (counts-are-sums floor true syscall 0 (op_at (records_words [])) none_told 0) ∙ (λ t. empty_sums (rows t) (sent t)))
+      ∙ ap Ok (sym (counts-are-sums floor true syscall 0 (op_at (records_words [])) none_told 0) ∙ (λ t. empty_sums (rows t) (sent t)))
 
 -- in shipped mode what is computed, and what is defined, is the sum over the rows as written
 module _ (floor syscall n : ℕ) (op : ℕ → KeccakOperation) (segments : Segments) (left : ℕ) where
@@ -161,13 +159,13 @@ first-not-7 i at [] a e = none_told_lem e
 first-not-7 i at (r ∷ rs) a e =
     ⊎_elim (fault-not-7 i at r a) (λ h. first-not-7 (i + 1) (at + length r) rs a h.1) ((or_else-eq-some (fault_of i at r) (first_fault (i + 1) (at + length r) rs) (Unaligned a)).0 e)
 
-pub never-7 : (floor : ℕ) (shipped : Bool) (syscall : ℕ) (file : List ℕ) (a : ℕ) → tally_of floor shipped syscall file ≡ Refused (Unaligned a) → ⊥
+pub never-7 : (floor : ℕ) (shipped : Bool) (syscall : ℕ) (file : List ℕ) (a : ℕ) → tally_of floor shipped syscall file ≡ Err (Unaligned a) → ⊥
 unfolding tally_of
 never-7 floor shipped syscall file a e =
     let o = not_floor floor (first_fault 0 0 (records_of file)) in
     said o _ (λ (q : o ≡ some (Unaligned a)). first-not-7 0 0 (records_of file) a (later-if _ _ (unlike (Floor floor) (Unaligned a) (λ z. omega arith)) q)) e
   where
-    said : {x : Refusal} (o : Option Refusal) (s : Sums) → (o ≡ some x → ⊥) → unless o s ≡ Refused x → ⊥
+    said : {x : Refusal} (o : Option Refusal) (s : Sums) → (o ≡ some x → ⊥) → unless o s ≡ Err x → ⊥
     said none s not e = let z : ◌≡◌ {A = ℕ} 0 1 = cc in absurd (omega arith)
     said (some y) s not e = not cc
 
@@ -189,7 +187,7 @@ pub one-too-many : (at : ℕ) (r : List ℕ) → fault_of 89478485 at r ≡ some
 one-too-many at r = over-fault 89478485 at r (omega arith)
 
 -- "a mark that is neither": refused by its second byte, whatever follows, with the byte where its record starts
-pub mark-refused : (w : Whole) → record_count w < MAX-OPS → (m a t b : ℕ) → is_mark b ≡ false → step_of (Reading w (begun 1 m a t)) b ≡ cursor.Refused (BadRecord w.start)
+pub mark-refused : (w : Whole) → record_count w < MAX-OPS → (m a t b : ℕ) → is_mark b ≡ false → step_of (Ok (reading w (begun 1 m a t))) b ≡ Err (BadRecord w.start)
 unfolding wrong
 mark-refused w few m a t b e = step-wrong w few (begun 1 m a t) b (simp e)
 

@@ -23,17 +23,16 @@ use Rattle.answer.specs.Refusal.{refuse_if, accepted, is_floor, not_floor}
 use Rattle.answer.specs.declared.Refusal.{Refusal}
 use Rattle.answer.specs.declared.Refusal.TheVariants.{PastEnd, BadRecord, Floor}
 use Rattle.keccak.specs.Row.{LAST-ADDRESS, LAST-SEGMENT, op_at}
-use Rattle.op_file.specs.File.{RECORD-BYTES, SEGMENT-RECORD-BYTES, MAX-FILE-BYTES, FIRST-MARK, SEGMENT-MARK, is_mark, is_marked, record_size, size_of, split, records_of, is_whole, segment_of, address_of, fault_of, first_fault, is_aligned, is_unaligned, records_words, any_marked, least_of, greatest_of, told, segments_of, unless, tally_of}
-use Rattle.op_file.specs.Reader.{wrong, has_segment, taken, none_begun, counted, no_segments, no_records, record_read, record_count, step_of, feed_of, file_start, is_refused, counts_of, end_of, checked, finish_of, after, Advanced}
+use Rattle.op_file.specs.File.{SEGMENT-RECORD-BYTES, MAX-FILE-BYTES, FIRST-MARK, SEGMENT-MARK, is_mark, is_marked, record_size, size_of, split, records_of, is_whole, segment_of, address_of, fault_of, first_fault, is_aligned, is_unaligned, records_words, any_marked, least_of, greatest_of, told, segments_of, unless, tally_of}
+use Rattle.op_file.specs.Reader.{wrong, has_segment, taken, none_begun, counted, no_segments, no_records, record_read, record_count, reading, step_of, feed_of, file_start, counts_of, end_of, checked, finish_of, after, Advanced}
 use Rattle.op_file.specs.declared.Segments.{Segments}
 use Rattle.op_file.specs.declared.Whole.{Whole}
 use Rattle.op_file.specs.declared.Begun.{Begun}
-use Rattle.op_file.specs.declared.Cursor.{Cursor}
-use Rattle.op_file.specs.declared.Cursor.TheVariants.{Reading, Refused}
+use Rattle.op_file.specs.declared.Reading.{Reading}
 use Rattle.op_file.specs.declared.Sums.{Sums}
-use Rattle.op_file.specs.declared.Tally.TheVariants as tally
 use Rattle.op_file.proofs.Totals.{counts-are-sums}
 use Rattle.op_file.proofs.Steps.{begun, size-least, size-most, feed-append, feed-refused, feed-split, first-wrong, first-right, second-wrong, marked-right, cut_on, fault-bad, Next, Then, whole}
+use Rattle.std.specs.Prelude.{Result, Ok, Err, is_err}
 
 -- ---- how many records are read
 pub count-is : (w : Whole) → w.start ≤ MAX-FILE-BYTES → record_count w ≡ w.n + w.unaligned
@@ -143,7 +142,7 @@ first-size s l =
     length-take (size_of s) s ∙ omega arith ∙ ap (λ (b : ℕ). record_size (eqb b SEGMENT-MARK)) (sym e)
 
 -- any byte past the MAX-OPS records: the file is refused
-over : (w : Whole) (p : Begun) (s : List ℕ) → MAX-OPS ≤ record_count w → 0 < length s → feed_of (Reading w p) s ≡ Refused (PastEnd 89478486)
+over : (w : Whole) (p : Begun) (s : List ℕ) → MAX-OPS ≤ record_count w → 0 < length s → feed_of (Ok (reading w p)) s ≡ Err (PastEnd 89478486)
 unfolding feed_of step_of
 over w p [] m l = absurd (omega arith)
 over w p (x ∷ s) m l = simp (le-leb MAX-OPS (record_count w) m) (feed-refused (PastEnd 89478486) s)
@@ -157,7 +156,7 @@ unfolding is_whole
 short-fault n at r m l = fault-bad n at r m (simp (ne_eqb (length r) (size_of r) (λ e. omega arith)))
 
 -- after a whole record, from its start
-next : (w : Whole) (r : List ℕ) → length r ≡ size_of r → feed_of (Reading w none_begun) r ≡ Then w r
+next : (w : Whole) (r : List ℕ) → length r ≡ size_of r → feed_of (Ok (reading w none_begun)) r ≡ Then w r
 next w r e =
     by_le MAX-OPS (record_count w)
     (λ (m : MAX-OPS ≤ record_count w).
@@ -184,13 +183,13 @@ checked-first false r f s = refl
 
 module _ (floor : ℕ) (shipped : Bool) where
   -- the end of the file within a record
-  broken : (w : Whole) (q : Begun) → record_count w < MAX-OPS → 0 < q.at → end_of floor shipped (Reading w q) ≡ tally.Refused (BadRecord w.start)
+  broken : (w : Whole) (q : Begun) → record_count w < MAX-OPS → 0 < q.at → end_of floor shipped (Ok (reading w q)) ≡ Err (BadRecord w.start)
   unfolding end_of
   broken w q m l = simp (le-ltb MAX-OPS (record_count w) (omega arith), lt-leb MAX-OPS (record_count w) m, ne_eqb q.at 0 (λ z. omega arith))
 
   module _ (w : Whole) (few : record_count w < MAX-OPS) where
     abbrev Broken : List ℕ → Type 0
-    Broken r = end_of floor shipped (feed_of (Reading w none_begun) r) ≡ tally.Refused (BadRecord w.start)
+    Broken r = end_of floor shipped (feed_of (Ok (reading w none_begun)) r) ≡ Err (BadRecord w.start)
 
     broken-first : (b0 : ℕ) (p : Bool) → eqb b0 FIRST-MARK ≡ p → Broken (b0 ∷ [])
     unfolding end_of feed_of
@@ -212,7 +211,7 @@ module _ (floor : ℕ) (shipped : Bool) where
     cut (b0 ∷ b1 ∷ u) l h = broken-on b0 b1 u (eqb b0 FIRST-MARK) (is_mark b1) refl refl (omega arith)
 
   ends : (w : Whole) (r : List ℕ) (a : Sums) (f : Option Refusal) → 0 < length r → length r < size_of r →
-      end_of floor shipped (feed_of (Reading w none_begun) r) ≡ unless (or_else (fault_of (record_count w) w.start r) f) a
+      end_of floor shipped (feed_of (Ok (reading w none_begun)) r) ≡ unless (or_else (fault_of (record_count w) w.start r) f) a
   unfolding end_of or_else
   ends w r a f l h =
       by_le MAX-OPS (record_count w)
@@ -226,7 +225,7 @@ module _ (floor : ℕ) (shipped : Bool) where
   count_from w rs = counts_of floor shipped (w.n + length (selected is_aligned rs)) (told (joined w.segments (selected is_aligned rs))) (w.unaligned + length (selected is_unaligned rs))
 
   abbrev From : ℕ → Whole → List ℕ → Type 0
-  From k w s = end_of floor shipped (feed_of (Reading w none_begun) s) ≡ unless (first_fault (record_count w) w.start (split k s)) (count_from w (split k s))
+  From k w s = end_of floor shipped (feed_of (Ok (reading w none_begun)) s) ≡ unless (first_fault (record_count w) w.start (split k s)) (count_from w (split k s))
 
   -- the rest of the file is one record, cut
   from_cut : (k : ℕ) (w : Whole) (b : ℕ) (s : List ℕ) → suc (length s) < size_of (b ∷ s) → From (suc k) w (b ∷ s)
@@ -263,7 +262,7 @@ module _ (floor : ℕ) (shipped : Bool) where
         let c : w.n + 1 + length (selected is_aligned later) ≡ w.n + suc (length (selected is_aligned later)) = omega arith in
         let j = joined-more w.segments r (selected is_aligned later) in
         rw e
-        (ap (λ (x : Whole). end_of floor shipped (feed_of (Reading x none_begun) rest)) q
+        (ap (λ (x : Whole). end_of floor shipped (feed_of (Ok (reading x none_begun)) rest)) q
         ∙ subst (λ (x : Whole). From k x rest) q g
         ∙ (λ t. unless (first_fault (i t) (starts t) later) (counts_of floor shipped (c t) (told (j t)) (w.unaligned + length (selected is_unaligned later)))))
 
@@ -275,7 +274,7 @@ module _ (floor : ℕ) (shipped : Bool) where
         let i : record_count v ≡ record_count w + 1 = omega (arith, right-count v (subst Right q again), right-count w right) in
         let c : w.unaligned + 1 + length (selected is_unaligned later) ≡ w.unaligned + suc (length (selected is_unaligned later)) = omega arith in
         rw e
-        (ap (λ (x : Whole). end_of floor shipped (feed_of (Reading x none_begun) rest)) q
+        (ap (λ (x : Whole). end_of floor shipped (feed_of (Ok (reading x none_begun)) rest)) q
         ∙ subst (λ (x : Whole). From k x rest) q g
         ∙ (λ t. unless (first_fault (i t) (starts t) later) (counts_of floor shipped (w.n + length (selected is_aligned later)) (told (joined w.segments (selected is_aligned later))) (c t))))
 
@@ -293,11 +292,11 @@ module _ (floor : ℕ) (shipped : Bool) where
       let few = room (record_count w) w.start r e in more k w r rest h few l (is_aligned r) refl (g few)
 
   -- nothing is left of the file
-  from-none : (w : Whole) → Right w → end_of floor shipped (Reading w none_begun) ≡ tally.Counted (count_from w [])
+  from-none : (w : Whole) → Right w → end_of floor shipped (Ok (reading w none_begun)) ≡ Ok (count_from w [])
   unfolding end_of selected
   from-none w h =
       let m : record_count w ≤ MAX-OPS = omega (arith, right-count w h, h.few) in
-      simp (le-ltb MAX-OPS (record_count w) m, add-zero) (ap (λ (s : Segments). tally.Counted (counts_of floor shipped w.n (told s) w.unaligned)) (joined-none w.segments h.narrow))
+      simp (le-ltb MAX-OPS (record_count w) m, add-zero) (ap (λ (s : Segments). Ok (counts_of floor shipped w.n (told s) w.unaligned)) (joined-none w.segments h.narrow))
 
   reads-from : (k : ℕ) (w : Whole) (s : List ℕ) → length s ≤ k → Right w → From k w s
   unfolding split first_fault feed_of
@@ -312,7 +311,7 @@ module _ (floor : ℕ) (shipped : Bool) where
       let rest = drop n (b ∷ s) in
       let e : length r ≡ size_of r = first-size (b ∷ s) m in
       let d : length rest ≤ k = simp length-drop (omega (arith, size-least (is_marked (b ∷ s)))) in
-      ap (end_of floor shipped) (feed-split (Reading w none_begun) n (b ∷ s) ∙ ap (λ (c : Cursor). feed_of c rest) (next w r e))
+      ap (end_of floor shipped) (feed-split (Ok (reading w none_begun)) n (b ∷ s) ∙ ap (λ (c : Result Reading Refusal). feed_of c rest) (next w r e))
       ∙ from-whole (fault_of (record_count w) w.start r) k w r rest h e refl
       (λ (few : record_count w < MAX-OPS). reads-from k (record_read w (address_of r) (is_marked r) (segment_of r)) rest d (right-read w (address_of r) (is_marked r) (segment_of r) (omega (arith, right-count w h)) h)))
       (λ (m : suc (length s) < size_of (b ∷ s)). from_cut k w b s m)
@@ -338,33 +337,33 @@ module _ (floor : ℕ) (shipped : Bool) where
   pub reads-pieces : (syscall : ℕ) (a b : List ℕ) → finish_of floor shipped (feed_of (feed_of file_start a) b) ≡ tally_of floor shipped syscall (a ++ b)
   reads-pieces syscall a b = ap (finish_of floor shipped) (sym (feed-append file_start a b)) ∙ reads-file syscall (a ++ b)
 
-pub feed-one : (c : Cursor) (s : List ℕ) → 0 < length s → feed_of c (take 1 s) ≡ step_of c (get_or s 0 0)
+pub feed-one : (c : Result Reading Refusal) (s : List ℕ) → 0 < length s → feed_of c (take 1 s) ≡ step_of c (get_or s 0 0)
 unfolding feed_of
 feed-one c [] l = absurd (omega arith)
 feed-one c (x ∷ s) l = refl
 
 -- a part of a piece, and what is left of the piece
-pub feed-part : (c : Cursor) (i k : ℕ) (s : List ℕ) → feed_of c (drop i s) ≡ feed_of (feed_of c (take k (drop i s))) (drop (i + k) s)
+pub feed-part : (c : Result Reading Refusal) (i k : ℕ) (s : List ℕ) → feed_of c (drop i s) ≡ feed_of (feed_of c (take k (drop i s))) (drop (i + k) s)
 feed-part c i k s = feed-split c k (drop i s) ∙ ap (feed_of (feed_of c (take k (drop i s)))) (drop-drop k i s)
 
-pub feed-none : (c : Cursor) (i : ℕ) (s : List ℕ) → length s ≤ i → feed_of c (drop i s) ≡ c
+pub feed-none : (c : Result Reading Refusal) (i : ℕ) (s : List ℕ) → length s ≤ i → feed_of c (drop i s) ≡ c
 unfolding feed_of
 feed-none c i s l = ap (feed_of c) (drop_of_length-le s l)
 
 -- one turn of the loop over a piece
-pub feed-go : (c d : Cursor) (i used : ℕ) (s : List ℕ) → i ≤ length s → Advanced c (take (length s - i) (drop i s)) d used → (0 < used) × (i + used ≤ length s) × (feed_of c (drop i s) ≡ feed_of d (drop (i + used) s))
+pub feed-go : (c d : Result Reading Refusal) (i used : ℕ) (s : List ℕ) → i ≤ length s → Advanced c (take (length s - i) (drop i s)) d used → (0 < used) × (i + used ≤ length s) × (feed_of c (drop i s) ≡ feed_of d (drop (i + used) s))
 feed-go c d i used s l a =
     let e : length (take (length s - i) (drop i s)) ≡ length s - i = simp (length-take, length-drop) (omega arith) in
     let h : used ≤ length s - i = omega (arith, a.all_there) in
-    (a.some-used, omega arith, feed-part c i used s ∙ ap (λ (x : Cursor). feed_of x (drop (i + used) s)) (sym (a.stands ∙ ap (feed_of c) (take-take used (length s - i) (drop i s) h))))
+    (a.some-used, omega arith, feed-part c i used s ∙ ap (λ (x : Result Reading Refusal). feed_of x (drop (i + used) s)) (sym (a.stands ∙ ap (feed_of c) (take-take used (length s - i) (drop i s) h))))
 
 -- ---- how far a reader goes
 -- after k bytes of a file it stands in a record that these bytes have reached
-abbrev Stand : Cursor → ℕ → Type 0
-Stand (Refused r) k = Unit {0}
-Stand (Reading w p) k = (w.start + p.at ≡ k) × (p.at < record_size (has_segment p)) × Right w × (k ≤ MAX-FILE-BYTES)
+abbrev Stand : Result Reading Refusal → ℕ → Type 0
+Stand (Err r) k = Unit {0}
+Stand (Ok c) k = (c.whole.start + c.begun.at ≡ k) × (c.begun.at < record_size (has_segment c.begun)) × Right c.whole × (k ≤ MAX-FILE-BYTES)
 
-stand-pick : (p : Bool) (c d : Cursor) (k : ℕ) → (p ≡ true → Stand c k) → (p ≡ false → Stand d k) → Stand (pick p c d) k
+stand-pick : (p : Bool) (c d : Result Reading Refusal) (k : ℕ) → (p ≡ true → Stand c k) → (p ≡ false → Stand d k) → Stand (pick p c d) k
 stand-pick true c d k f g = f refl
 stand-pick false c d k f g = g refl
 
@@ -384,10 +383,12 @@ read-starts w a m s = by (eqb (a % 8) 0) refl
     by true e = ap (λ (v : Whole). v.start) (read-aligned w a m s e)
     by false e = ap (λ (v : Whole). v.start) (read-unaligned w a m s e)
 
-stand-step : (c : Cursor) (b k : ℕ) → Stand c k → Stand (step_of c b) (k + 1)
+stand-step : (c : Result Reading Refusal) (b k : ℕ) → Stand c k → Stand (step_of c b) (k + 1)
 unfolding step_of
-stand-step (Refused r) b k s = tt
-stand-step (Reading w p) b k s =
+stand-step (Err r) b k s = tt
+stand-step (Ok c) b k s =
+    let w = c.whole in
+    let p = c.begun in
     let right = s.2 in
     stand-pick (leb MAX-OPS (record_count w)) _ _ (k + 1) (λ e. tt)
     (λ e.
@@ -404,23 +405,23 @@ stand-step (Reading w p) b k s =
     let l = leb-false (record_size (has_segment p)) (p.at + 1) e in
     (next-byte w p b k s.0, size-kept p b l, right, omega arith))))
 
-stand-feed : (c : Cursor) (s : List ℕ) (k : ℕ) → Stand c k → Stand (feed_of c s) (k + length s)
+stand-feed : (c : Result Reading Refusal) (s : List ℕ) (k : ℕ) → Stand c k → Stand (feed_of c s) (k + length s)
 unfolding feed_of
 stand-feed c [] k p = rw add-zero p
 stand-feed c (b ∷ s) k p = let e : k + suc (length s) ≡ k + 1 + length s = omega arith in rw e (stand-feed (step_of c b) s (k + 1) (stand-step c b k p))
 
 -- how many bytes a reader may be given until it refuses the file
-abbrev pub bytes_left : Cursor → ℕ
-bytes_left (Refused r) = 0
-bytes_left (Reading w p) = MAX-FILE-BYTES + 1 - (w.start + p.at)
+abbrev pub bytes_left : Result Reading Refusal → ℕ
+bytes_left (Err r) = 0
+bytes_left (Ok c) = MAX-FILE-BYTES + 1 - (c.whole.start + c.begun.at)
 
 -- every byte that is not refused brings a reader nearer to that
-pub fewer-left : (file piece : List ℕ) → 0 < length piece → is_refused (feed_of (feed_of file_start file) piece) ≡ false → bytes_left (feed_of (feed_of file_start file) piece) < bytes_left (feed_of file_start file)
+pub fewer-left : (file piece : List ℕ) → 0 < length piece → is_err (feed_of (feed_of file_start file) piece) ≡ false → bytes_left (feed_of (feed_of file_start file) piece) < bytes_left (feed_of file_start file)
 fewer-left file piece l g =
     let s = stand-feed file_start file 0 (omega arith, omega (arith, size-least false), none_right, omega arith) in
     by (feed_of file_start file) (feed_of (feed_of file_start file) piece) refl s (stand-feed (feed_of file_start file) piece (0 + length file) s) g
   where
-    by : (c d : Cursor) → feed_of c piece ≡ d → Stand c (0 + length file) → Stand d (0 + length file + length piece) → is_refused d ≡ false → bytes_left d < bytes_left c
-    by c (Refused r) e p q g = absurd (true-not-false g)
-    by (Refused r) (Reading w b) e p q g = absurd (true-not-false (ap is_refused (sym (feed-refused r piece) ∙ e)))
-    by (Reading v a) (Reading w b) e p q g = omega arith
+    by : (c d : Result Reading Refusal) → feed_of c piece ≡ d → Stand c (0 + length file) → Stand d (0 + length file + length piece) → is_err d ≡ false → bytes_left d < bytes_left c
+    by c (Err r) e p q g = absurd (true-not-false g)
+    by (Err r) (Ok b) e p q g = absurd (true-not-false (ap is_err (sym (feed-refused r piece) ∙ e)))
+    by (Ok a) (Ok b) e p q g = omega arith

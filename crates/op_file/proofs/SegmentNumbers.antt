@@ -1,13 +1,12 @@
 -- The segment numbers of counted records: whether they are told, and which.
 --     any-marked     they are told exactly where one of the records is marked 4B 50
 --     segments-told  then the two numbers are those of records, and no record has a lower or a higher one
-use Prim.Native.Nat.{ℕ, zero, suc, ◌+◌, ◌^◌, ◌≤◌, ◌<◌, min, max}
+use Prim.Native.Nat.{ℕ, zero, suc, ◌+◌, ◌≤◌, ◌<◌}
 use mathlib.Core.Path.{◌≡◌, refl, sym, ap, ◌∙◌, subst}
 use mathlib.Core.Bool.{Bool, true, false}
 use mathlib.Core.List.{List, [], ◌∷◌}
 use mathlib.Core.Logic.{◌↔◌}
 use native.Mathlib.Omega.{arith}
-use lib.Dec.{eqb}
 use lib.ListN.{length, take, drop, get_or}
 use lib.Seq.{get_or-drop}
 use Rattle.lists.specs.Tab.{pick, word}

@@ -2,12 +2,12 @@
 --     record-there   record i is what stands in the file where it starts
 --     file-reached   a file without a fault has all bytes of each record
 --     bad-start      the detail of 6 is the byte where the first faulty record starts
-use Prim.Native.Nat.{ℕ, zero, suc, ◌+◌, ◌*◌, ◌<◌, ◌≤◌}
-use mathlib.Core.Path.{◌≡◌, refl, sym, ap, ◌∙◌, subst}
+use Prim.Native.Nat.{ℕ, zero, suc, ◌+◌, ◌<◌, ◌≤◌}
+use mathlib.Core.Path.{◌≡◌, refl, sym, ap, ◌∙◌}
 use mathlib.Core.Bool.{Bool, true, false, not}
 use mathlib.Core.List.{List, [], ◌∷◌, ◌++◌}
 use mathlib.Core.Logic.{⊎_elim}
-use mathlib.Core.Option.{Option, none, some, or_else}
+use mathlib.Core.Option.{Option, none, some}
 use mathlib.Mathlib.Data.Option.Basic.{or_else-eq-some, or_else-eq-none}
 use native.Mathlib.Nat.{add-zero}
 use native.Mathlib.Omega.{arith}

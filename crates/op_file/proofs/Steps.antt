@@ -23,24 +23,24 @@ use Rattle.answer.specs.declared.Refusal.{Refusal}
 use Rattle.answer.specs.declared.Refusal.TheVariants.{HighAddress, BadRecord}
 use Rattle.keccak.specs.Row.{LAST-ADDRESS}
 use Rattle.op_file.specs.File.{RECORD-BYTES, FIRST-MARK, SEGMENT-MARK, is_mark, is_marked, record_size, size_of, is_whole, segment_of, record_word, address_of, fault_of}
-use Rattle.op_file.specs.Reader.{wrong, in_address, shifted, segment_by, has_segment, taken, none_begun, record_read, record_count, step_of, feed_of, after}
+use Rattle.op_file.specs.Reader.{wrong, in_address, shifted, segment_by, has_segment, taken, none_begun, record_read, record_count, reading, step_of, feed_of, after}
 use Rattle.op_file.specs.declared.Whole.{Whole}
 use Rattle.op_file.specs.declared.Begun.{Begun}
-use Rattle.op_file.specs.declared.Cursor.{Cursor}
-use Rattle.op_file.specs.declared.Cursor.TheVariants.{Reading, Refused}
+use Rattle.op_file.specs.declared.Reading.{Reading}
+use Rattle.std.specs.Prelude.{Result, Ok, Err}
 
 -- ---- pieces
-pub feed-append : (c : Cursor) (a b : List ℕ) → feed_of c (a ++ b) ≡ feed_of (feed_of c a) b
+pub feed-append : (c : Result Reading Refusal) (a b : List ℕ) → feed_of c (a ++ b) ≡ feed_of (feed_of c a) b
 unfolding feed_of
 feed-append c [] b = refl
 feed-append c (x ∷ a) b = feed-append (step_of c x) a b
 
-pub feed-refused : (r : Refusal) (s : List ℕ) → feed_of (Refused r) s ≡ Refused r
+pub feed-refused : (r : Refusal) (s : List ℕ) → feed_of (Err r) s ≡ Err r
 unfolding feed_of step_of
 feed-refused r [] = refl
 feed-refused r (x ∷ s) = feed-refused r s
 
-pub feed-split : (c : Cursor) (k : ℕ) (s : List ℕ) → feed_of c s ≡ feed_of (feed_of c (take k s)) (drop k s)
+pub feed-split : (c : Result Reading Refusal) (k : ℕ) (s : List ℕ) → feed_of c s ≡ feed_of (feed_of c (take k s)) (drop k s)
 feed-split c k s = ap (feed_of c) (sym (take-append-drop k s)) ∙ feed-append c (take k s) (drop k s)
 
 -- ---- the bytes of a number, shifted in
@@ -138,61 +138,61 @@ abbrev pub long : ℕ → Bool
 long m = eqb m SEGMENT-MARK
 
 module _ (w : Whole) (few : record_count w < MAX-OPS) where
-  step-on : (p : Begun) (b : ℕ) → wrong p.at b ≡ false → p.at + 1 < record_size (has_segment p) → step_of (Reading w p) b ≡ Reading w (taken p b)
+  step-on : (p : Begun) (b : ℕ) → wrong p.at b ≡ false → p.at + 1 < record_size (has_segment p) → step_of (Ok (reading w p)) b ≡ Ok (reading w (taken p b))
   unfolding step_of
   step-on p b e l = simp (lt-leb MAX-OPS (record_count w) few, e, lt-leb (record_size (has_segment p)) (p.at + 1) l)
 
   -- past the mark
   on : (at m a t b : ℕ) → 2 ≤ at → at + 1 < record_size (long m) →
-      step_of (Reading w (begun at m a t)) b ≡ Reading w (begun (at + 1) m (pick (in_address at) (shifted a b) a) (pick (leb RECORD-BYTES at) (shifted t b) t))
+      step_of (Ok (reading w (begun at m a t))) b ≡ Ok (reading w (begun (at + 1) m (pick (in_address at) (shifted a b) a) (pick (leb RECORD-BYTES at) (shifted t b) t)))
   unfolding taken
   on at m a t b l h = step-on (begun at m a t) b (right-past at b l) h ∙ simp (ne_eqb at 1 (λ e. omega arith))
 
   -- bytes that are neither of the address nor of the segment number; those of the address; those of the segment number
   pub skip : (at m a t : ℕ) (s : List ℕ) → 2 ≤ at → ((k : ℕ) → at ≤ k → k < at + length s → in_address k ≡ false) →
-      at + length s < record_size (long m) → at + length s ≤ RECORD-BYTES → feed_of (Reading w (begun at m a t)) s ≡ Reading w (begun (at + length s) m a t)
+      at + length s < record_size (long m) → at + length s ≤ RECORD-BYTES → feed_of (Ok (reading w (begun at m a t))) s ≡ Ok (reading w (begun (at + length s) m a t))
   unfolding feed_of
-  skip at m a t [] l p h g = ap (λ (k : ℕ). Reading w (begun k m a t)) (sym (add-zero at))
+  skip at m a t [] l p h g = ap (λ (k : ℕ). Ok (reading w (begun k m a t))) (sym (add-zero at))
   skip at m a t (x ∷ s) l p h g =
       let n : at < RECORD-BYTES = omega arith in
-      ap (λ (c : Cursor). feed_of c s)
-      (on at m a t x l (omega arith) ∙ (λ i. Reading w (begun (at + 1) m (pick (p at (omega arith) (omega arith) i) (shifted a x) a) (pick (lt-leb RECORD-BYTES at n i) (shifted t x) t))))
+      ap (λ (c : Result Reading Refusal). feed_of c s)
+      (on at m a t x l (omega arith) ∙ (λ i. Ok (reading w (begun (at + 1) m (pick (p at (omega arith) (omega arith) i) (shifted a x) a) (pick (lt-leb RECORD-BYTES at n i) (shifted t x) t)))))
       ∙ skip (at + 1) m a t s (omega arith) (λ k u v. p k (omega arith) (omega arith)) (omega arith) (omega arith)
-      ∙ ap (λ (k : ℕ). Reading w (begun k m a t)) (omega arith)
+      ∙ ap (λ (k : ℕ). Ok (reading w (begun k m a t))) (omega arith)
 
-  address : (at m a t : ℕ) (s : List ℕ) → 10 ≤ at → at + length s ≤ 18 → feed_of (Reading w (begun at m a t)) s ≡ Reading w (begun (at + length s) m (shifts a s) t)
+  address : (at m a t : ℕ) (s : List ℕ) → 10 ≤ at → at + length s ≤ 18 → feed_of (Ok (reading w (begun at m a t))) s ≡ Ok (reading w (begun (at + length s) m (shifts a s) t))
   unfolding feed_of shifts
-  address at m a t [] l h = ap (λ (k : ℕ). Reading w (begun k m a t)) (sym (add-zero at))
+  address at m a t [] l h = ap (λ (k : ℕ). Ok (reading w (begun k m a t))) (sym (add-zero at))
   address at m a t (x ∷ s) l h =
       let n : at < RECORD-BYTES = omega arith in
-      ap (λ (c : Cursor). feed_of c s)
-      (on at m a t x (omega arith) (omega (arith, size-least (long m))) ∙ (λ i. Reading w (begun (at + 1) m (pick (in-address at l (omega arith) i) (shifted a x) a) (pick (lt-leb RECORD-BYTES at n i) (shifted t x) t))))
+      ap (λ (c : Result Reading Refusal). feed_of c s)
+      (on at m a t x (omega arith) (omega (arith, size-least (long m))) ∙ (λ i. Ok (reading w (begun (at + 1) m (pick (in-address at l (omega arith) i) (shifted a x) a) (pick (lt-leb RECORD-BYTES at n i) (shifted t x) t)))))
       ∙ address (at + 1) m (shifted a x) t s (omega arith) (omega arith)
-      ∙ ap (λ (k : ℕ). Reading w (begun k m (shifts (shifted a x) s) t)) (omega arith)
+      ∙ ap (λ (k : ℕ). Ok (reading w (begun k m (shifts (shifted a x) s) t))) (omega arith)
 
-  tail : (at m a t : ℕ) (s : List ℕ) → 422 ≡ record_size (long m) → RECORD-BYTES ≤ at → at + length s ≤ 421 → feed_of (Reading w (begun at m a t)) s ≡ Reading w (begun (at + length s) m a (shifts t s))
+  tail : (at m a t : ℕ) (s : List ℕ) → 422 ≡ record_size (long m) → RECORD-BYTES ≤ at → at + length s ≤ 421 → feed_of (Ok (reading w (begun at m a t))) s ≡ Ok (reading w (begun (at + length s) m a (shifts t s)))
   unfolding feed_of shifts
-  tail at m a t [] e l h = ap (λ (k : ℕ). Reading w (begun k m a t)) (sym (add-zero at))
+  tail at m a t [] e l h = ap (λ (k : ℕ). Ok (reading w (begun k m a t))) (sym (add-zero at))
   tail at m a t (x ∷ s) e l h =
-      ap (λ (c : Cursor). feed_of c s)
-      (on at m a t x (omega arith) (omega arith) ∙ (λ i. Reading w (begun (at + 1) m (pick (plain-high at (omega arith) i) (shifted a x) a) (pick (le-leb RECORD-BYTES at l i) (shifted t x) t))))
+      ap (λ (c : Result Reading Refusal). feed_of c s)
+      (on at m a t x (omega arith) (omega arith) ∙ (λ i. Ok (reading w (begun (at + 1) m (pick (plain-high at (omega arith) i) (shifted a x) a) (pick (le-leb RECORD-BYTES at l i) (shifted t x) t)))))
       ∙ tail (at + 1) m a (shifted t x) s e (omega arith) (omega arith)
-      ∙ ap (λ (k : ℕ). Reading w (begun k m a (shifts (shifted t x) s))) (omega arith)
+      ∙ ap (λ (k : ℕ). Ok (reading w (begun k m a (shifts (shifted t x) s)))) (omega arith)
 
   -- what follows the mark of a record that is cut
   pub cut_on : (p : Begun) (s : List ℕ) → 2 ≤ p.at → p.at + length s < record_size (has_segment p) →
-      ((q : Begun) × (feed_of (Reading w p) s ≡ Reading w q) × (p.at + length s ≡ q.at))
+      ((q : Begun) × (feed_of (Ok (reading w p)) s ≡ Ok (reading w q)) × (p.at + length s ≡ q.at))
   unfolding feed_of taken
   cut_on p [] l h = (p, refl, add-zero p.at)
   cut_on p (x ∷ s) l h =
       let e : has_segment (taken p x) ≡ has_segment p = simp (ne_eqb p.at 1 (λ e. omega arith)) in
       let n : p.at + 1 + length s < record_size (has_segment (taken p x)) = rw e (omega arith) in
       let r = cut_on (taken p x) s (omega arith) n in
-      (r.0, ap (λ (c : Cursor). feed_of c s) (step-on p x (right-past p.at x l) (omega arith)) ∙ r.1, omega (arith, r.2))
+      (r.0, ap (λ (c : Result Reading Refusal). feed_of c s) (step-on p x (right-past p.at x l) (omega arith)) ∙ r.1, omega (arith, r.2))
 
   -- the last byte of a record, where its mark is m
   last : (at m A t : ℕ) (s : List ℕ) → 2 ≤ at → at + 1 ≡ record_size (long m) → length s ≡ 1 →
-      feed_of (Reading w (begun at m A t)) s ≡ pick (ltb LAST-ADDRESS A) (Refused (HighAddress A)) (Reading (record_read w A (long m) (segment_by (long m) (shifts t s))) none_begun)
+      feed_of (Ok (reading w (begun at m A t))) s ≡ pick (ltb LAST-ADDRESS A) (Err (HighAddress A)) (Ok (reading (record_read w A (long m) (segment_by (long m) (shifts t s))) none_begun))
   unfolding feed_of step_of shifts
   last at m A t [] l h e = absurd (omega arith)
   last at m A t (z ∷ []) l h e =
@@ -202,7 +202,7 @@ module _ (w : Whole) (few : record_count w < MAX-OPS) where
 
   -- what follows the mark, up to the last byte that both kinds have; then the rest, for each kind
   body : (m a t : ℕ) (u : List ℕ) → a < 18446744073709551616 → 415 ≤ length u →
-      feed_of (Reading w (begun 2 m a t)) u ≡ feed_of (Reading w (begun 417 m (pack 8 8 (word u)) t)) (drop 415 u)
+      feed_of (Ok (reading w (begun 2 m a t))) u ≡ feed_of (Ok (reading w (begun 417 m (pack 8 8 (word u)) t))) (drop 415 u)
   body m a t u l e =
       let A = pack 8 8 (word u) in
       let v = drop 8 u in
@@ -211,30 +211,30 @@ module _ (w : Whole) (few : record_count w < MAX-OPS) where
       let e2 : length (take 8 v) ≡ 8 = simp (length-take, length-drop) (omega arith) in
       let e3 : length (take 399 x) ≡ 399 = simp (length-take, length-drop) (omega arith) in
       let far = size-least (long m) in
-      let s1 : feed_of (Reading w (begun 2 m a t)) (take 8 u) ≡ Reading w (begun 10 m a t) =
-      skip 2 m a t (take 8 u) (omega arith) (λ k g h. plain-low k (omega arith)) (omega arith) (omega arith) ∙ ap (λ (k : ℕ). Reading w (begun k m a t)) (omega arith)
+      let s1 : feed_of (Ok (reading w (begun 2 m a t))) (take 8 u) ≡ Ok (reading w (begun 10 m a t)) =
+      skip 2 m a t (take 8 u) (omega arith) (λ k g h. plain-low k (omega arith)) (omega arith) (omega arith) ∙ ap (λ (k : ℕ). Ok (reading w (begun k m a t))) (omega arith)
       in
-      let s2 : feed_of (Reading w (begun 10 m a t)) (take 8 v) ≡ Reading w (begun 18 m A t) =
+      let s2 : feed_of (Ok (reading w (begun 10 m a t))) (take 8 v) ≡ Ok (reading w (begun 18 m A t)) =
       address 10 m a t (take 8 v) (omega arith) (omega arith)
-      ∙ ap (λ (k : ℕ). Reading w (begun k m (shifts a (take 8 v)) t)) (omega arith)
-      ∙ ap (λ (b : ℕ). Reading w (begun 18 m b t)) (shifts-eight a (take 8 v) l e2 ∙ pack-part 8 8 u)
+      ∙ ap (λ (k : ℕ). Ok (reading w (begun k m (shifts a (take 8 v)) t))) (omega arith)
+      ∙ ap (λ (b : ℕ). Ok (reading w (begun 18 m b t))) (shifts-eight a (take 8 v) l e2 ∙ pack-part 8 8 u)
       in
-      let s3 : feed_of (Reading w (begun 18 m A t)) (take 399 x) ≡ Reading w (begun 417 m A t) =
-      skip 18 m A t (take 399 x) (omega arith) (λ k g h. plain-high k g) (omega arith) (omega arith) ∙ ap (λ (k : ℕ). Reading w (begun k m A t)) (omega arith)
+      let s3 : feed_of (Ok (reading w (begun 18 m A t))) (take 399 x) ≡ Ok (reading w (begun 417 m A t)) =
+      skip 18 m A t (take 399 x) (omega arith) (λ k g h. plain-high k g) (omega arith) (omega arith) ∙ ap (λ (k : ℕ). Ok (reading w (begun k m A t))) (omega arith)
       in
-      feed-split (Reading w (begun 2 m a t)) 8 u
-      ∙ ap (λ (c : Cursor). feed_of c v) s1
-      ∙ feed-split (Reading w (begun 10 m a t)) 8 v
-      ∙ ap (λ (c : Cursor). feed_of c x) s2
-      ∙ feed-split (Reading w (begun 18 m A t)) 399 x
-      ∙ ap (λ (c : Cursor). feed_of c (drop 399 x)) s3
-      ∙ ap (feed_of (Reading w (begun 417 m A t))) (drop-drop 399 8 v ∙ drop-drop 407 8 u)
+      feed-split (Ok (reading w (begun 2 m a t))) 8 u
+      ∙ ap (λ (c : Result Reading Refusal). feed_of c v) s1
+      ∙ feed-split (Ok (reading w (begun 10 m a t))) 8 v
+      ∙ ap (λ (c : Result Reading Refusal). feed_of c x) s2
+      ∙ feed-split (Ok (reading w (begun 18 m A t))) 399 x
+      ∙ ap (λ (c : Result Reading Refusal). feed_of c (drop 399 x)) s3
+      ∙ ap (feed_of (Ok (reading w (begun 417 m A t)))) (drop-drop 399 8 v ∙ drop-drop 407 8 u)
 
-  abbrev pub Ended : Bool → ℕ → ℕ → Cursor
-  Ended m A S = pick (ltb LAST-ADDRESS A) (Refused (HighAddress A)) (Reading (record_read w A m S) none_begun)
+  abbrev pub Ended : Bool → ℕ → ℕ → Result Reading Refusal
+  Ended m A S = pick (ltb LAST-ADDRESS A) (Err (HighAddress A)) (Ok (reading (record_read w A m S) none_begun))
 
   rest : (b : Bool) (m A t : ℕ) (u : List ℕ) → long m ≡ b → t < 18446744073709551616 → length u + 2 ≡ record_size b →
-      feed_of (Reading w (begun 417 m A t)) (drop 415 u) ≡ Ended b A (pick b (pack 4 416 (word u)) 0)
+      feed_of (Ok (reading w (begun 417 m A t))) (drop 415 u) ≡ Ended b A (pick b (pack 4 416 (word u)) 0)
   unfolding record_size segment_by
   rest false m A t u q l e =
       let e1 : length (drop 415 u) ≡ 1 = simp length-drop (omega arith) in
@@ -247,49 +247,49 @@ module _ (w : Whole) (few : record_count w < MAX-OPS) where
       let e2 : length (take 3 x) ≡ 3 = simp (length-take, length-drop) (omega arith) in
       let e3 : length (drop 3 x) ≡ 1 = simp (length-drop, length-drop) (omega arith) in
       let e4 : length x ≡ 4 = simp length-drop (omega arith) in
-      let s1 : feed_of (Reading w (begun 417 m A t)) (take 1 v) ≡ Reading w (begun 418 m A t) =
-      skip 417 m A t (take 1 v) (omega arith) (λ k g h. plain-high k (omega arith)) (omega arith) (omega arith) ∙ ap (λ (k : ℕ). Reading w (begun k m A t)) (omega arith)
+      let s1 : feed_of (Ok (reading w (begun 417 m A t))) (take 1 v) ≡ Ok (reading w (begun 418 m A t)) =
+      skip 417 m A t (take 1 v) (omega arith) (λ k g h. plain-high k (omega arith)) (omega arith) (omega arith) ∙ ap (λ (k : ℕ). Ok (reading w (begun k m A t))) (omega arith)
       in
-      let s2 : feed_of (Reading w (begun 418 m A t)) (take 3 x) ≡ Reading w (begun 421 m A (shifts t (take 3 x))) =
-      tail 418 m A t (take 3 x) size (omega arith) (omega arith) ∙ ap (λ (k : ℕ). Reading w (begun k m A (shifts t (take 3 x)))) (omega arith)
+      let s2 : feed_of (Ok (reading w (begun 418 m A t))) (take 3 x) ≡ Ok (reading w (begun 421 m A (shifts t (take 3 x)))) =
+      tail 418 m A t (take 3 x) size (omega arith) (omega arith) ∙ ap (λ (k : ℕ). Ok (reading w (begun k m A (shifts t (take 3 x))))) (omega arith)
       in
-      feed-split (Reading w (begun 417 m A t)) 1 v
-      ∙ ap (λ (c : Cursor). feed_of c (drop 1 v)) s1
-      ∙ ap (feed_of (Reading w (begun 418 m A t))) (drop-drop 1 415 u)
-      ∙ feed-split (Reading w (begun 418 m A t)) 3 x
-      ∙ ap (λ (c : Cursor). feed_of c (drop 3 x)) s2
+      feed-split (Ok (reading w (begun 417 m A t))) 1 v
+      ∙ ap (λ (c : Result Reading Refusal). feed_of c (drop 1 v)) s1
+      ∙ ap (feed_of (Ok (reading w (begun 418 m A t)))) (drop-drop 1 415 u)
+      ∙ feed-split (Ok (reading w (begun 418 m A t))) 3 x
+      ∙ ap (λ (c : Result Reading Refusal). feed_of c (drop 3 x)) s2
       ∙ last 421 m A (shifts t (take 3 x)) (drop 3 x) (omega arith) size e3
       ∙ ap (λ (b : Bool). Ended b A (segment_by b (shifts (shifts t (take 3 x)) (drop 3 x)))) q
       ∙ ap (λ (S : ℕ). Ended true A (S / 2 ^ 32)) (sym (shifts-append t (take 3 x) (drop 3 x)) ∙ ap (shifts t) (take-append-drop 3 x))
       ∙ ap (Ended true A) (shifts-four t x l e4 ∙ pack-rest 4 416 u e4)
 
-  pub step-wrong : (p : Begun) (b : ℕ) → wrong p.at b ≡ true → step_of (Reading w p) b ≡ Refused (BadRecord w.start)
+  pub step-wrong : (p : Begun) (b : ℕ) → wrong p.at b ≡ true → step_of (Ok (reading w p)) b ≡ Err (BadRecord w.start)
   unfolding step_of
   step-wrong p b e = simp (lt-leb MAX-OPS (record_count w) few, e)
 
   -- the mark, right or wrong at either byte
   module _ (m a t b0 : ℕ) where
-    pub first-wrong : (s : List ℕ) → eqb b0 FIRST-MARK ≡ false → feed_of (Reading w (begun 0 m a t)) (b0 ∷ s) ≡ Refused (BadRecord w.start)
+    pub first-wrong : (s : List ℕ) → eqb b0 FIRST-MARK ≡ false → feed_of (Ok (reading w (begun 0 m a t))) (b0 ∷ s) ≡ Err (BadRecord w.start)
     unfolding feed_of wrong
-    first-wrong s e = ap (λ (c : Cursor). feed_of c s) (step-wrong (begun 0 m a t) b0 (simp e)) ∙ feed-refused (BadRecord w.start) s
+    first-wrong s e = ap (λ (c : Result Reading Refusal). feed_of c s) (step-wrong (begun 0 m a t) b0 (simp e)) ∙ feed-refused (BadRecord w.start) s
 
-    pub first-right : eqb b0 FIRST-MARK ≡ true → step_of (Reading w (begun 0 m a t)) b0 ≡ Reading w (begun 1 m a t)
+    pub first-right : eqb b0 FIRST-MARK ≡ true → step_of (Ok (reading w (begun 0 m a t))) b0 ≡ Ok (reading w (begun 1 m a t))
     unfolding wrong taken in_address
     first-right e = step-on (begun 0 m a t) b0 (simp e) (omega (arith, size-least (long m)))
 
     module _ (b1 : ℕ) (u : List ℕ) (e : eqb b0 FIRST-MARK ≡ true) where
-      pub second-wrong : is_mark b1 ≡ false → feed_of (Reading w (begun 0 m a t)) (b0 ∷ b1 ∷ u) ≡ Refused (BadRecord w.start)
+      pub second-wrong : is_mark b1 ≡ false → feed_of (Ok (reading w (begun 0 m a t))) (b0 ∷ b1 ∷ u) ≡ Err (BadRecord w.start)
       unfolding feed_of wrong
       second-wrong d =
-          ap (λ (c : Cursor). feed_of (step_of c b1) u) (first-right e)
-          ∙ ap (λ (c : Cursor). feed_of c u) (step-wrong (begun 1 m a t) b1 (simp d))
+          ap (λ (c : Result Reading Refusal). feed_of (step_of c b1) u) (first-right e)
+          ∙ ap (λ (c : Result Reading Refusal). feed_of c u) (step-wrong (begun 1 m a t) b1 (simp d))
           ∙ feed-refused (BadRecord w.start) u
 
-      pub marked-right : is_mark b1 ≡ true → feed_of (Reading w (begun 0 m a t)) (b0 ∷ b1 ∷ u) ≡ feed_of (Reading w (begun 2 b1 a t)) u
+      pub marked-right : is_mark b1 ≡ true → feed_of (Ok (reading w (begun 0 m a t))) (b0 ∷ b1 ∷ u) ≡ feed_of (Ok (reading w (begun 2 b1 a t))) u
       unfolding feed_of wrong taken in_address
       marked-right d =
-          ap (λ (c : Cursor). feed_of (step_of c b1) u) (first-right e)
-          ∙ ap (λ (c : Cursor). feed_of c u) (step-on (begun 1 m a t) b1 (simp d) (omega (arith, size-least (long m))))
+          ap (λ (c : Result Reading Refusal). feed_of (step_of c b1) u) (first-right e)
+          ∙ ap (λ (c : Result Reading Refusal). feed_of c u) (step-on (begun 1 m a t) b1 (simp d) (omega (arith, size-least (long m))))
 
 -- ---- a whole record
 -- a number of it, from the mark's end on
@@ -299,7 +299,7 @@ past-mark n k b0 b1 t = pack-by n k (2 + k) (word t) (word (b0 ∷ b1 ∷ t)) (�
     next : (d : ℕ) → suc (suc (k + d)) ≡ 2 + k + d
     next d = omega arith
 
-after-pick : (b : Bool) (x : Refusal) (c : Cursor) → pick b (Refused x) c ≡ after (refuse_if b x none) c
+after-pick : (b : Bool) (x : Refusal) (c : Result Reading Refusal) → pick b (Err x) c ≡ after (refuse_if b x none) c
 unfolding refuse_if
 after-pick true x c = refl
 after-pick false x c = refl
@@ -333,15 +333,15 @@ module _ (r : List ℕ) where
   both_right l e d = simp (eq-eqb (length r) (size_of r) l, e, d)
 
 -- a reader after it, without its fault and with it
-abbrev pub Next : Whole → List ℕ → Cursor
-Next w r = Reading (record_read w (address_of r) (is_marked r) (segment_of r)) none_begun
+abbrev pub Next : Whole → List ℕ → Result Reading Refusal
+Next w r = Ok (reading (record_read w (address_of r) (is_marked r) (segment_of r)) none_begun)
 
-abbrev pub Then : Whole → List ℕ → Cursor
+abbrev pub Then : Whole → List ℕ → Result Reading Refusal
 Then w r = after (fault_of (record_count w) w.start r) (Next w r)
 
 module _ (w : Whole) (few : record_count w < MAX-OPS) (r : List ℕ) where
   -- one with a wrong mark, and one that is whole
-  pub bad-ends : is_whole r ≡ false → Refused (BadRecord w.start) ≡ Then w r
+  pub bad-ends : is_whole r ≡ false → Err (BadRecord w.start) ≡ Then w r
   bad-ends e = ap (λ (f : Option Refusal). after f (Next w r)) (sym (fault-bad (record_count w) w.start r few e))
 
   pub good-ends : {A S : ℕ} {m : Bool} → is_whole r ≡ true → A ≡ address_of r → m ≡ is_marked r → S ≡ segment_of r → Ended w few m A S ≡ Then w r
@@ -352,7 +352,7 @@ module _ (w : Whole) (few : record_count w < MAX-OPS) (r : List ℕ) where
 
 module _ (w : Whole) (few : record_count w < MAX-OPS) (m a t : ℕ) (small : a < 18446744073709551616) (low : t < 18446744073709551616) where
   whole_by : (b0 b1 : ℕ) (u : List ℕ) (p q : Bool) → length (b0 ∷ b1 ∷ u) ≡ size_of (b0 ∷ b1 ∷ u) → eqb b0 FIRST-MARK ≡ p → is_mark b1 ≡ q →
-      feed_of (Reading w (begun 0 m a t)) (b0 ∷ b1 ∷ u) ≡ Then w (b0 ∷ b1 ∷ u)
+      feed_of (Ok (reading w (begun 0 m a t))) (b0 ∷ b1 ∷ u) ≡ Then w (b0 ∷ b1 ∷ u)
   unfolding is_marked record_word segment_of
   whole_by b0 b1 u false q l e d = first-wrong w few m a t b0 (b1 ∷ u) e ∙ bad-ends w few (b0 ∷ b1 ∷ u) (first-not (b0 ∷ b1 ∷ u) e)
   whole_by b0 b1 u true false l e d = second-wrong w few m a t b0 b1 u e d ∙ bad-ends w few (b0 ∷ b1 ∷ u) (second-not (b0 ∷ b1 ∷ u) d)
@@ -363,7 +363,7 @@ module _ (w : Whole) (few : record_count w < MAX-OPS) (m a t : ℕ) (small : a <
       ∙ rest w few (long b1) b1 (pack 8 8 (word u)) t u refl low (omega arith)
       ∙ good-ends w few (b0 ∷ b1 ∷ u) (both_right (b0 ∷ b1 ∷ u) l e d) (past-mark 8 8 b0 b1 u) refl (λ i. pick (long b1) (past-mark 4 416 b0 b1 u i) 0)
 
-  pub whole : (r : List ℕ) → length r ≡ size_of r → feed_of (Reading w (begun 0 m a t)) r ≡ Then w r
+  pub whole : (r : List ℕ) → length r ≡ size_of r → feed_of (Ok (reading w (begun 0 m a t))) r ≡ Then w r
   whole [] l = absurd (omega (arith, size-least (is_marked [])))
   whole (b0 ∷ []) l = absurd (omega (arith, size-least (is_marked (b0 ∷ []))))
   whole (b0 ∷ b1 ∷ u) l = whole_by b0 b1 u (eqb b0 FIRST-MARK) (is_mark b1) l refl refl

@@ -20,8 +20,7 @@ use Rattle.keccak_rnd.specs.Row.{round_height}
 use Rattle.keccak_rnd.specs.Tuples.{round_table_sum}
 use Rattle.op_file.specs.declared.Segments.{Segments}
 use Rattle.op_file.specs.declared.Sums.{Sums}
-use Rattle.op_file.specs.declared.Tally.{Tally}
-use Rattle.op_file.specs.declared.Tally.TheVariants.{Counted, Refused}
+use Rattle.std.specs.Prelude.{Result, Ok, Err}
 
 -- "Record: bytes 4B 4F (hexadecimal), then timestamp, address, 25 input and 25 output lanes, each 8 bytes, lowest
 -- first: 418 bytes."; "An operation gains a 32-bit segment number, .. in the file under mark 4B 50 with 4 more bytes at the
@@ -200,10 +199,10 @@ file_sums floor shipped syscall file =
     sums_of floor shipped syscall (length (aligned_of file)) (op_at (records_words (aligned_of file))) (segments_of (aligned_of file)) (length (unaligned_of file))
 
 -- the first fault, or the sums
-abbrev pub unless : Option Refusal → Sums → Tally
-unless none s = Counted s
-unless (some r) s = Refused r
+abbrev pub unless : Option Refusal → Sums → Result Sums Refusal
+unless none s = Ok s
+unless (some r) s = Err r
 
 -- "Refused: 9, any other floor, detail the floor, after 8 and before 1.": before anything that is wrong with the file
-unfoldable pub tally_of : ℕ → Bool → ℕ → List ℕ → Tally
+unfoldable pub tally_of : ℕ → Bool → ℕ → List ℕ → Result Sums Refusal
 tally_of floor shipped syscall file = unless (not_floor floor (first_fault 0 0 (records_of file))) (file_sums floor shipped syscall file)

@@ -13,11 +13,9 @@ use Rattle.op_file.specs.File.{RECORD-BYTES, MAX-FILE-BYTES, FIRST-MARK, SEGMENT
 use Rattle.op_file.specs.declared.Segments.{Segments}
 use Rattle.op_file.specs.declared.Whole.{Whole}
 use Rattle.op_file.specs.declared.Begun.{Begun}
-use Rattle.op_file.specs.declared.Cursor.{Cursor}
-use Rattle.op_file.specs.declared.Cursor.TheVariants as cursor
+use Rattle.op_file.specs.declared.Reading.{Reading}
 use Rattle.op_file.specs.declared.Sums.{Sums}
-use Rattle.op_file.specs.declared.Tally.{Tally}
-use Rattle.op_file.specs.declared.Tally.TheVariants as tally
+use Rattle.std.specs.Prelude.{Result, Ok, Err}
 
 -- ---- the record that is being read
 -- byte `at` of a record contradicts both marks
@@ -82,33 +80,33 @@ unfoldable pub record_count : Whole → ℕ
 record_count w = pick (ltb MAX-FILE-BYTES w.start) (MAX-OPS + 1) (w.n + w.unaligned)
 
 -- ---- a reader
+abbrev pub reading : Whole → Begun → Reading
+reading w p = record { whole = w; begun = p }
+
 -- after one more byte
-unfoldable pub step_of : Cursor → ℕ → Cursor
-step_of (cursor.Refused r) b = cursor.Refused r
-step_of (cursor.Reading w p) b =
+unfoldable pub step_of : Result Reading Refusal → ℕ → Result Reading Refusal
+step_of (Err r) b = Err r
+step_of (Ok c) b =
+    let w = c.whole in
+    let p = c.begun in
     pick (leb MAX-OPS (record_count w))
-    (cursor.Refused (PastEnd (MAX-OPS + 1)))
+    (Err (PastEnd (MAX-OPS + 1)))
     (pick (wrong p.at b)
-    (cursor.Refused (BadRecord w.start))
+    (Err (BadRecord w.start))
     (pick (leb (record_size (has_segment p)) (p.at + 1))
     (pick (ltb LAST-ADDRESS p.addr)
-    (cursor.Refused (HighAddress p.addr))
-    (cursor.Reading (record_read w p.addr (has_segment p) (segment_by (has_segment p) (shifted p.tail b))) none_begun))
-    (cursor.Reading w (taken p b))))
+    (Err (HighAddress p.addr))
+    (Ok (reading (record_read w p.addr (has_segment p) (segment_by (has_segment p) (shifted p.tail b))) none_begun)))
+    (Ok (reading w (taken p b)))))
 
 -- after a piece of the file
-unfoldable pub feed_of : Cursor → List ℕ → Cursor
+unfoldable pub feed_of : Result Reading Refusal → List ℕ → Result Reading Refusal
 feed_of c [] = c
 feed_of c (b ∷ bs) = feed_of (step_of c b) bs
 
 -- at the start of a file
-abbrev pub file_start : Cursor
-file_start = cursor.Reading no_records none_begun
-
--- whether it has met a fault
-abbrev pub is_refused : Cursor → Bool
-is_refused (cursor.Refused r) = true
-is_refused (cursor.Reading w p) = false
+abbrev pub file_start : Result Reading Refusal
+file_start = Ok (reading no_records none_begun)
 
 -- ---- the end of the file
 -- what the padding rows of the round table of n operations send on AreBytes: in shipped mode those of an empty table
@@ -138,33 +136,34 @@ counts_of floor shipped n segments left =
 
 -- what the end of the file makes of a reader: a record that it breaks off is cut, and one too many where the file has
 -- all the records that it may have
-unfoldable pub end_of : ℕ → Bool → Cursor → Tally
-end_of floor shipped (cursor.Refused r) = tally.Refused r
-end_of floor shipped (cursor.Reading w p) =
+unfoldable pub end_of : ℕ → Bool → Result Reading Refusal → Result Sums Refusal
+end_of floor shipped (Err r) = Err r
+end_of floor shipped (Ok c) =
+    let w = c.whole in
     pick (ltb MAX-OPS (record_count w))
-    (tally.Refused (PastEnd (MAX-OPS + 1)))
-    (pick (eqb p.at 0)
-    (tally.Counted (counts_of floor shipped w.n (told w.segments) w.unaligned))
+    (Err (PastEnd (MAX-OPS + 1)))
+    (pick (eqb c.begun.at 0)
+    (Ok (counts_of floor shipped w.n (told w.segments) w.unaligned))
     (pick (leb MAX-OPS (record_count w))
-    (tally.Refused (PastEnd (MAX-OPS + 1)))
-    (tally.Refused (BadRecord w.start))))
+    (Err (PastEnd (MAX-OPS + 1)))
+    (Err (BadRecord w.start))))
 
 -- the refusal of a check that comes first, or what is said where it passes
-abbrev pub checked : Option Refusal → Tally → Tally
+abbrev pub checked : Option Refusal → Result Sums Refusal → Result Sums Refusal
 checked none t = t
-checked (some r) t = tally.Refused r
+checked (some r) t = Err r
 
 -- the same where the floor is checked first
-unfoldable pub finish_of : ℕ → Bool → Cursor → Tally
+unfoldable pub finish_of : ℕ → Bool → Result Reading Refusal → Result Sums Refusal
 finish_of floor shipped c = checked (not_floor floor accepted) (end_of floor shipped c)
 
 -- a reader after a whole record: at its fault, or before the next record
-abbrev pub after : Option Refusal → Cursor → Cursor
+abbrev pub after : Option Refusal → Result Reading Refusal → Result Reading Refusal
 after none c = c
-after (some r) c = cursor.Refused r
+after (some r) c = Err r
 
 -- part of a piece is read: how much of it, and where the reader then stands
-pub record Advanced (c : Cursor) (s : List ℕ) (d : Cursor) (used : ℕ) : Type 0 where
+pub record Advanced (c : Result Reading Refusal) (s : List ℕ) (d : Result Reading Refusal) (used : ℕ) : Type 0 where
   pub some-used : 0 < used
   pub all_there : used ≤ length s
   pub stands : d ≡ feed_of c (take used s)

@@ -1,8 +1,6 @@
 // The operation file: how long a record is, where a reader stands, and what `tally` prints.
 #![tactic(auto)]
 
-use answer::Refusal;
-
 // A record under the mark 4B 4F, and one under 4B 50, which has four bytes more: its segment number.
 pub const RECORD_BYTES: usize = 418;
 
@@ -47,11 +45,11 @@ pub struct Begun {
     pub tail: u64,
 }
 
-// Where a reader stands, or the first fault.
+// Where a reader stands.
 #[derive(Clone, Copy)]
-pub enum Cursor {
-    Reading(Whole, Begun),
-    Refused(Refusal),
+pub struct Reading {
+    pub whole: Whole,
+    pub begun: Begun,
 }
 
 // What `tally` prints of a file: operations, heights, per bus the sum of multiplicities, the segment numbers, and the
@@ -70,10 +68,4 @@ pub struct Sums {
     pub ecall: u64,
     pub segments: Segments,
     pub unaligned: u64,
-}
-
-#[derive(Clone, Copy)]
-pub enum Tally {
-    Counted(Sums),
-    Refused(Refusal),
 }

@@ -25,7 +25,6 @@ use Rattle.keccak.specs.Refusals.{op_count, Acceptable}
 use Rattle.keccak.proofs.Refusals.{accepted-is}
 use Rattle.op_file.specs.File.{RECORD-BYTES, SEGMENT-RECORD-BYTES, is_marked, record_size, records_of, bytes_of, record_word, operation_words, file_words, first_fault, sums_of, file_sums, unless, tally_of}
 use Rattle.op_file.specs.declared.Sums.{Sums}
-use Rattle.op_file.specs.declared.Tally.TheVariants as tally
 use Rattle.op_file.proofs.Cases.{each-counted, four, floor-counts}
 use Rattle.op_file.proofs.Counted.{words-length}
 use Rattle.op_file.proofs.Starts.{Sized, marked, each-whole, bytes-again}
@@ -33,6 +32,7 @@ use Rattle.op_file.proofs.Steps.{size-least, size-most}
 use Rattle.op_list.specs.Record.{is_numbered, record_bytes, words_from}
 use Rattle.op_list.proofs.RecordAgain.{record-length}
 use Rattle.op_list.specs.Files.{read_refusal, records_for, file_bytes, bytes_for, write_refusal}
+use Rattle.std.specs.Prelude.{Ok, Err}
 
 pub operation-length : (r : List ℕ) → length (operation_words r) ≡ OP-WORDS
 unfolding operation_words
@@ -101,18 +101,18 @@ pub count_fits : (file : List ℕ) → first_fault 0 0 (records_of file) ≡ non
 count_fits file e = omega (arith, sized-bytes (records_of file) (file-sized file e), ap length (bytes-again file))
 
 -- ---- what a tally says of the faults
-told-refused : {r : Refusal} (o : Option Refusal) (s : Sums) → tally.Refused r ≡ unless o s → o ≡ some r
+told-refused : {r : Refusal} (o : Option Refusal) (s : Sums) → Err r ≡ unless o s → o ≡ some r
 told-refused none s e = cc
 told-refused (some x) s e = cc
 
-told-counted : {t : Sums} (o : Option Refusal) (s : Sums) → tally.Counted t ≡ unless o s → (o ≡ none) × (t ≡ s)
+told-counted : {t : Sums} (o : Option Refusal) (s : Sums) → Ok t ≡ unless o s → (o ≡ none) × (t ≡ s)
 told-counted none s e = (refl, cc)
 told-counted (some x) s e = (cc, cc)
 
-pub told-fault : (file : List ℕ) {r : Refusal} → tally.Refused r ≡ tally_of 4 false 0 file → first_fault 0 0 (records_of file) ≡ some r
+pub told-fault : (file : List ℕ) {r : Refusal} → Err r ≡ tally_of 4 false 0 file → first_fault 0 0 (records_of file) ≡ some r
 told-fault file e = told-refused _ _ (e ∙ floor-counts 4 false four 0 file)
 
-pub told-file : (file : List ℕ) {t : Sums} → tally.Counted t ≡ tally_of 4 false 0 file
+pub told-file : (file : List ℕ) {t : Sums} → Ok t ≡ tally_of 4 false 0 file
     → (first_fault 0 0 (records_of file) ≡ none) × (t.ops + t.unaligned ≡ length (records_of file))
 unfolding sums_of
 told-file file e =

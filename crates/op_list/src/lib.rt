@@ -10,9 +10,8 @@ ghost use Rattle.keccak.specs.Row.{OP-WORDS};
 ghost use Rattle.op_file.specs.File.{records_of, bytes_of, first_fault, file_words};
 ghost use Rattle.op_list.specs.Files.{read_refusal, write_refusal, read_after, write_after, records_for, bytes_for};
 
-use answer::{Answer, MAX_OPS, Refusal};
+use answer::{MAX_OPS, Refusal};
 use keccak::{MIN_ROWS, OP_WORDS};
-use op_file::Tally;
 use op_reader::step::record_size;
 use op_reader::{feed, start};
 use op_sums::finish;
@@ -27,31 +26,25 @@ fn put_operations(file: &[u8], n: usize, ops: &mut [u64])
     ensures { ops.new ≡ sets ops.old 0 (file_words file.now) }
 {
     let mut from: usize = 0;
-    let mut i: usize = 0;
-    while i < n {
+    for i in 0..n {
         from = read_operation(file, from, ops, i * OP_WORDS);
-        i += 1;
     }
 }
 
 // The operations of a file, from the front of `ops` on: all of them, those that `tally` leaves out too.
-pub fn read_operations(file: &[u8], ops: &mut [u64]) -> Answer
+pub fn read_operations(file: &[u8], ops: &mut [u64]) -> Result<(), Refusal>
     ensures answer { result ≡ answer_of (read_refusal file.now (length ops.old)) }
     ensures words { ops.new ≡ read_after file.now ops.old }
 {
     let read = feed(start(), file);
     // Only the numbers of records count here, which are the same for every floor.
-    match finish(MIN_ROWS as u64, false, read) {
-        Tally::Refused(refusal) => Answer::Refused(refusal),
-        Tally::Counted(sums) => {
-            let n = (sums.ops + sums.unaligned) as usize;
-            if ops.len() < n * OP_WORDS {
-                return Answer::Refused(Refusal::TooShort((n * OP_WORDS) as u64));
-            }
-            put_operations(file, n, ops);
-            Answer::Done
-        }
+    let sums = finish(MIN_ROWS as u64, false, read)?;
+    let n = (sums.ops + sums.unaligned) as usize;
+    if ops.len() < n * OP_WORDS {
+        return Err(Refusal::TooShort((n * OP_WORDS) as u64));
     }
+    put_operations(file, n, ops);
+    Ok(())
 }
 
 // How many bytes the records of the first n operations have.
@@ -60,10 +53,8 @@ fn bytes_for(ops: &[u64], n: usize) -> usize
     ensures { result ≡ bytes_for ops.now n }
 {
     let mut bytes: usize = 0;
-    let mut i: usize = 0;
-    while i < n {
+    for i in 0..n {
         bytes += record_size(is_numbered(ops, i * OP_WORDS));
-        i += 1;
     }
     bytes
 }
@@ -74,26 +65,22 @@ fn put_records(ops: &[u64], n: usize, file: &mut [u8])
     ensures { file.new ≡ sets file.old 0 (bytes_of (records_for ops.now n)) }
 {
     let mut to: usize = 0;
-    let mut i: usize = 0;
-    while i < n {
+    for i in 0..n {
         to = write_operation(ops, i * OP_WORDS, file, to);
-        i += 1;
     }
 }
 
 // The file of a list of operations, from the front of `file` on.
-pub fn write_operations(ops: &[u64], file: &mut [u8]) -> Answer
+pub fn write_operations(ops: &[u64], file: &mut [u8]) -> Result<(), Refusal>
     ensures answer { result ≡ answer_of (write_refusal (length file.old) ops.now) }
     ensures words { file.new ≡ write_after ops.now file.old }
 {
     let n = ops.len() / OP_WORDS;
     if n as u64 > MAX_OPS {
-        return Answer::Refused(Refusal::PastEnd(MAX_OPS + 1));
+        return Err(Refusal::PastEnd(MAX_OPS + 1));
     }
     let room = file.len();
-    if let Answer::Refused(refusal) = check_operations(ops, room, bytes_for(ops, n)) {
-        return Answer::Refused(refusal);
-    }
+    check_operations(ops, room, bytes_for(ops, n))?;
     put_records(ops, n, file);
-    Answer::Done
+    Ok(())
 }

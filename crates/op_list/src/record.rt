@@ -15,10 +15,8 @@ fn read_words(bytes: &[u8], from: usize, ops: &mut [u64], at: usize)
     requires { (from + RECORD-BYTES ≤ length bytes.now) × (at + SEGMENT-WORD ≤ length ops.old) }
     ensures { ops.new ≡ sets ops.old at (tab SEGMENT-WORD (record_word (drop from bytes.now))) }
 {
-    let mut j: usize = 0;
-    while j < SEGMENT_WORD {
+    for j in 0..SEGMENT_WORD {
         ops[at + j] = word_at(bytes, from + 2 + 8 * j);
-        j += 1;
     }
 }
 
@@ -38,10 +36,8 @@ fn put_words(ops: &[u64], at: usize, count: usize, bytes: &mut [u8], to: usize)
     requires { (at + OP-WORDS ≤ length ops.now) × (count + 2 ≤ SEGMENT-RECORD-BYTES) × (to + count ≤ length bytes.old) }
     ensures { bytes.new ≡ sets bytes.old to (tab count (word_byte (words_from ops.now at))) }
 {
-    let mut k: usize = 0;
-    while k < count {
+    for k in 0..count {
         bytes[to + k] = ((ops[at + k / 8] >> (8 * (k % 8))) % 256) as u8;
-        k += 1;
     }
 }
 

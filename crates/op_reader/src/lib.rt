@@ -1,18 +1,18 @@
 // The operation file read in pieces: where a reader stands after each.
 #![tactic(auto)]
 
-ghost use Rattle.std.specs.Prelude.{◌≡◌, ◌<◌, ◌≤◌, length};
-ghost use Rattle.op_file.specs.Reader.{Advanced, feed_of, is_refused, file_start};
+ghost use Rattle.std.specs.Prelude.{◌≡◌, ◌<◌, ◌≤◌, length, Ok};
+ghost use Rattle.op_file.specs.Reader.{Advanced, feed_of, file_start};
 
-use answer::MAX_OPS;
+use answer::{MAX_OPS, Refusal};
 use keccak::LAST_SEGMENT;
-use op_file::{Begun, Cursor, RECORD_BYTES, SEGMENT_MARK, Segments, Whole};
+use op_file::{Begun, RECORD_BYTES, Reading, SEGMENT_MARK, Segments, Whole};
 pub use step::records_read;
 use step::{byte, none_begun, read_record, record_size};
 
 pub mod step;
 
-pub fn start() -> Cursor
+pub fn start() -> Result<Reading, Refusal>
     ensures { result ≡ file_start }
 {
     let segments = Segments {
@@ -20,13 +20,16 @@ pub fn start() -> Cursor
         least: LAST_SEGMENT,
         greatest: 0,
     };
-    let w = Whole {
+    let whole = Whole {
         n: 0,
         unaligned: 0,
         start: 0,
         segments,
     };
-    Cursor::Reading(w, none_begun())
+    Ok(Reading {
+        whole,
+        begun: none_begun(),
+    })
 }
 
 fn least(a: usize, b: usize) -> usize
@@ -38,16 +41,18 @@ fn least(a: usize, b: usize) -> usize
 // A part of a piece that is read at once.
 #[derive(Clone, Copy)]
 struct Part {
-    cursor: Cursor,
+    cursor: Result<Reading, Refusal>,
     used: usize,
 }
 
 // Reads on in a piece that is not empty: a whole record at once, or what follows the address of a record that the
 // piece's end splits, or else one byte.
-fn advance(w: Whole, p: Begun, s: &[u8]) -> Part
+fn advance(c: Reading, s: &[u8]) -> Part
     requires { 0 < length s.now }
-    ensures { Advanced (Cursor.Reading w p) s.now result.cursor result.used }
+    ensures { Advanced (Ok c) s.now result.cursor result.used }
 {
+    let w = c.whole;
+    let p = c.begun;
     if records_read(w) < MAX_OPS {
         let at = p.at;
         if at == 0 {
@@ -71,45 +76,29 @@ fn advance(w: Whole, p: Begun, s: &[u8]) -> Part
                     tail: p.tail,
                 };
                 return Part {
-                    cursor: Cursor::Reading(w, q),
+                    cursor: Ok(Reading { whole: w, begun: q }),
                     used: k,
                 };
             }
         }
     }
     Part {
-        cursor: byte(w, p, s[0]),
+        cursor: byte(c, s[0]),
         used: 1,
     }
 }
 
 // A reader after a piece of the file.
-pub fn feed(c: Cursor, chunk: &[u8]) -> Cursor
+pub fn feed(c: Result<Reading, Refusal>, chunk: &[u8]) -> Result<Reading, Refusal>
     ensures { result ≡ feed_of c chunk.now }
 {
     let mut now = c;
     let mut i: usize = 0;
+    // No `for`: a turn reads as many bytes as `advance` says.
     while i < chunk.len() {
-        match now {
-            Cursor::Refused(refusal) => {
-                return Cursor::Refused(refusal);
-            }
-            Cursor::Reading(w, p) => {
-                let a = advance(w, p, &chunk[i..]);
-                now = a.cursor;
-                i += a.used;
-            }
-        }
+        let a = advance(now?, &chunk[i..]);
+        now = a.cursor;
+        i += a.used;
     }
     now
-}
-
-// Whether reading on would change nothing.
-pub fn is_refused(c: Cursor) -> bool
-    ensures { result ≡ is_refused c }
-{
-    match c {
-        Cursor::Refused(_) => true,
-        Cursor::Reading(_, _) => false,
-    }
 }

@@ -1,17 +1,17 @@
 // What one byte, or a whole record at once, makes of a reader of the operation file.
-ghost use Rattle.std.specs.Prelude.{◌≡◌, ◌+◌, ◌*◌, ◌<◌, ◌≤◌, min, max, ltb, leb, eqb, length};
+ghost use Rattle.std.specs.Prelude.{◌≡◌, ◌+◌, ◌*◌, ◌<◌, ◌≤◌, min, max, ltb, leb, eqb, length, Ok, Err};
 ghost use Rattle.lists.specs.Tab.{pick, word};
 ghost use Rattle.bits.specs.Bits.{pack};
 ghost use Rattle.answer.specs.Limits.{MAX-OPS};
 ghost use Rattle.answer.specs.declared.Refusal.TheVariants.{HighAddress};
 ghost use Rattle.keccak.specs.Row.{LAST-ADDRESS};
 ghost use Rattle.op_file.specs.File.{RECORD-BYTES, SEGMENT-RECORD-BYTES, is_mark, is_marked, record_size, segment_of, address_of, fault_of};
-ghost use Rattle.op_file.specs.Reader.{after, wrong, in_address, shifted, segment_by, taken, none_begun, counted, record_read, record_count, step_of};
+ghost use Rattle.op_file.specs.Reader.{after, wrong, in_address, shifted, segment_by, taken, none_begun, counted, record_read, record_count, reading, step_of};
 
 use answer::{MAX_OPS, Refusal};
 use keccak::LAST_ADDRESS;
 use op_file::{
-    Begun, Cursor, FIRST_MARK, MAX_FILE_BYTES, PLAIN_MARK, RECORD_BYTES, SEGMENT_MARK,
+    Begun, FIRST_MARK, MAX_FILE_BYTES, PLAIN_MARK, RECORD_BYTES, Reading, SEGMENT_MARK,
     SEGMENT_RECORD_BYTES, Segments, Whole,
 };
 
@@ -34,10 +34,8 @@ pub fn word_at(s: &[u8], k: usize) -> u64
     ensures { result ≡ pack 8 k (word s.now) }
 {
     let mut a: u64 = 0;
-    let mut j: usize = 0;
-    while j < 8 {
+    for j in 0..8 {
         a = shift_in(a, s[k + j]);
-        j += 1;
     }
     a
 }
@@ -150,14 +148,17 @@ pub fn none_begun() -> Begun
 }
 
 // A reader after the last byte of a record with this address, mark and segment number.
-fn end_record(w: Whole, addr: u64, marked: bool, segment: u64) -> Cursor
+fn end_record(w: Whole, addr: u64, marked: bool, segment: u64) -> Result<Reading, Refusal>
     requires { record_count w < MAX-OPS }
-    ensures { result ≡ pick (ltb LAST-ADDRESS addr) (Cursor.Refused (HighAddress addr)) (Cursor.Reading (record_read w addr marked segment) none_begun) }
+    ensures { result ≡ pick (ltb LAST-ADDRESS addr) (Err (HighAddress addr)) (Ok (reading (record_read w addr marked segment) none_begun)) }
 {
     if addr > LAST_ADDRESS {
-        return Cursor::Refused(Refusal::HighAddress(addr));
+        return Err(Refusal::HighAddress(addr));
     }
-    Cursor::Reading(count_record(w, addr, marked, segment), none_begun())
+    Ok(Reading {
+        whole: count_record(w, addr, marked, segment),
+        begun: none_begun(),
+    })
 }
 
 fn is_mark(b: u8) -> bool
@@ -170,15 +171,15 @@ fn is_mark(b: u8) -> bool
 }
 
 // A reader after the whole record r, whose second byte tells whether it is marked.
-pub fn read_record(w: Whole, marked: bool, r: &[u8]) -> Cursor
+pub fn read_record(w: Whole, marked: bool, r: &[u8]) -> Result<Reading, Refusal>
     requires { (record_count w < MAX-OPS) × (length r.now ≡ record_size marked) × (is_marked r.now ≡ marked) }
-    ensures { result ≡ after (fault_of (record_count w) w.start r.now) (Cursor.Reading (record_read w (address_of r.now) (is_marked r.now) (segment_of r.now)) none_begun) }
+    ensures { result ≡ after (fault_of (record_count w) w.start r.now) (Ok (reading (record_read w (address_of r.now) (is_marked r.now) (segment_of r.now)) none_begun)) }
 {
     if r[0] != FIRST_MARK {
-        return Cursor::Refused(Refusal::BadRecord(w.start));
+        return Err(Refusal::BadRecord(w.start));
     }
     if !is_mark(r[1]) {
-        return Cursor::Refused(Refusal::BadRecord(w.start));
+        return Err(Refusal::BadRecord(w.start));
     }
     let addr = word_at(r, 10);
     let segment = segment_at(r, 0, marked);
@@ -258,18 +259,23 @@ fn last_segment(marked: bool, tail: u64, b: u8) -> u64
 }
 
 // A reader after one byte.
-pub fn byte(w: Whole, p: Begun, b: u8) -> Cursor
-    ensures { result ≡ step_of (Cursor.Reading w p) b }
+pub fn byte(c: Reading, b: u8) -> Result<Reading, Refusal>
+    ensures { result ≡ step_of (Ok c) b }
 {
+    let w = c.whole;
+    let p = c.begun;
     if records_read(w) >= MAX_OPS {
-        return Cursor::Refused(Refusal::PastEnd(MAX_OPS + 1));
+        return Err(Refusal::PastEnd(MAX_OPS + 1));
     }
     if is_wrong(p.at, b) {
-        return Cursor::Refused(Refusal::BadRecord(w.start));
+        return Err(Refusal::BadRecord(w.start));
     }
     let marked = p.mark == SEGMENT_MARK as u64;
     if p.at < record_size(marked) - 1 {
-        return Cursor::Reading(w, take_byte(p, b));
+        return Ok(Reading {
+            whole: w,
+            begun: take_byte(p, b),
+        });
     }
     let segment = last_segment(marked, p.tail, b);
     end_record(w, p.addr, marked, segment)

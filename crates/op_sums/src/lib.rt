@@ -6,9 +6,9 @@ ghost use Rattle.keccak_rnd.specs.Row.{round_height};
 ghost use Rattle.op_file.specs.File.{told};
 ghost use Rattle.op_file.specs.Reader.{padding_sum, counts_of, end_of, finish_of};
 
-use answer::{Answer, MAX_OPS, Refusal, check_floor};
+use answer::{MAX_OPS, Refusal, check_floor};
 use keccak_rnd::{ARE_BYTES_PER_ROW, ROUNDS};
-use op_file::{Cursor, Segments, Sums, Tally};
+use op_file::{Reading, Segments, Sums};
 use op_reader::records_read;
 use operations::table_height;
 
@@ -65,35 +65,30 @@ fn sum_up(floor: usize, shipped: bool, n: u64, segments: Segments, left: u64) ->
 }
 
 // What the end of the file makes of a reader, where the tables of an empty file are shipped or not.
-fn ended(floor: usize, shipped: bool, c: Cursor) -> Tally
+#[tactic(auto, unfolding(op_file::specs::Reader::end_of), using(op_file::proofs::Laws::count_room))]
+fn ended(floor: usize, shipped: bool, c: Result<Reading, Refusal>) -> Result<Sums, Refusal>
     requires { floor ≤ 65536 }
     ensures { result ≡ end_of floor shipped c }
 {
-    match c {
-        Cursor::Refused(refusal) => Tally::Refused(refusal),
-        Cursor::Reading(w, p) => {
-            let records = records_read(w);
-            if records > MAX_OPS {
-                return Tally::Refused(Refusal::PastEnd(MAX_OPS + 1));
-            }
-            if p.at == 0 {
-                let segments = w.segments;
-                return Tally::Counted(sum_up(floor, shipped, w.n, tell(segments), w.unaligned));
-            }
-            if records >= MAX_OPS {
-                return Tally::Refused(Refusal::PastEnd(MAX_OPS + 1));
-            }
-            Tally::Refused(Refusal::BadRecord(w.start))
-        }
+    let at = c?;
+    let w = at.whole;
+    let records = records_read(w);
+    if records > MAX_OPS {
+        return Err(Refusal::PastEnd(MAX_OPS + 1));
     }
+    if at.begun.at == 0 {
+        return Ok(sum_up(floor, shipped, w.n, tell(w.segments), w.unaligned));
+    }
+    if records >= MAX_OPS {
+        return Err(Refusal::PastEnd(MAX_OPS + 1));
+    }
+    Err(Refusal::BadRecord(w.start))
 }
 
 // The same where both tables have `floor` rows or more; the floor is checked first.
-pub fn finish(floor: u64, shipped: bool, c: Cursor) -> Tally
+pub fn finish(floor: u64, shipped: bool, c: Result<Reading, Refusal>) -> Result<Sums, Refusal>
     ensures { result ≡ finish_of floor shipped c }
 {
-    if let Answer::Refused(refusal) = check_floor(floor) {
-        return Tally::Refused(refusal);
-    }
+    check_floor(floor)?;
     ended(floor as usize, shipped, c)
 }

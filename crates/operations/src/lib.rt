@@ -21,10 +21,8 @@ pub fn lanes_at(ops: &[u64], at: usize) -> [u64; 25]
     ensures { result ≡ tab 25 (λ k. get_or ops.now (at + k) 0) }
 {
     let mut lanes = [0u64; 25];
-    let mut k: usize = 0;
-    while k < 25 {
+    for k in 0..25 {
         lanes[k] = ops[at + k];
-        k += 1;
     }
     lanes
 }

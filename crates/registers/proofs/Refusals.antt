@@ -21,12 +21,11 @@ use Rattle.answer.specs.Limits.{MAX-ROUNDS}
 use Rattle.answer.specs.Refusal.{accepted, refuse_at, answer_of, not_rounds, not_floor, PowerFloor}
 use Rattle.answer.specs.declared.Refusal.{Refusal}
 use Rattle.answer.specs.declared.Refusal.TheVariants.{NotElement, Rounds, Floor, Register}
-use Rattle.answer.specs.declared.Answer.{Answer}
-use Rattle.answer.specs.declared.Answer.TheVariants.{Refused}
 use Rattle.answer.proofs.Laws.{refuse-yes, refuse-no, at-yes, at-no, passed-if, passed-at}
 use Rattle.answer.proofs.Refusals.{rounds-later, many-rounds-refused, no-rounds-refused, floor-refused, both_later, both-passed, both-stop}
 use Rattle.segment_counts.specs.Segment.{segment_refusal}
 use Rattle.registers.specs.Registers.{in_use, ledger_of, not_register, own_refusal, through_refusal}
+use Rattle.std.specs.Prelude.{Result, Err, ⊤}
 
 -- ---- the register's own ledger
 module _ (register : ℕ) (ledgers : List ℕ) where
@@ -62,7 +61,7 @@ module _ (short : Option Refusal → Option Refusal) (nr floor register : ℕ) (
   unfolding through_refusal
   through-floor one most h = rounds-later nr _ one most ∙ floor-refused floor _ h
 
-  pub parameters-stop : {a : Answer} {q : Refusal} → a ≡ answer_of (not_rounds nr (not_floor floor accepted)) → a ≡ Refused q → told ≡ some q
+  pub parameters-stop : {a : Result ⊤ Refusal} {q : Refusal} → a ≡ answer_of (not_rounds nr (not_floor floor accepted)) → a ≡ Err q → told ≡ some q
   unfolding through_refusal
   parameters-stop e h = both-stop nr floor e _ h
 

@@ -15,11 +15,11 @@ use Rattle.lists.specs.Sum.{sum_below}
 use Rattle.lists.specs.Select.{cons_if, selected}
 use Rattle.answer.specs.Refusal.{answer_of}
 use Rattle.answer.specs.declared.Refusal.{Refusal}
-use Rattle.answer.specs.declared.Answer.{Answer}
 use Rattle.bitwise.specs.Columns.{NUM-ROWS, NUM-LOOKUP-TYPES, NUM-COUNTERS}
 use Rattle.bitwise.specs.Charge.{charged_kind}
 use Rattle.segment_counts.specs.Segment.{list_charged, charge_refusal, charge_after}
 use Rattle.registers.specs.Registers.{in_use, register_refusal, register_counters_after, register_ledgers_after}
+use Rattle.std.specs.Prelude.{Result, ⊤}
 
 -- what a call is handed beside counters, ledgers and register
 pub record Charge : Type 0 where
@@ -66,7 +66,7 @@ is_of register (through q x) = eqb q register
 abbrev pub calls_of : ℕ → List Call → List Call
 calls_of register xs = selected (is_of register) xs
 
-unfoldable pub answers_to : ℕ → State → List Call → List Answer
+unfoldable pub answers_to : ℕ → State → List Call → List (Result ⊤ Refusal)
 answers_to register s [] = []
 answers_to register s (x ∷ xs) =
     cons_if (is_of register x) (answer_of (refusal_of s x)) (answers_to register (step_after s x) xs)

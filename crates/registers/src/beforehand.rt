@@ -14,7 +14,7 @@ ghost use Rattle.registers.specs.Registers.{REGISTER-LOOK-WORDS, ledger_of, regi
 
 use super::charge_ledger;
 use super::checks::check_register;
-use answer::Answer;
+use answer::Refusal;
 use bitwise::NUM_LOOKUP_TYPES;
 use keccak::OP_WORDS;
 use lists::put_part;
@@ -58,7 +58,7 @@ pub fn look(
     ledgers: &[u64],
     copy: &mut [u64],
     out: &mut [u64],
-) -> Answer
+) -> Result<(), Refusal>
     ensures answer { result ≡ answer_of (register_look_refusal nr floor register ops.now counters.now ledgers.now (length copy.old) (length out.old)) }
     ensures copied { copy.new ≡ register_look_copy_after nr floor shipped register ops.now counters.now ledgers.now copy.old (length out.old) }
     ensures words { out.new ≡ register_look_out_after nr floor shipped register ops.now counters.now ledgers.now (length copy.old) out.old }
@@ -69,11 +69,7 @@ pub fn look(
         out.len(),
         REGISTER_LOOK_WORDS,
     );
-    if let Answer::Refused(refusal) = check_register(
-        nr, floor, register, ops, counters, ledgers, room, needed,
-    ) {
-        return Answer::Refused(refusal);
-    }
+    check_register(nr, floor, register, ops, counters, ledgers, room, needed)?;
     fill_register_look(
         nr as usize,
         floor as usize,
@@ -85,5 +81,5 @@ pub fn look(
         copy,
         out,
     );
-    Answer::Done
+    Ok(())
 }

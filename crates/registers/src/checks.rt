@@ -4,10 +4,9 @@ ghost use Rattle.answer.specs.Refusal.{answer_of, too_short};
 ghost use Rattle.bitwise.specs.Columns.{NUM-COUNTERS};
 ghost use Rattle.registers.specs.Registers.{in_use, own_refusal, through_refusal};
 
-use answer::{Answer, Refusal, check_rounds_and_floor};
+use answer::{Refusal, check_rounds_and_floor};
 use bitwise::NUM_LOOKUP_TYPES;
 use field::elements::first_not_element;
-use lists::Place;
 use segment_counts::checks::check_counts;
 
 // The most registers in use.
@@ -24,16 +23,16 @@ fn in_use(words: usize) -> usize
 }
 
 // The check of a register's own ledger.
-fn check_ledger(ledgers: &[u64], register: usize) -> Answer
+fn check_ledger(ledgers: &[u64], register: usize) -> Result<(), Refusal>
     requires { register * 10 + 10 ≤ length ledgers.now }
     ensures { result ≡ answer_of (own_refusal register ledgers.now) }
 {
     let at = register * NUM_LOOKUP_TYPES;
     let end = at + NUM_LOOKUP_TYPES;
-    if let Place::At(k) = first_not_element(&ledgers[at..end], NUM_LOOKUP_TYPES) {
-        return Answer::Refused(Refusal::NotElement((at + k) as u64));
+    if let Some(k) = first_not_element(&ledgers[at..end], NUM_LOOKUP_TYPES) {
+        return Err(Refusal::NotElement((at + k) as u64));
     }
-    Answer::Done
+    Ok(())
 }
 
 // All of them, with a slice of `room` words of which `needed` are needed.
@@ -46,18 +45,14 @@ pub fn check_register(
     ledgers: &[u64],
     room: usize,
     needed: usize,
-) -> Answer
+) -> Result<(), Refusal>
     requires { needed ≤ room → NUM-COUNTERS ≤ length counters.now }
     ensures { result ≡ answer_of (through_refusal (too_short room needed) nr floor register ops.now counters.now ledgers.now) }
 {
-    if let Answer::Refused(refusal) = check_rounds_and_floor(nr, floor) {
-        return Answer::Refused(refusal);
-    }
+    check_rounds_and_floor(nr, floor)?;
     if register >= in_use(ledgers.len()) as u64 {
-        return Answer::Refused(Refusal::Register(register));
+        return Err(Refusal::Register(register));
     }
-    if let Answer::Refused(refusal) = check_counts(nr, floor, ops, counters, room, needed) {
-        return Answer::Refused(refusal);
-    }
+    check_counts(nr, floor, ops, counters, room, needed)?;
     check_ledger(ledgers, register as usize)
 }

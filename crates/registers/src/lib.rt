@@ -8,7 +8,7 @@ ghost use Rattle.field.specs.Field.{p, fadd};
 ghost use Rattle.answer.specs.Refusal.{answer_of};
 ghost use Rattle.registers.specs.Registers.{register_refusal, register_counters_after, register_ledgers_after};
 
-use answer::Answer;
+use answer::Refusal;
 use bitwise::{NUM_COUNTERS, NUM_LOOKUP_TYPES};
 use bitwise_counts::charge_word;
 use keccak::OP_WORDS;
@@ -23,10 +23,8 @@ fn charge_ledger(words: &mut [u64], at: usize, sums: [u64; 10])
     requires { (at + 10 ≤ length words.old) × ((k : ℕ) → k < 10 → word words.old (at + k) < p) }
     ensures { words.new ≡ sets words.old at (tab 10 (λ k. fadd (word words.old (at + k)) (word sums k))) }
 {
-    let mut k: usize = 0;
-    while k < NUM_LOOKUP_TYPES {
+    for k in 0..NUM_LOOKUP_TYPES {
         charge_word(words, at + k, sums[k]);
-        k += 1;
     }
 }
 
@@ -39,12 +37,12 @@ pub fn charge(
     ops: &[u64],
     counters: &mut [u64],
     ledgers: &mut [u64],
-) -> Answer
+) -> Result<(), Refusal>
     ensures answer { result ≡ answer_of (register_refusal nr floor register ops.now counters.old ledgers.old) }
     ensures counted { counters.new ≡ register_counters_after nr floor shipped register ops.now counters.old ledgers.old }
     ensures added { ledgers.new ≡ register_ledgers_after nr floor shipped register ops.now counters.old ledgers.old }
 {
-    if let Answer::Refused(refusal) = checks::check_register(
+    checks::check_register(
         nr,
         floor,
         register,
@@ -53,11 +51,9 @@ pub fn charge(
         ledgers,
         counters.len(),
         NUM_COUNTERS,
-    ) {
-        return Answer::Refused(refusal);
-    }
+    )?;
     charge_segment(nr as usize, floor as usize, shipped, ops, counters);
     let sums = kind_sums(nr as usize, floor as usize, shipped, ops.len() / OP_WORDS);
     charge_ledger(ledgers, register as usize * NUM_LOOKUP_TYPES, sums);
-    Answer::Done
+    Ok(())
 }

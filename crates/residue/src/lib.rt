@@ -80,10 +80,8 @@ fn alu_lane(multiplicity: u64, op: Op, a: &[u64], b: &[u64], row: &[u64], c: usi
     ensures { result ≡ tab 8 (residues (alu_lane multiplicity (op_number op) a.now b.now row.now c)) }
 {
     let mut lane = [0u64; 8];
-    let mut z: usize = 0;
-    while z < 8 {
+    for z in 0..8 {
         lane[z] = alu_residue(multiplicity, op, a[z], b[z], row[c + z]);
-        z += 1;
     }
     lane
 }
@@ -111,9 +109,7 @@ pub fn put_bytes_lane(row: &[u64], a: usize, b: usize, out: &mut [u64], at: usiz
     requires { (a + 8 ≤ length row.now) × (b + 8 ≤ length row.now) × (at + 8 ≤ length out.old) }
     ensures { out.new ≡ sets out.old at (tab 8 (residues (bytes_lane row.now a b))) }
 {
-    let mut z: usize = 0;
-    while z < 8 {
+    for z in 0..8 {
         out[at + z] = bytes_residue(1, row[a + z], row[b + z]);
-        z += 1;
     }
 }

@@ -33,8 +33,9 @@ use Rattle.partners.proofs.Partners.{passed-not-alone, alone-from, agree-more, a
 use Rattle.same_operations.specs.Same.{record_cells, row_cells, file_run, core_run, agreement_of, same_refusal, same_for}
 use Rattle.same_operations.specs.Passed.{Stands, Agreed}
 use Rattle.same_operations.specs.declared.Passed.{Passed}
+use Rattle.std.specs.Prelude.{Ok, Err}
 use Rattle.same_operations.specs.declared.Agreement.{Agreement}
-use Rattle.same_operations.specs.declared.Agreement.TheVariants.{Same, Record, Row, Refused}
+use Rattle.same_operations.specs.declared.Agreement.TheVariants.{Same, Record, Row}
 use Rattle.same_operations.proofs.Scans.{stands-next, stands-cells}
 
 abbrev pub passed : ℕ → ℕ → ℕ → Passed
@@ -161,7 +162,7 @@ module _ (core file : List ℕ) where
     abbrev checked : Option Refusal
     checked = refuse_if (ragged core_layout core) (NotWhole 0) (refuse_at (first_not_element core (length core)) NotElement later)
 
-  pub table-refused : {r : Refusal} → checked accepted ≡ some r → Refused r ≡ same_for core file
+  pub table-refused : {r : Refusal} → checked accepted ≡ some r → Err r ≡ same_for core file
   unfolding same_for same_refusal
   table-refused {r} e =
       let z : checked (first_fault 0 0 (records_of file)) ≡ some r = still-if _ _ (still-at _ _ (λ q. absurd (none_told_lem q))) e in sym (rw z)
@@ -173,10 +174,10 @@ module _ (core file : List ℕ) where
         let b = passed-at _ _ _ a.1 in
         refuse-no _ a.0 (at-no _ b.0 refl)
 
-    pub file-refused : {r : Refusal} → first_fault 0 0 (records_of file) ≡ some r → Refused r ≡ same_for core file
+    pub file-refused : {r : Refusal} → first_fault 0 0 (records_of file) ≡ some r → Err r ≡ same_for core file
     unfolding same_for same_refusal
     file-refused f = sym (rw (passes (first_fault 0 0 (records_of file)) ∙ f))
 
-    pub not-refused : {a : Agreement} → first_fault 0 0 (records_of file) ≡ none → a ≡ agreement_of core file → a ≡ same_for core file
+    pub not-refused : {a : Agreement} → first_fault 0 0 (records_of file) ≡ none → a ≡ agreement_of core file → Ok a ≡ same_for core file
     unfolding same_for same_refusal
-    not-refused f z = z ∙ sym (rw (passes (first_fault 0 0 (records_of file)) ∙ f))
+    not-refused f z = ap Ok z ∙ sym (rw (passes (first_fault 0 0 (records_of file)) ∙ f))

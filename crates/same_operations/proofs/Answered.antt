@@ -3,13 +3,12 @@
 --     answers-record    a record: nothing is refused, and it is the first one that finds no partner when its turn comes
 --     answers-row       a row: nothing is refused, every record finds a partner, and it is the first active row left
 --     answers-refused   a refusal: that of its checks
-use mathlib.Core.Path.{◌≡◌, refl, sym, ◌∙◌}
+use mathlib.Core.Path.{◌≡◌, ap, refl, sym, ◌∙◌}
 use mathlib.Core.Bool.{Bool, true, false}
 use mathlib.Core.List.{List}
 use mathlib.Core.Logic.{◌↔◌}
 use mathlib.Core.Option.{Option, none, some}
 use Prim.Native.Nat.{ℕ, ◌<◌}
-use native.Mathlib.Omega.{arith}
 use lib.ListN.{length}
 use Rattle.lists.specs.Tab.{word}
 use Rattle.lists.specs.First.{first_at}
@@ -21,24 +20,17 @@ use Rattle.answer.specs.declared.Refusal.{Refusal}
 use Rattle.verdict.specs.Kind.{rows, row, Active}
 use Rattle.verdict.specs.CoreAndRound.{core_layout}
 use Rattle.op_file.specs.File.{records_of}
-use Rattle.partners.specs.Partners.{first_alone, unpartnered, left}
+use Rattle.partners.specs.Partners.{unpartnered, left}
 use Rattle.same_operations.specs.Same.{Matches, file_run, core_run, row_left, record_left, agreement_of, same_refusal, unless_refused, same_for}
+use Rattle.std.specs.Prelude.{Ok, Err}
 use Rattle.same_operations.specs.declared.Agreement.{Agreement}
-use Rattle.same_operations.specs.declared.Agreement.TheVariants.{Same, Record, Row, Refused}
+use Rattle.same_operations.specs.declared.Agreement.TheVariants.{Same, Record, Row}
 use Rattle.same_operations.proofs.Same.{record_at, InFile, same-matches, one_by_one}
 
 -- ---- the answer by its parts
-said_same : (o : Option Refusal) (a : Agreement) → (unless_refused o a ≡ Same) ↔ ((o ≡ none) × (a ≡ Same))
-said_same none a = (λ e. (refl, e), λ h. h.1)
-said_same (some r) a = (λ e. (cc, cc), λ h. cc h.0)
-
-said-record : (o : Option Refusal) (a : Agreement) (i : ℕ) → (unless_refused o a ≡ Record i) ↔ ((o ≡ none) × (a ≡ Record i))
-said-record none a i = (λ e. (refl, e), λ h. h.1)
-said-record (some r) a i = (λ e. (cc, cc), λ h. cc h.0)
-
-said_row : (o : Option Refusal) (a : Agreement) (k : ℕ) → (unless_refused o a ≡ Row k) ↔ ((o ≡ none) × (a ≡ Row k))
-said_row none a k = (λ e. (refl, e), λ h. h.1)
-said_row (some r) a k = (λ e. (cc, cc), λ h. cc h.0)
+said : (o : Option Refusal) (a b : Agreement) → (unless_refused o a ≡ Ok b) ↔ ((o ≡ none) × (a ≡ b))
+said none a b = (λ e. (refl, cc), λ h. ap Ok h.1)
+said (some r) a b = (λ e. (cc, cc), λ h. cc h.0)
 
 record-told : (a b : Option ℕ) (i : ℕ) → (record_left a (row_left b) ≡ Record i) ↔ (a ≡ some i)
 record-told none none i = (λ e. cc, λ e. cc)
@@ -62,29 +54,29 @@ module _ (core file : List ℕ) where
   abbrev row-left : ℕ → Bool
   row-left = left (file_run file) (core_run core)
 
-  pub answers-same : ((k : ℕ) → word file k < 256) → (same_for core file ≡ Same)
+  pub answers-same : ((k : ℕ) → word file k < 256) → (same_for core file ≡ Ok Same)
       ↔ ((same_refusal core file ≡ accepted) × OneToOne (InFile file) (Active core_layout core) (λ i r. Matches (record_at file i) (row core_layout core r)))
   unfolding same_for
   answers-same small =
-      let s = said_same (same_refusal core file) (agreement_of core file) in
+      let s = said (same_refusal core file) (agreement_of core file) Same in
       let m = same-matches file small core in
       ((λ e. let h = s.0 e in (h.0, m.0 h.1)), λ h. s.1 (h.0, m.1 h.1))
 
-  pub answers-record : (i : ℕ) → (same_for core file ≡ Record i)
+  pub answers-record : (i : ℕ) → (same_for core file ≡ Ok (Record i))
       ↔ ((same_refusal core file ≡ accepted) × FirstAt (λ k. none-for k ≡ true) (λ k. none-for k ≡ false) (length (records_of file)) i)
   unfolding same_for
   answers-record i =
-      let s = said-record (same_refusal core file) (agreement_of core file) i in
+      let s = said (same_refusal core file) (agreement_of core file) (Record i) in
       let t = record-told (first_at none-for (length (records_of file))) (first_at row-left (rows core_layout core)) i in
       let f = at-some-iff none-for (length (records_of file)) (λ k l. by-test (none-for k)) i in
       ((λ e. let h = s.0 e in (h.0, f.0 (t.0 (sym (one_by_one core file) ∙ h.1)))), λ h. s.1 (h.0, one_by_one core file ∙ t.1 (f.1 h.1)))
 
-  pub answers-row : (r : ℕ) → (same_for core file ≡ Row r)
+  pub answers-row : (r : ℕ) → (same_for core file ≡ Ok (Row r))
       ↔ ((same_refusal core file ≡ accepted) × ((i : ℕ) → InFile file i → none-for i ≡ false)
       × FirstAt (λ k. row-left k ≡ true) (λ k. row-left k ≡ false) (rows core_layout core) r)
   unfolding same_for
   answers-row r =
-      let s = said_row (same_refusal core file) (agreement_of core file) r in
+      let s = said (same_refusal core file) (agreement_of core file) (Row r) in
       let t = row_told (first_at none-for (length (records_of file))) (first_at row-left (rows core_layout core)) r in
       let n = at-none-iff none-for (length (records_of file)) (λ k l. by-test (none-for k)) in
       let f = at-some-iff row-left (rows core_layout core) (λ k l. by-test (row-left k)) r in (
@@ -92,18 +84,11 @@ module _ (core file : List ℕ) where
         λ h. s.1 (h.0, one_by_one core file ∙ t.1 (n.1 h.1, f.1 h.2)),
       )
 
--- a refusal is that of the checks: the comparison itself refuses nothing
-never-refused : (a b : Option ℕ) (r : Refusal) → record_left a (row_left b) ≡ Refused r → ⊥
-never-refused none none r e = let z : ◌≡◌ {A = ℕ} 0 1 = cc in absurd (omega arith)
-never-refused none (some k) r e = let z : ◌≡◌ {A = ℕ} 0 1 = cc in absurd (omega arith)
-never-refused (some i) b r e = let z : ◌≡◌ {A = ℕ} 0 1 = cc in absurd (omega arith)
+-- a refusal is that of the checks
+said-refused : (o : Option Refusal) (a : Agreement) (r : Refusal) → (unless_refused o a ≡ Err r) ↔ (o ≡ some r)
+said-refused none a r = (λ e. cc, λ e. cc)
+said-refused (some x) a r = (λ e. cc, λ e. cc)
 
-said-refused : (o : Option Refusal) (a : Agreement) (r : Refusal) → (a ≡ Refused r → ⊥) → (unless_refused o a ≡ Refused r) ↔ (o ≡ some r)
-said-refused none a r h = (λ e. absurd (h e), λ e. cc)
-said-refused (some x) a r h = (λ e. cc, λ e. cc)
-
-pub answers-refused : (core file : List ℕ) (r : Refusal) → (same_for core file ≡ Refused r) ↔ (same_refusal core file ≡ some r)
-unfolding same_for agreement_of
-answers-refused core file r =
-    said-refused (same_refusal core file) (agreement_of core file) r
-    (never-refused (first_alone (file_run file) (core_run core)) (first_alone (core_run core) (file_run file)) r)
+pub answers-refused : (core file : List ℕ) (r : Refusal) → (same_for core file ≡ Err r) ↔ (same_refusal core file ≡ some r)
+unfolding same_for
+answers-refused core file r = said-refused (same_refusal core file) (agreement_of core file) r

@@ -24,9 +24,9 @@ use Rattle.verdict.specs.Failures.{FirstNotElement}
 use Rattle.verdict.specs.Verdict.{ragged}
 use Rattle.op_file.specs.File.{records_of, first_fault, file_sums, unless, tally_of}
 use Rattle.op_file.specs.declared.Sums.{Sums}
-use Rattle.op_file.specs.declared.Tally.TheVariants as tally
 use Rattle.op_file.proofs.Cases.{never-7, four, floor-counts}
 use Rattle.same_operations.specs.Same.{same_refusal}
+use Rattle.std.specs.Prelude.{Err}
 
 module _ (core file : List ℕ) where
   pub table-ragged : (Whole core_layout core → ⊥) → same_refusal core file ≡ some (NotWhole 0)
@@ -54,12 +54,12 @@ module _ (core file : List ℕ) where
   )
 
 -- `tally`'s answer for what it found
-told-refusal : (o : Option Refusal) (s : Sums) (r : Refusal) → (o ≡ some r) ↔ (unless o s ≡ tally.Refused r)
+told-refusal : (o : Option Refusal) (s : Sums) (r : Refusal) → (o ≡ some r) ↔ (unless o s ≡ Err r)
 told-refusal none s r = (λ e. cc, λ e. cc)
 told-refusal (some x) s r = (λ e. cc, λ e. cc)
 
 pub as-tally : (core file : List ℕ) → Whole core_layout core → Elements core → (floor : ℕ) → PowerFloor floor → (shipped : Bool) (syscall : ℕ) (r : Refusal) →
-    (same_refusal core file ≡ some r) ↔ (tally_of floor shipped syscall file ≡ tally.Refused r)
+    (same_refusal core file ≡ some r) ↔ (tally_of floor shipped syscall file ≡ Err r)
 as-tally core file whole below floor power shipped syscall r =
     let f = table-passed core file whole below in
     let g = floor-counts floor shipped power syscall file in

@@ -4,7 +4,7 @@
 --     file_run, core_run         the file's records, and the active rows of a core table, as runs of that
 --     agreement_of              same; the first record with no partner of its own; or, failing that, the first active row left
 --     same_for                  what the call answers
-use Rattle.std.specs.Prelude.{ℕ, ◌+◌, ◌*◌, ◌^◌, ◌≤◌, ◌<◌, ◌≡◌, true, List, [], ltb, length, get_or}
+use Rattle.std.specs.Prelude.{ℕ, ◌+◌, ◌*◌, ◌^◌, ◌≤◌, ◌<◌, ◌≡◌, true, List, [], ltb, length, get_or, Result, Ok, Err}
 use Rattle.std.proofs.Math.Option.{Option, none, some}
 use Rattle.lists.specs.Tab.{pick, tab, word}
 use Rattle.bits.specs.Bits.{pack}
@@ -21,7 +21,7 @@ use Rattle.verdict.specs.Verdict.{ragged}
 use Rattle.op_file.specs.File.{records_of, record_word, address_of, first_fault}
 use Rattle.partners.specs.Partners.{Run, first_alone}
 use Rattle.same_operations.specs.declared.Agreement.{Agreement}
-use Rattle.same_operations.specs.declared.Agreement.TheVariants.{Same, Record, Row, Refused}
+use Rattle.same_operations.specs.declared.Agreement.TheVariants.{Same, Record, Row}
 
 -- ---- what is compared: "timestamp, address, INPUT and OUTPUT", the columns of a core row before the pointers: "pointers are not
 -- compared", and "Segment numbers are ignored"
@@ -88,9 +88,9 @@ same_refusal core file =
     (refuse_at (first_not_element core (length core)) NotElement
     (first_fault 0 0 (records_of file)))
 
-abbrev pub unless_refused : Option Refusal → Agreement → Agreement
-unless_refused none a = a
-unless_refused (some r) a = Refused r
+abbrev pub unless_refused : Option Refusal → Agreement → Result Agreement Refusal
+unless_refused none a = Ok a
+unless_refused (some r) a = Err r
 
-unfoldable pub same_for : List ℕ → List ℕ → Agreement
+unfoldable pub same_for : List ℕ → List ℕ → Result Agreement Refusal
 same_for core file = unless_refused (same_refusal core file) (agreement_of core file)

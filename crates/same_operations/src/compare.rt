@@ -28,12 +28,10 @@ fn same_cells(words: &[u64], at: usize, bytes: &[u8], from: usize, n: usize) -> 
     requires { (at + n ≤ length words.now) × (from + n ≤ length bytes.now) }
     ensures { result ≡ not (any_below (words_differ words.now at bytes.now from) n) }
 {
-    let mut k: usize = 0;
-    while k < n {
+    for k in 0..n {
         if words[at + k] != wide(bytes[from + k]) {
             return false;
         }
-        k += 1;
     }
     true
 }
@@ -43,12 +41,10 @@ fn same_bytes(bytes: &[u8], a: usize, b: usize, n: usize) -> bool
     requires { (a + n ≤ length bytes.now) × (b + n ≤ length bytes.now) }
     ensures { result ≡ not (any_below (words_differ bytes.now a bytes.now b) n) }
 {
-    let mut k: usize = 0;
-    while k < n {
+    for k in 0..n {
         if bytes[a + k] != bytes[b + k] {
             return false;
         }
-        k += 1;
     }
     true
 }

@@ -16,13 +16,11 @@ ghost use Rattle.partners.specs.Partners.{alone, first_alone};
 ghost use Rattle.same_operations.specs.Same.{record_cells, row_cells, file_run, core_run, agreement_of, same_for};
 ghost use Rattle.same_operations.specs.Passed.{Stands, Agreed, Ahead};
 
-use answer::{Answer, Refusal};
+use answer::Refusal;
 use compare::{is_record, next_start};
 use field::elements::first_not_element;
 use judge_scan::{active_rows, is_active};
 use keccak;
-use lists::Place;
-use op_file::Tally;
 use op_reader::step::word_at;
 use op_reader::{feed, start};
 use op_sums::finish;
@@ -39,7 +37,6 @@ pub enum Agreement {
     Same,
     Record(usize),
     Row(usize),
-    Refused(Refusal),
 }
 
 // How many records were passed, of how many bytes, and how many rows, where the records and the active rows of them are the same.
@@ -70,21 +67,23 @@ fn pass(core: &[u64], file: &[u8], n: usize) -> Passed
     let height = core.len() / keccak::NUM_COLUMNS;
     let mut records: usize = 0;
     let mut bytes: usize = 0;
-    let mut rows: usize = 0;
-    while rows < height {
-        if is_active(core, Table::Core, rows) {
-            if !is_next(core, rows, file, n, records, bytes) {
-                break;
+    for r in 0..height {
+        if is_active(core, Table::Core, r) {
+            if !is_next(core, r, file, n, records, bytes) {
+                return Passed {
+                    records,
+                    bytes,
+                    rows: r,
+                };
             }
             bytes = next_start(file, bytes);
             records += 1;
         }
-        rows += 1;
     }
     Passed {
         records,
         bytes,
-        rows,
+        rows: height,
     }
 }
 
@@ -139,7 +138,7 @@ fn look(
             next,
         };
     }
-    if let Place::At(r) = find_row(core, next, file, from) {
+    if let Some(r) = find_row(core, next, file, from) {
         return Looked {
             alone: false,
             top: stamp,
@@ -154,41 +153,37 @@ fn look(
 }
 
 // The first record of the n without a partner.
-fn first_record(core: &[u64], file: &[u8], n: usize, p: Passed) -> Place
+fn first_record(core: &[u64], file: &[u8], n: usize, p: Passed) -> Option<usize>
     requires { Agreed core.now file.now p × (n ≡ length (records_of file.now)) }
     ensures { result ≡ place_of (first_alone (file_run file.now) (core_run core.now)) }
 {
     let mut top: u64 = 0;
     let mut next = p.rows;
     let mut from = p.bytes;
-    let mut i = p.records;
-    while i < n {
+    for i in p.records..n {
         let t = look(core, file, p, i, from, top, next);
         if t.alone {
-            return Place::At(i);
+            return Some(i);
         }
         top = t.top;
         next = t.next;
         from = next_start(file, from);
-        i += 1;
     }
-    Place::Nowhere
+    None
 }
 
 // The first active row without a partner among the n records.
-fn first_row(core: &[u64], file: &[u8], n: usize, p: Passed) -> Place
+fn first_row(core: &[u64], file: &[u8], n: usize, p: Passed) -> Option<usize>
     requires { Agreed core.now file.now p × (n ≡ length (records_of file.now)) }
     ensures { result ≡ place_of (first_alone (core_run core.now) (file_run file.now)) }
 {
     let rows = core.len() / keccak::NUM_COLUMNS;
-    let mut r = p.rows;
-    while r < rows {
+    for r in p.rows..rows {
         if row_alone(core, file, n, p, r) {
-            return Place::At(r);
+            return Some(r);
         }
-        r += 1;
     }
-    Place::Nowhere
+    None
 }
 
 // The n records of a file without a fault against the active rows. Where no record is alone and the rows are as many, no row is
@@ -198,42 +193,38 @@ fn compared(core: &[u64], file: &[u8], n: usize) -> Agreement
     ensures { result ≡ agreement_of core.now file.now }
 {
     let p = pass(core, file, n);
-    if let Place::At(i) = first_record(core, file, n, p) {
+    if let Some(i) = first_record(core, file, n, p) {
         return Agreement::Record(i);
     }
     if active_rows(core, Table::Core) == n {
         return Agreement::Same;
     }
     match first_row(core, file, n, p) {
-        Place::At(r) => Agreement::Row(r),
-        Place::Nowhere => Agreement::Same,
+        Some(r) => Agreement::Row(r),
+        None => Agreement::Same,
     }
 }
 
 // The table is whole rows of field elements.
-fn check_table(core: &[u64]) -> Answer
+fn check_table(core: &[u64]) -> Result<(), Refusal>
     ensures { result ≡ answer_of (refuse_if (ragged core_layout core.now) (NotWhole 0) (refuse_at (first_not_element core.now (length core.now)) NotElement accepted)) }
 {
     if core.len() % keccak::NUM_COLUMNS != 0 {
-        return Answer::Refused(Refusal::NotWhole(0));
+        return Err(Refusal::NotWhole(0));
     }
-    if let Place::At(k) = first_not_element(core, core.len()) {
-        return Answer::Refused(Refusal::NotElement(k as u64));
+    if let Some(k) = first_not_element(core, core.len()) {
+        return Err(Refusal::NotElement(k as u64));
     }
-    Answer::Done
+    Ok(())
 }
 
 // Whether the file's records and the table's active rows are the same, in some order, repeats counted.
-pub fn same_operations(core: &[u64], file: &[u8]) -> Agreement
+pub fn same_operations(core: &[u64], file: &[u8]) -> Result<Agreement, Refusal>
     ensures { result ≡ same_for core.now file.now }
 {
-    if let Answer::Refused(refusal) = check_table(core) {
-        return Agreement::Refused(refusal);
-    }
+    check_table(core)?;
     let read = feed(start(), file);
     // Only the numbers of records count here, which are the same for every floor.
-    match finish(keccak::MIN_ROWS as u64, false, read) {
-        Tally::Refused(refusal) => Agreement::Refused(refusal),
-        Tally::Counted(sums) => compared(core, file, (sums.ops + sums.unaligned) as usize),
-    }
+    let sums = finish(keccak::MIN_ROWS as u64, false, read)?;
+    Ok(compared(core, file, (sums.ops + sums.unaligned) as usize))
 }

@@ -11,7 +11,6 @@ ghost use Rattle.same_operations.specs.Passed.{Stands, from_on};
 
 use super::compare::{has_record, has_row, is_record, next_start, same_record};
 use keccak;
-use lists::Place;
 use op_reader::step::word_at;
 
 // How many records from record a on, which starts at byte `start`, and before record i have the cells of the one at byte `from`.
@@ -21,13 +20,11 @@ pub fn count_records(file: &[u8], a: usize, start: usize, i: usize, from: usize)
 {
     let mut n: usize = 0;
     let mut at = start;
-    let mut k = a;
-    while k < i {
+    for k in a..i {
         if same_record(file, from, at) {
             n += 1;
         }
         at = next_start(file, at);
-        k += 1;
     }
     n
 }
@@ -38,31 +35,27 @@ pub fn count_rows(core: &[u64], b: usize, r: usize) -> usize
     ensures { result ≡ count_between (holds_at (core_run core.now) (row_cells (row core_layout core.now r))) b r }
 {
     let mut n: usize = 0;
-    let mut q = b;
-    while q < r {
+    for q in b..r {
         if has_row(core, r, q) {
             n += 1;
         }
-        q += 1;
     }
     n
 }
 
 // The first active row from row h on that has the cells of the record at byte `from`.
-pub fn find_row(core: &[u64], h: usize, file: &[u8], from: usize) -> Place
+pub fn find_row(core: &[u64], h: usize, file: &[u8], from: usize) -> Option<usize>
     requires { (h ≤ rows core_layout core.now) × (from + RECORD-BYTES ≤ length file.now) }
     ensures { result ≡ place_of (first_at (from_on h (holds_at (core_run core.now) (record_cells (drop from file.now)))) (rows core_layout core.now)) }
 {
     let rows = core.len() / keccak::NUM_COLUMNS;
     let stamp = word_at(file, from + 2);
-    let mut r = h;
-    while r < rows {
+    for r in h..rows {
         if has_record(core, r, stamp, file, from) {
-            return Place::At(r);
+            return Some(r);
         }
-        r += 1;
     }
-    Place::Nowhere
+    None
 }
 
 // Whether more than c active rows from row b on have the cells of the record at byte `from`. The scan ends with the first too many.
@@ -73,15 +66,13 @@ pub fn has_more_rows(core: &[u64], b: usize, file: &[u8], from: usize, c: usize)
     let rows = core.len() / keccak::NUM_COLUMNS;
     let stamp = word_at(file, from + 2);
     let mut left = c;
-    let mut r = b;
-    while r < rows {
+    for r in b..rows {
         if has_record(core, r, stamp, file, from) {
             if left == 0 {
                 return true;
             }
             left -= 1;
         }
-        r += 1;
     }
     false
 }
@@ -101,8 +92,7 @@ pub fn has_more_records(
 {
     let mut left = c;
     let mut at = start;
-    let mut k = a;
-    while k < n {
+    for k in a..n {
         let stamp = word_at(file, at + 2);
         if is_record(core, r, stamp, file, at) {
             if left == 0 {
@@ -111,7 +101,6 @@ pub fn has_more_records(
             left -= 1;
         }
         at = next_start(file, at);
-        k += 1;
     }
     false
 }

@@ -55,8 +55,8 @@ fn print_next(rt: &impl Print, n: u64) -> io::Result<()> {
 }
 
 fn print_words(rt: &impl Print, words: &[u64]) -> io::Result<()> {
-    for k in 0..words.len() {
-        print_next(rt, words[k])?;
+    for &word in words {
+        print_next(rt, word)?;
     }
     Ok(())
 }
@@ -72,36 +72,23 @@ fn print_line(rt: &impl Print, kind: u64, number: u64, words: &[u64]) -> io::Res
 fn print_rows(rt: &impl Print, kind: u64, words: &[u64], width: usize) -> io::Result<()>
     requires { 1 ≤ width }
 {
-    let mut at: usize = 0;
-    let mut number: u64 = 0;
-    while width <= words.len() - at {
-        print_line(rt, kind, number, &words[at..at + width])?;
-        at += width;
-        number += 1;
+    for (number, row) in words.chunks_exact(width).enumerate() {
+        print_line(rt, kind, number as u64, row)?;
     }
     Ok(())
 }
 
 // From a digest, FACTOR · digest + word for each word in turn, mod p.
 fn digest(before: u64, words: &[u64]) -> u64 {
-    let mut sum = before;
-    for k in 0..words.len() {
-        sum = step(sum, words[k]);
-    }
-    sum
+    words.iter().fold(before, |sum, &word| step(sum, word))
 }
 
 // A line with the digest of each `width` words.
 fn print_digests(rt: &impl Print, kind: u64, words: &[u64], width: usize) -> io::Result<()>
     requires { 1 ≤ width }
 {
-    let mut at: usize = 0;
-    let mut number: u64 = 0;
-    while width <= words.len() - at {
-        let sum = digest(0, &words[at..at + width]);
-        print_line(rt, kind, number, &[sum])?;
-        at += width;
-        number += 1;
+    for (number, row) in words.chunks_exact(width).enumerate() {
+        print_line(rt, kind, number as u64, &[digest(0, row)])?;
     }
     Ok(())
 }
@@ -111,11 +98,9 @@ fn put_drawn(words: &mut [u64], at: usize, n: usize, before: u64) -> u64
     requires { at + n ≤ length words.old }
 {
     let mut word = before;
-    let mut k: usize = 0;
-    while k < n {
+    for k in 0..n {
         word = next_word(word);
         words[at + k] = word;
-        k += 1;
     }
     word
 }
@@ -155,10 +140,10 @@ fn put_operations(ops: &mut [u64])
 
 fn core_rows(rt: &impl Print, ops: &[u64]) -> io::Result<()> {
     let mut keys = [0u64; 250];
-    keccak_keys::is_wh_keys(ops, &mut keys);
+    let _ = keccak_keys::is_wh_keys(ops, &mut keys);
     print_rows(rt, 10, &keys, 2)?;
     let mut table = [0u64; 3888];
-    keccak_trace::generate_keccak_trace(FLOOR, ops, &mut table);
+    let _ = keccak_trace::generate_keccak_trace(FLOOR, ops, &mut table);
     print_rows(rt, 11, &table, 486)
 }
 
@@ -166,7 +151,12 @@ fn round_rows(rt: &impl Print, ops: &[u64]) -> io::Result<()>
     requires { 2 * OP-WORDS ≤ length ops.now }
 {
     let mut table = [0u64; 94720];
-    keccak_rnd_trace::generate_keccak_rnd_trace(ROUNDS, FLOOR, &ops[..2 * OP_WORDS], &mut table);
+    let _ = keccak_rnd_trace::generate_keccak_rnd_trace(
+        ROUNDS,
+        FLOOR,
+        &ops[..2 * OP_WORDS],
+        &mut table,
+    );
     print_digests(rt, 17, &table, 1480)
 }
 
@@ -210,12 +200,10 @@ fn print_tuple(
 
 // The ten tuples of a bitwise row.
 fn print_bitwise_tuples(rt: &impl Print, number: u64, row: &[u64]) -> io::Result<()> {
-    let mut i: usize = 0;
-    while i < 10 {
+    for i in 0..10 {
         let mut out = [0u64; 4];
         let tuple = keccak_tables_bitwise_bus_interaction(row, i, &mut out);
         print_tuple(rt, 2, number, i, tuple, &out)?;
-        i += 1;
     }
     Ok(())
 }
@@ -223,7 +211,7 @@ fn print_bitwise_tuples(rt: &impl Print, number: u64, row: &[u64]) -> io::Result
 // The row of an index, with ten multiplicities drawn after a word, and its tuples. Answers the last word drawn.
 fn print_drawn_bitwise(rt: &impl Print, index: u64, before: u64) -> io::Result<u64> {
     let mut row = [0u64; 21];
-    bitwise_rows::generate_bitwise_row(index as usize, &mut row);
+    let _ = bitwise_rows::generate_bitwise_row(index as usize, &mut row);
     let last = put_drawn(&mut row, 11, 10, before);
     print_line(rt, 1, index, &row)?;
     print_bitwise_tuples(rt, index, &row)?;
@@ -237,10 +225,8 @@ fn bitwise_lookups(rt: &impl Print, before: u64) -> io::Result<u64> {
     word = print_drawn_bitwise(rt, 0, word)?;
     word = print_drawn_bitwise(rt, 266804, word)?;
     word = print_drawn_bitwise(rt, 1048575, word)?;
-    let mut k: usize = 0;
-    while k < 50 {
+    for k in 0..50 {
         word = print_drawn_bitwise(rt, drawn[k] % 1048576, word)?;
-        k += 1;
     }
     Ok(word)
 }
@@ -255,8 +241,8 @@ fn print_constant(rt: &impl Print, round: u64, row: &[u64]) -> io::Result<()> {
 
 fn constant_lookups(rt: &impl Print) -> io::Result<()> {
     let mut table = [0u64; 320];
-    keccak_rc_trace::generate_keccak_rc_trace(&mut table);
-    keccak_rc_trace::update_multiplicities(ROUNDS, &mut table, 7);
+    let _ = keccak_rc_trace::generate_keccak_rc_trace(&mut table);
+    let _ = keccak_rc_trace::update_multiplicities(ROUNDS, &mut table, 7);
     for round in 0..32 {
         print_constant(rt, round as u64, &table[10 * round..10 * round + 10])?;
     }
@@ -265,12 +251,10 @@ fn constant_lookups(rt: &impl Print) -> io::Result<()> {
 
 // The five tuples of a row of keys.
 fn print_key_tuples(rt: &impl Print, number: u64, row: &[u64]) -> io::Result<()> {
-    let mut i: usize = 0;
-    while i < 5 {
+    for i in 0..5 {
         let mut out = [0u64; 2];
         let tuple = keccak_tables_is_wh_bus_interaction(row, i, &mut out);
         print_tuple(rt, 8, number, i, tuple, &out)?;
-        i += 1;
     }
     Ok(())
 }
@@ -295,10 +279,8 @@ fn key_lookups(rt: &impl Print, before: u64) -> io::Result<()> {
     word = print_key(rt, 2, 65536, word)?;
     word = print_key(rt, 3, 4294967296, word)?;
     word = print_key(rt, 4, 18446744073709551615, word)?;
-    let mut k: usize = 0;
-    while k < 45 {
+    for k in 0..45 {
         word = print_key(rt, 5 + k as u64, drawn[k], word)?;
-        k += 1;
     }
     Ok(())
 }
@@ -320,12 +302,10 @@ fn tuple_digest(before: u64, tuple: FlatTuple, values: &[u64]) -> u64 {
 // The digest of the 84 tuples of a core row.
 fn core_tuples(row: &[u64]) -> u64 {
     let mut sum: u64 = 0;
-    let mut i: usize = 0;
-    while i < 84 {
+    for i in 0..84 {
         let mut out = [0u64; 203];
         let tuple = keccak_tables_keccak_bus_interaction(ROUNDS, row, i, SYSCALL, &mut out);
         sum = tuple_digest(sum, tuple, &out);
-        i += 1;
     }
     sum
 }
@@ -333,12 +313,10 @@ fn core_tuples(row: &[u64]) -> u64 {
 // The digest of the 1,031 tuples of a round row.
 fn round_tuples(row: &[u64]) -> u64 {
     let mut sum: u64 = 0;
-    let mut i: usize = 0;
-    while i < 1031 {
+    for i in 0..1031 {
         let mut out = [0u64; 203];
         let tuple = keccak_tables_keccak_rnd_bus_interaction(row, i, &mut out);
         sum = tuple_digest(sum, tuple, &out);
-        i += 1;
     }
     sum
 }
@@ -362,7 +340,7 @@ fn print_round_row(rt: &impl Print, number: u64, row: &[u64]) -> io::Result<()> 
 // The core table of five operations, and three rows of drawn words.
 fn core_evaluations(rt: &impl Print, ops: &[u64]) -> io::Result<()> {
     let mut rows = [0u64; 5346];
-    keccak_trace::generate_keccak_trace(FLOOR, ops, &mut rows);
+    let _ = keccak_trace::generate_keccak_trace(FLOOR, ops, &mut rows);
     put_drawn(&mut rows, 3888, 1458, 3);
     for k in 0..11 {
         print_core_row(rt, k as u64, &rows[486 * k..486 * k + 486])?;
@@ -375,7 +353,7 @@ fn round_evaluations(rt: &impl Print) -> io::Result<()> {
     let mut ops = [0u64; OP_WORDS];
     put_operation(&mut ops, 0, 4);
     let mut rows = [0u64; 50320];
-    keccak_rnd_trace::generate_keccak_rnd_trace(ROUNDS, FLOOR, &ops, &mut rows);
+    let _ = keccak_rnd_trace::generate_keccak_rnd_trace(ROUNDS, FLOOR, &ops, &mut rows);
     put_drawn(&mut rows, 47360, 2960, 5);
     for k in 0..34 {
         print_round_row(rt, k as u64, &rows[1480 * k..1480 * k + 1480])?;

@@ -12,8 +12,6 @@ use Rattle.lists.specs.First.{first}
 use Rattle.answer.specs.Refusal.{refuse_if, refuse_at, accepted, too_short, not_rounds, not_floor, PowerFloor, answer_of}
 use Rattle.answer.specs.declared.Refusal.{Refusal}
 use Rattle.answer.specs.declared.Refusal.TheVariants.{PastEnd, NotElement}
-use Rattle.answer.specs.declared.Answer.{Answer}
-use Rattle.answer.specs.declared.Answer.TheVariants.{Refused}
 use Rattle.answer.proofs.Laws.{refuse-yes, refuse-no, passed-if, still-if}
 use Rattle.answer.proofs.Refusals.{both_later, both-stop, floor-most}
 use Rattle.bitwise.specs.Columns.{NUM-COUNTERS}
@@ -23,6 +21,7 @@ use Rattle.keccak.proofs.Refusals.{each-later, each-passed, each-still}
 use Rattle.segment_counts.specs.Segment.{LOOK-WORDS, segment_refusal, look_short, charge_refusal, look_refusal}
 use Rattle.segment_counts.specs.Kinds.{counts_refusal}
 use Rattle.segment_counts.proofs.Accepted.{charge-accepted, look-accepted}
+use Rattle.std.specs.Prelude.{Result, Err, ⊤}
 
 module _ (nr floor room needed : ℕ) (ops counters : List ℕ) where
   -- the checks that another function makes
@@ -33,7 +32,7 @@ module _ (nr floor room needed : ℕ) (ops counters : List ℕ) where
   abbrev Right : Type 0
   Right = (1 ≤ nr) × (nr ≤ MAX-ROUNDS) × PowerFloor floor
 
-  pub parameters-refused : {a : Answer} {q : Refusal} → a ≡ answer_of (not_rounds nr (not_floor floor accepted)) → a ≡ Refused q → counts_refusal nr floor room needed ops counters ≡ some q
+  pub parameters-refused : {a : Result ⊤ Refusal} {q : Refusal} → a ≡ answer_of (not_rounds nr (not_floor floor accepted)) → a ≡ Err q → counts_refusal nr floor room needed ops counters ≡ some q
   unfolding counts_refusal
   parameters-refused told e = both-stop nr floor told _ e
 

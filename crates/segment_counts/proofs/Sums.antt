@@ -24,7 +24,7 @@ use Rattle.keccak.specs.Height.{doubled, next-power-of-two, height}
 use Rattle.keccak.specs.Row.{core_row, core_pad, core_row_at}
 use Rattle.keccak.specs.Tuples.{core_tuple}
 use Rattle.keccak.specs.declared.KeccakOperation.{KeccakOperation}
-use Rattle.keccak.proofs.Height.{height-ge, height-below}
+use Rattle.keccak.proofs.Height.{height-ge, height-found}
 use Rattle.keccak.proofs.Cells as core
 use Rattle.keccak.proofs.Table.{core-row-op, core-row-pad}
 use Rattle.keccak_rnd.specs.Columns.{MU}
@@ -178,7 +178,7 @@ empty-none nr floor op c = refl
 -- the height of no rows
 pub no_rows : (floor : ℕ) → PowerFloor floor → height floor 0 ≡ floor
 unfolding next-power-of-two doubled
-no_rows floor h = sym (height-below 0 refl (omega (arith, floor-least floor h)))
+no_rows floor h = sym (height-found {h = floor} {w = 1} floor 0 (omega (arith, floor-least floor h)) refl)
 
 pub empty-shipped : (nr floor : ℕ) → nr ≤ 24 → PowerFloor floor → (op : ℕ → KeccakOperation) (k : ℕ) → k < 10
     → charged_kind (segment_charged nr floor true 0 op) k ≡ pick (eqb k 3) (220 * floor) 0

@@ -16,8 +16,6 @@ use borrow.Fn.Kinds.{Dens, ended_of}
 use Rattle.lists.specs.Tab.{word}
 use Rattle.field.specs.Field.{p}
 use Rattle.answer.specs.Refusal.{accepted, answer_of}
-use Rattle.answer.specs.declared.Answer.{Answer}
-use Rattle.answer.specs.declared.Answer.TheVariants.{Done}
 use Rattle.answer.specs.declared.Refusal.{Refusal}
 use Rattle.answer.proofs.Laws.{is-done, kept}
 use Rattle.answer.proofs.Overwrite.{left}
@@ -27,8 +25,9 @@ use Rattle.bitwise.proofs.Charged.{charged-at, charged-past}
 use Rattle.segment_counts.specs.Segment.{list_charged, charge_refusal, charge_after}
 use Rattle.segment_counts.proofs.charge.Kinds as kinds
 use Rattle.segment_counts.proofs.charge.Reads as reads
+use Rattle.std.specs.Prelude.{Result, Ok, ⊤}
 
-pub record Charged (nr floor : ℕ) (shipped : Bool) (ops before after : List ℕ) (answer : Answer) : Type 0 where
+pub record Charged (nr floor : ℕ) (shipped : Bool) (ops before after : List ℕ) (answer : Result ⊤ Refusal) : Type 0 where
   pub lifetimes : Lfts 2
   pub lent : Dens lifetimes kinds.ps
   pub ended : AtExit (ended_of 2 kinds.ps kinds.r) lifetimes
@@ -40,7 +39,7 @@ pub record Charged (nr floor : ℕ) (shipped : Bool) (ops before after : List �
   pub after_is : ended.1.1.1.1.0.now ≡ after
   pub says : reads.Learnt lifetimes lent answer ended
 
-module _ {nr floor : ℕ} {shipped : Bool} {ops before after : List ℕ} {answer : Answer} (c : Charged nr floor shipped ops before after answer) where
+module _ {nr floor : ℕ} {shipped : Bool} {ops before after : List ℕ} {answer : Result ⊤ Refusal} (c : Charged nr floor shipped ops before after answer) where
   pub charge-told : answer ≡ answer_of (charge_refusal nr floor ops before)
   charge-told = c.says.0 ∙ λ t. answer_of (charge_refusal (c.rounds-are t) (c.floor-is t) (c.ops-are t) (c.before-is t))
 
@@ -50,7 +49,7 @@ module _ {nr floor : ℕ} {shipped : Bool} {ops before after : List ℕ} {answer
   pub charge-kept : {r : Refusal} → charge_refusal nr floor ops before ≡ some r → after ≡ before
   charge-kept e = charge-left ∙ sym (kept (charged_counters before (list_charged nr floor shipped ops)) before e)
 
-  module _ (done : answer ≡ Done) where
+  module _ (done : answer ≡ Ok tt) where
     pub charge-done : charge_refusal nr floor ops before ≡ accepted
     charge-done = is-done _ (sym done ∙ charge-told)
 

@@ -14,7 +14,7 @@ ghost use Rattle.segment_counts.specs.Sums.{kind_sum};
 ghost use Rattle.segment_counts.specs.Kinds.{larger, look_word};
 
 use super::checks::{LOOK_WORDS, Room, check_counts, first_short};
-use answer::Answer;
+use answer::Refusal;
 use bitwise::{NUM_COUNTERS, NUM_LOOKUP_TYPES, NUM_ROWS};
 use keccak::OP_WORDS;
 use lists::put_words;
@@ -56,10 +56,8 @@ fn raise(most: &mut [u64], counters: &[u64], at: usize)
     requires { (10 ≤ length most.old) × (at + 10 ≤ length counters.now) }
     ensures { most.new ≡ sets most.old 0 (tab 10 (λ k. larger (word most.old k) (word counters.now (at + k)))) }
 {
-    let mut k: usize = 0;
-    while k < NUM_LOOKUP_TYPES {
+    for k in 0..NUM_LOOKUP_TYPES {
         most[k] = larger_of(most[k], counters[at + k]);
-        k += 1;
     }
 }
 
@@ -69,10 +67,8 @@ fn largest_counters(counters: &[u64]) -> [u64; 10]
     ensures { result ≡ tab 10 (largest counters.now) }
 {
     let mut most = [0u64; 10];
-    let mut r: usize = 0;
-    while r < NUM_ROWS {
+    for r in 0..NUM_ROWS {
         raise(&mut most, counters, r * NUM_LOOKUP_TYPES);
-        r += 1;
     }
     most
 }
@@ -93,10 +89,8 @@ fn put_look(sums: [u64; 10], most: [u64; 10], out: &mut [u64])
     requires { LOOK-WORDS ≤ length out.old }
     ensures { out.new ≡ sets out.old 0 (tab LOOK-WORDS (look_word sums most)) }
 {
-    let mut j: usize = 0;
-    while j < LOOK_WORDS {
+    for j in 0..LOOK_WORDS {
         out[j] = look_word(sums, most, j);
-        j += 1;
     }
 }
 
@@ -130,15 +124,13 @@ pub fn look(
     counters: &[u64],
     copy: &mut [u64],
     out: &mut [u64],
-) -> Answer
+) -> Result<(), Refusal>
     ensures answer { result ≡ answer_of (look_refusal nr floor ops.now counters.now (length copy.old) (length out.old)) }
     ensures copied { copy.new ≡ look_copy_after nr floor shipped ops.now counters.now copy.old (length out.old) }
     ensures words { out.new ≡ look_out_after nr floor shipped ops.now counters.now (length copy.old) out.old }
 {
     let Room { room, needed } = first_short(counters.len(), copy.len(), out.len(), LOOK_WORDS);
-    if let Answer::Refused(refusal) = check_counts(nr, floor, ops, counters, room, needed) {
-        return Answer::Refused(refusal);
-    }
+    check_counts(nr, floor, ops, counters, room, needed)?;
     fill_look(
         nr as usize,
         floor as usize,
@@ -148,5 +140,5 @@ pub fn look(
         copy,
         out,
     );
-    Answer::Done
+    Ok(())
 }

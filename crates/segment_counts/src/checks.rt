@@ -7,11 +7,10 @@ ghost use Rattle.bitwise.specs.Columns.{NUM-COUNTERS};
 ghost use Rattle.segment_counts.specs.Segment.{look_short};
 ghost use Rattle.segment_counts.specs.Kinds.{counts_refusal};
 
-use answer::{Answer, MAX_OPS, Refusal, check_rounds_and_floor};
+use answer::{MAX_OPS, Refusal, check_rounds_and_floor};
 use bitwise::NUM_COUNTERS;
 use field::elements::first_not_element;
 use keccak::OP_WORDS;
-use lists::Place;
 use operations::check_operations;
 
 // The words of a look's answer.
@@ -54,21 +53,17 @@ pub fn check_counts(
     counters: &[u64],
     room: usize,
     needed: usize,
-) -> Answer
+) -> Result<(), Refusal>
     requires { needed ≤ room → NUM-COUNTERS ≤ length counters.now }
     ensures { result ≡ answer_of (counts_refusal nr floor room needed ops.now counters.now) }
 {
-    if let Answer::Refused(refusal) = check_rounds_and_floor(nr, floor) {
-        return Answer::Refused(refusal);
-    }
+    check_rounds_and_floor(nr, floor)?;
     if (ops.len() / OP_WORDS) as u64 > MAX_OPS {
-        return Answer::Refused(Refusal::PastEnd(MAX_OPS + 1));
+        return Err(Refusal::PastEnd(MAX_OPS + 1));
     }
-    if let Answer::Refused(refusal) = check_operations(ops, room, needed) {
-        return Answer::Refused(refusal);
+    check_operations(ops, room, needed)?;
+    if let Some(c) = first_not_element(counters, NUM_COUNTERS) {
+        return Err(Refusal::NotElement(c as u64));
     }
-    if let Place::At(c) = first_not_element(counters, NUM_COUNTERS) {
-        return Answer::Refused(Refusal::NotElement(c as u64));
-    }
-    Answer::Done
+    Ok(())
 }

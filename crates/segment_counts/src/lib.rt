@@ -12,7 +12,7 @@ ghost use Rattle.keccak.specs.Refusals.{op_count, address_at};
 ghost use Rattle.keccak_rnd.specs.Row.{round_height};
 ghost use Rattle.segment_counts.specs.Segment.{sent_rows, list_charged, charge_refusal, charge_after};
 
-use answer::Answer;
+use answer::Refusal;
 use bitwise::{ARE_BYTES, NUM_COUNTERS};
 use bitwise_counts::charge_word;
 use keccak::OP_WORDS;
@@ -52,20 +52,17 @@ pub fn charge_segment(nr: usize, floor: usize, shipped: bool, ops: &[u64], count
 }
 
 // Charge the lookups of a segment of nr rounds, with tables of `floor` rows or more, to the counters.
-pub fn charge(nr: u64, floor: u64, shipped: bool, ops: &[u64], counters: &mut [u64]) -> Answer
+pub fn charge(
+    nr: u64,
+    floor: u64,
+    shipped: bool,
+    ops: &[u64],
+    counters: &mut [u64],
+) -> Result<(), Refusal>
     ensures answer { result ≡ answer_of (charge_refusal nr floor ops.now counters.old) }
     ensures words { counters.new ≡ charge_after nr floor shipped ops.now counters.old }
 {
-    if let Answer::Refused(refusal) = checks::check_counts(
-        nr,
-        floor,
-        ops,
-        counters,
-        counters.len(),
-        NUM_COUNTERS,
-    ) {
-        return Answer::Refused(refusal);
-    }
+    checks::check_counts(nr, floor, ops, counters, counters.len(), NUM_COUNTERS)?;
     charge_segment(nr as usize, floor as usize, shipped, ops, counters);
-    Answer::Done
+    Ok(())
 }

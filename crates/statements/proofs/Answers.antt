@@ -10,26 +10,24 @@ use Rattle.fips202.specs.Lanes.{Lanes, bits}
 use Rattle.answer.specs.Limits.{MAX-ROUNDS}
 use Rattle.answer.specs.Refusal.{accepted, refusal_number}
 use Rattle.answer.specs.declared.Refusal.{Refusal}
-use Rattle.answer.specs.declared.Answer.{Answer}
-use Rattle.answer.specs.declared.Answer.TheVariants.{Done}
 use Rattle.verdict.specs.Verdict.{verdict_words}
 use Rattle.verdict.specs.declared.Verdict.{Verdict}
 use Rattle.verdict.specs.declared.Verdict.TheVariants as verdict
 use Rattle.same_operations.specs.declared.Agreement.{Agreement}
 use Rattle.same_operations.specs.declared.Agreement.TheVariants as agreement
-use Rattle.message.specs.declared.Judgement.{Judgement}
-use Rattle.message.specs.declared.Judgement.TheVariants as judgement
+use mathlib.Core.Bool.{Bool, true}
 use Rattle.flat.specs.Flat.{flat_answer}
 use Rattle.flat.specs.FlatJudged.{flat_verdict, flat_agreement, flat_reply}
 use Rattle.flat.proofs.Told.{refusal-counts, answer-done, verdict-holds, verdict-kind, agreement-same, agreement-kind, reply-yes, failure-words}
 use Rattle.keccak_f.specs.KeccakF.{LANES, state_refusal, state_after}
 use Rattle.keccak_f.proofs.Permuted.{state-accepted, state-permuted}
+use Rattle.std.specs.Prelude.{Result, Ok, ⊤, Err}
 
 -- `refusal` is 0 exactly where a call is not refused: no refusal has the number 0
 pub no-refusal-0 : (r : Refusal) → refusal_number r ≡ 0 → ⊥
 no-refusal-0 = refusal-counts
 
-pub done-exactly : (a : Answer) → ((flat_answer a).done ≡ 1) ↔ (a ≡ Done)
+pub done-exactly : (a : Result ⊤ Refusal) → ((flat_answer a).done ≡ 1) ↔ (a ≡ Ok tt)
 done-exactly = answer-done
 
 -- "The verdict is 'holds' with the active core count, or the first failure": `holds` is 1 exactly where it is, a kind is 0 exactly where
@@ -45,14 +43,14 @@ pub failure-as-reported : (v : Verdict) → (flat_verdict v).refusal ≡ 0 → (
 failure-as-reported = failure-words
 
 -- "Say 'same' exactly when the active core rows .. are the file's operations"
-pub same-exactly : (a : Agreement) → ((flat_agreement a).same ≡ 1) ↔ (a ≡ agreement.Same)
+pub same-exactly : (a : Result Agreement Refusal) → ((flat_agreement a).same ≡ 1) ↔ (a ≡ Ok agreement.Same)
 same-exactly = agreement-same
 
-pub kind-of-an-agreement : (a : Agreement) → ((flat_agreement a).kind ≡ 0) ↔ ((r : Refusal) × (a ≡ agreement.Refused r))
+pub kind-of-an-agreement : (a : Result Agreement Refusal) → ((flat_agreement a).kind ≡ 0) ↔ ((r : Refusal) × (a ≡ Err r))
 kind-of-an-agreement = agreement-kind
 
 -- "yes exactly when it is that list for its own first address and timestamp"
-pub yes-exactly : (a : Judgement) → ((flat_reply a).yes ≡ 1) ↔ (a ≡ judgement.Yes)
+pub yes-exactly : (a : Result Bool Refusal) → ((flat_reply a).yes ≡ 1) ↔ (a ≡ Ok true)
 yes-exactly = reply-yes
 
 -- "Keccak-p[1600, nr] of FIPS 202": accepted exactly with 1 to 24 rounds and 25 words, and then the lanes are permuted, bit by bit

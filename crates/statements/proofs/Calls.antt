@@ -14,8 +14,6 @@ use lib.ListN.{length, take}
 use Rattle.lists.specs.Tab.{word}
 use Rattle.field.specs.Field.{p}
 use Rattle.answer.specs.Refusal.{answer_of, accepted, PowerFloor}
-use Rattle.answer.specs.declared.Answer.{Answer}
-use Rattle.answer.specs.declared.Answer.TheVariants.{Done}
 use Rattle.answer.specs.declared.Refusal.{Refusal}
 use Rattle.tuple.specs.declared.Bus.{Bus}
 use Rattle.tuple.specs.declared.Side.TheVariants.{Sender}
@@ -51,6 +49,7 @@ use Rattle.job.specs.Within.{job_within_refusal, job_within_after, job_scratch_a
 use Rattle.job.proofs.TiedWithin.{CalledWithin, within-told, report-after, scratch-holds, spare-holds}
 use Rattle.statements.proofs.Statements.{code-sums, code-sums-hold}
 use Rattle.statements.proofs.Segments.{empty-segment-passes}
+use Rattle.std.specs.Prelude.{Result, Ok, ⊤}
 
 -- ---- `verdict_within`
 module _ {nr : ℕ} {core round scratch scratch' spare spare' : List ℕ} {v : Verdict} (call : AnsweredWithin nr core round scratch scratch' spare spare' v) where
@@ -118,7 +117,7 @@ code-within-one-way-of-any a b room more_Room n e = answered-refilled (within.ho
 
 -- ---- `job_within`: every answer, refusals included, and the three slices when it ends. Of a call that is not refused `job-within-reports` says that
 -- its report is one of `job`, so all that is said of that report
-pub code-job-within : {nr : ℕ} {core round counts before after scratch scratch' spare spare' : List ℕ} {answer : Answer} →
+pub code-job-within : {nr : ℕ} {core round counts before after scratch scratch' spare spare' : List ℕ} {answer : Result ⊤ Refusal} →
     CalledWithin nr core round counts before after scratch scratch' spare spare' answer →
     (answer ≡ answer_of (job_within_refusal nr core round counts (length before) (length scratch) (length spare)))
     × (after ≡ job_within_after nr core round counts (length scratch) (length spare) before)
@@ -127,7 +126,7 @@ pub code-job-within : {nr : ℕ} {core round counts before after scratch scratch
 code-job-within call = (within-told call, report-after call, scratch-holds call, spare-holds call)
 
 -- ---- `charge`
-module _ {nr floor : ℕ} {shipped : Bool} {ops before after : List ℕ} {answer : Answer} (call : Charged nr floor shipped ops before after answer) where
+module _ {nr floor : ℕ} {shipped : Bool} {ops before after : List ℕ} {answer : Result ⊤ Refusal} (call : Charged nr floor shipped ops before after answer) where
   -- every answer, refusals included, and the counters when it ends; after a refusal they hold their old words
   pub code-charge : (answer ≡ answer_of (charge_refusal nr floor ops before)) × (after ≡ charge_after nr floor shipped ops before)
   code-charge = (charge-told call, charge-left call)
@@ -135,7 +134,7 @@ module _ {nr floor : ℕ} {shipped : Bool} {ops before after : List ℕ} {answer
   pub code-charge-kept : {r : Refusal} → charge_refusal nr floor ops before ≡ some r → after ≡ before
   code-charge-kept = charge-kept call
 
-  module _ (done : answer ≡ Done) where
+  module _ (done : answer ≡ Ok tt) where
     -- "all that its core and round rows send, padding rows included, each on the bitwise row of its operands": the counter of given values has
     -- grown, mod p, by how often both tables as they are written send them, of a list of words as they are lent ..
     pub code-charge-sent : ((k : ℕ) → word ops k < 2 ^ 64) → (op_count ops ≡ 0 → shipped ≡ true) → (b : Bus) (v : List ℕ) → found b v ≡ true →
@@ -153,7 +152,7 @@ module _ {nr floor : ℕ} {shipped : Bool} {ops before after : List ℕ} {answer
 -- of a call in shipped mode with an empty list, from zero: what it leaves is what the empty segment's sums want (`empty-segment-passes`)
 pub code-charge-empty : (nr floor : ℕ) (T U : List ℕ) → core_trace_refusal floor (length T) [] ≡ accepted → round_trace_refusal nr floor (length U) [] ≡ accepted →
     (K : List ℕ) → constants.rc_trace_refusal K ≡ accepted → constants.update_refusal nr (constants.rc_trace_after K) 0 ≡ accepted →
-    (Z after B : List ℕ) → ((c : ℕ) → c < NUM-COUNTERS → word Z c ≡ 0) → Charged nr floor true [] Z after Done → fill_refusal after B ≡ accepted →
+    (Z after B : List ℕ) → ((c : ℕ) → c < NUM-COUNTERS → word Z c ≡ 0) → Charged nr floor true [] Z after (Ok tt) → fill_refusal after B ≡ accepted →
     SumsHold nr (take (height floor 0 * 486) (core_trace_after floor [] T)) (take (round_height nr floor 0 * 1480) (round_trace_after nr floor [] U))
     (record { bitwise = λ i k. word (fill_after after B) (i * 21 + (11 + k)); constants = λ r. 0; is-wh = [] }) nobody
 code-charge-empty nr floor T U wrote-core wrote-round K wrote-constants set-constants Z after B zeros call fills =

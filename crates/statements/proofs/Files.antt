@@ -24,13 +24,13 @@ use Rattle.verdict.specs.Kind.{Whole, Elements, rows, row, Active}
 use Rattle.verdict.specs.CoreAndRound.{core_layout}
 use Rattle.verdict.specs.Failures.{FirstNotElement}
 use Rattle.op_file.specs.File.{records_of, first_fault, tally_of}
-use Rattle.op_file.specs.declared.Tally.TheVariants as tally
 use Rattle.partners.specs.Partners.{unpartnered, left}
 use Rattle.same_operations.specs.Same.{Matches, file_run, core_run, same_refusal, same_for}
-use Rattle.same_operations.specs.declared.Agreement.TheVariants.{Same, Record, Row, Refused}
+use Rattle.same_operations.specs.declared.Agreement.TheVariants.{Same, Record, Row}
 use Rattle.same_operations.proofs.Same.{record_at, InFile}
 use Rattle.same_operations.proofs.Refusals as refusals
 use Rattle.same_operations.proofs.Answered.{answers-same, answers-record, answers-row, answers-refused}
+use Rattle.std.specs.Prelude.{Err, Ok}
 
 -- Item 4: "Refused: 7 .. after 4 and before 5": the calls that can tell both charge a list to counters. Where the list is refused by 7 (when
 -- that is: `first-unaligned`, `after-4`) they are, whatever the counters and the ledgers hold
@@ -54,7 +54,7 @@ module _ (nr floor : ℕ) (ops counters : List ℕ) (right : (1 ≤ nr) × (nr �
 -- "Say 'same' exactly when the active core rows, as timestamp, address, INPUT and OUTPUT, are the file's operations in some order, repeats
 -- counted."
 module _ (core file : List ℕ) where
-  pub same_answer : ((k : ℕ) → word file k < 256) → (same_for core file ≡ Same)
+  pub same_answer : ((k : ℕ) → word file k < 256) → (same_for core file ≡ Ok Same)
       ↔ ((same_refusal core file ≡ accepted) × OneToOne (InFile file) (Active core_layout core) (λ i r. Matches (record_at file i) (row core_layout core r)))
   same_answer = answers-same core file
 
@@ -63,7 +63,7 @@ module _ (core file : List ℕ) where
   abbrev alone : ℕ → Bool
   alone = unpartnered (file_run file) (core_run core)
 
-  pub record-answer : (i : ℕ) → (same_for core file ≡ Record i)
+  pub record-answer : (i : ℕ) → (same_for core file ≡ Ok (Record i))
       ↔ ((same_refusal core file ≡ accepted) × FirstAt (λ k. alone k ≡ true) (λ k. alone k ≡ false) (length (records_of file)) i)
   record-answer = answers-record core file
 
@@ -71,12 +71,12 @@ module _ (core file : List ℕ) where
   abbrev unused : ℕ → Bool
   unused = left (file_run file) (core_run core)
 
-  pub row-answer : (r : ℕ) → (same_for core file ≡ Row r)
+  pub row-answer : (r : ℕ) → (same_for core file ≡ Ok (Row r))
       ↔ ((same_refusal core file ≡ accepted) × ((i : ℕ) → InFile file i → alone i ≡ false)
       × FirstAt (λ k. unused k ≡ true) (λ k. unused k ≡ false) (rows core_layout core) r)
   row-answer = answers-row core file
 
-  pub refused-answer : (r : Refusal) → (same_for core file ≡ Refused r) ↔ (same_refusal core file ≡ some r)
+  pub refused-answer : (r : Refusal) → (same_for core file ≡ Err r) ↔ (same_refusal core file ≡ some r)
   refused-answer = answers-refused core file
 
   -- "The table is refused first, by 2 or 5, then the file as `tally` refuses it, never by 7." (`same-not-7`): accepted exactly where none of it
@@ -94,5 +94,5 @@ module _ (core file : List ℕ) where
 
     -- .. and where the table passes by what `tally` refuses the file by, in either mode and for every floor that it accepts
     pub same-as-tally : Elements core → (floor : ℕ) → PowerFloor floor → (shipped : Bool) (syscall : ℕ) (r : Refusal) →
-        (same_refusal core file ≡ some r) ↔ (tally_of floor shipped syscall file ≡ tally.Refused r)
+        (same_refusal core file ≡ some r) ↔ (tally_of floor shipped syscall file ≡ Err r)
     same-as-tally = refusals.as-tally core file whole

@@ -12,7 +12,6 @@ use Rattle.lists.specs.Tab.{word}
 use Rattle.answer.specs.Refusal.{accepted}
 use Rattle.answer.specs.declared.Refusal.{Refusal}
 use Rattle.answer.specs.declared.Refusal.TheVariants.{TooShort}
-use Rattle.answer.specs.declared.Number.TheVariants.{Is}
 use Rattle.text.specs.Text.{decimal_of, number_in}
 use Rattle.text.proofs.Numbers.{decimal-zero, decimal-front, decimal-back}
 use Rattle.verdict.specs.CoreAndRound.{verdict_for}
@@ -28,6 +27,7 @@ use Rattle.verdict_line.proofs.Most.{line-most}
 use Rattle.verdict_line.proofs.Refusals.{line-accepted, line_refused, line-short}
 use Rattle.verdict_line.proofs.Tied.{Lined, some-lined, some-line, lines-written}
 use Rattle.verdict_line.proofs.LentLine.{lines_same, line-lent-accepted, line-lent-says, line-lent-left, slice_kept, bytes-kept}
+use Rattle.std.specs.Prelude.{Ok}
 
 -- "Two lines are equal exactly when the verdicts and the shown tuples are equal."
 pub equal-lines : (nr nr' : ℕ) (core round core' round' : List ℕ) → Judged (verdict_for nr core round) → Judged (verdict_for nr' core' round') →
@@ -37,7 +37,7 @@ equal-lines = lines-tell
 
 -- and so it is of the bytes that two calls leave, each of which answered a length
 pub equal-lines-written : {nr nr' : ℕ} {core round before after core' round' before' after' : List ℕ} {n m : ℕ} →
-    Lined nr core round before after (Is n) → Lined nr' core' round' before' after' (Is m) →
+    Lined nr core round before after (Ok n) → Lined nr' core' round' before' after' (Ok m) →
     (take n after ≡ take m after')
     ↔ ((verdict_for nr core round ≡ verdict_for nr' core' round') × (shown_at nr core round ≡ shown_at nr' core' round'))
 equal-lines-written = lines-written
@@ -47,7 +47,7 @@ pub line-left-by-a-call : (nr : ℕ) (core round before : List ℕ) → Lined nr
 line-left-by-a-call = some-lined
 
 pub line-left-accepted : (nr : ℕ) (core round before : List ℕ) → line_refusal nr core round (length before) ≡ accepted →
-    Lined nr core round before (line_after nr core round before) (Is (length (line_at nr core round)))
+    Lined nr core round before (line_after nr core round before) (Ok (length (line_at nr core round)))
 line-left-accepted = some-line
 
 -- "decimals without leading zeros": 0 is one digit, any other number begins with one of 1 to 9, and is read back from its digits

@@ -16,7 +16,7 @@ use Rattle.keccak.specs.Row.{OP-WORDS, LAST-ADDRESS}
 use Rattle.keccak.specs.Refusals.{op_count, address_at}
 use Rattle.keccak.proofs.Refusals as list
 use Rattle.message.specs.Message.{message_list, last_digest, message_refusal, judged_refusal, is_message, judged_of}
-use Rattle.message.specs.declared.Judgement.TheVariants as judgement
+use Rattle.std.specs.Prelude.{Err}
 use Rattle.message.proofs.Refusals as refusals
 use Rattle.message.proofs.Tied.{Hashed, hashed-digest, hashed-bits, some-hashed}
 
@@ -35,7 +35,7 @@ module _ (room : ℕ) (m : List ℕ) (address timestamp : ℕ) (few : length m �
 
 -- of `judge_message`: what its checks refuse, it answers
 module _ (m ops : List ℕ) where
-  pub judged-refused : {r : Refusal} → judged_refusal m ops ≡ some r → judged_of (judged_refusal m ops) (is_message m ops) ≡ judgement.Refused r
+  pub judged-refused : {r : Refusal} → judged_refusal m ops ≡ some r → judged_of (judged_refusal m ops) (is_message m ops) ≡ Err r
   unfolding judged_of
   judged-refused e = ap (λ o. judged_of o (is_message m ops)) e
 

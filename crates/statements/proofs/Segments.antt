@@ -57,7 +57,7 @@ use Rattle.op_list.specs.Files.{bytes_for, write_refusal, write_after}
 use Rattle.op_list.proofs.RoundTrip.{list_left}
 use Rattle.op_file.specs.File.{file_words}
 use Rattle.message.specs.Message.{judged_refusal, is_message, judged_of, message_list}
-use Rattle.message.specs.declared.Judgement.TheVariants as judgement
+use Rattle.std.specs.Prelude.{Ok}
 use Rattle.message.proofs.Judging.{judge-yes}
 use Rattle.verdict.specs.Kind.{rows}
 use Rattle.verdict.specs.CoreAndRound.{core_kind, round_kind, verdict_at}
@@ -241,8 +241,8 @@ module _ (a b : List ℕ) (but : ButSegments a b) where
   files-hold-segments out out' lent-a lent-b wrote-a wrote-b e = sym (list_left a out lent-a wrote-a) ∙ ap file_words e ∙ list_left b out' lent-b wrote-b
 
   -- .. and `judge_message`, whose operations are all of segment 0, says yes to one of two such lists at most
-  pub judge-reads-segments : (m : List ℕ) → judged_of (judged_refusal m a) (is_message m a) ≡ judgement.Yes →
-      judged_of (judged_refusal m b) (is_message m b) ≡ judgement.Yes → a ≡ b
+  pub judge-reads-segments : (m : List ℕ) → judged_of (judged_refusal m a) (is_message m a) ≡ Ok true →
+      judged_of (judged_refusal m b) (is_message m b) ≡ Ok true → a ≡ b
   judge-reads-segments m yes-a yes-b =
       ((judge-yes m a).0 yes-a).1.list
       ∙ ap₂ (message_list m) (core-free.free a b but (λ n op. (op 0).state_addr) (λ n op. refl)) (core-free.free a b but (λ n op. (op 0).timestamp) (λ n op. refl))

@@ -120,13 +120,10 @@ use Rattle.bus_sums_needs.proofs.ForgedSegment.{twenty-needed}
 use Rattle.op_file.specs.File.{is_mark, is_marked, size_of, is_whole, segment_of, record_word, address_of, fault_of, start_at, first_fault, records_of, file_words}
 use Rattle.op_file.specs.File.{is_aligned, is_unaligned, aligned_of, unaligned_of, records_words}
 use Rattle.op_file.specs.File.{none_told, segments_of, bus_total, sums_of, unless, tally_of}
-use Rattle.op_file.specs.Reader.{record_count, step_of, file_start, feed_of, counts_of, finish_of}
+use Rattle.op_file.specs.Reader.{record_count, reading, step_of, file_start, feed_of, counts_of, finish_of}
 use Rattle.op_file.specs.declared.Segments.{Segments}
 use Rattle.op_file.specs.declared.Whole.{Whole as WholeRecords}
-use Rattle.op_file.specs.declared.Cursor.TheVariants as cursor
-use Rattle.op_file.specs.declared.Cursor.TheVariants.{Reading}
 use Rattle.op_file.specs.declared.Sums.{Sums}
-use Rattle.op_file.specs.declared.Tally.TheVariants.{Counted, Refused}
 use Rattle.op_file.proofs.Cases as file
 use Rattle.op_file.proofs.Counted.{counted-accepted, file-word}
 use Rattle.op_file.proofs.SegmentNumbers.{SomeMarked, Told, segments-told, segments-none}
@@ -251,11 +248,11 @@ use Rattle.sha3.specs.Sha3.{blocks, sha3-256}
 use Rattle.sha3.specs.Sponge.{sha3-256-bits, bits_of, OnlyBytes}
 use Rattle.sha3.proofs.Sponge.{sha3-bits, bits-known}
 use Rattle.message.specs.Message.{message_list, Chained, last_digest, Hashable, message_refusal, message_after, judged_refusal, IsMessage, is_message, judged_of}
-use Rattle.message.specs.declared.Judgement.TheVariants as judgement
 use Rattle.message.proofs.Refusals as message-refusals
 use Rattle.message.proofs.Judging.{judge-yes, judge-no, judge-says, empty-no}
 use Rattle.message.proofs.Digest as message-list
 use Rattle.message_verdict.proofs.Chain.{left-digest, message-holds}
+use Rattle.std.specs.Prelude.{Ok, Err}
 
 -- ---- demand 3: "Suppose a core table, whoever filled it, passes its constraints and lookups .."
 -- (verdict/specs/Claims.antt)
@@ -547,7 +544,7 @@ empty-sums rows bytes =
       unaligned = 0;
     }
 
-pub case-empty : (syscall : ℕ) → tally_of 4 false syscall [] ≡ Counted (empty-sums 4 0)
+pub case-empty : (syscall : ℕ) → tally_of 4 false syscall [] ≡ Ok (empty-sums 4 0)
 case-empty = file.empty-file 4 file.four
 
 -- "Two core rows share a timestamp, outputs exchanged, otherwise honest: the verdict names the timestamp.": a row that
@@ -612,7 +609,7 @@ pub modes-agree-on : (floor syscall : ℕ) (file : List ℕ) → 1 ≤ length (a
 modes-agree-on = file.modes-agree-on
 
 -- "an empty file's AreBytes is 880 in place of 0": its ten numbers are 0, 4, 4, 0, 880, 0, 0, 0, 0, 0
-pub case-empty-shipped : (syscall : ℕ) → tally_of 4 true syscall [] ≡ Counted (empty-sums 4 880)
+pub case-empty-shipped : (syscall : ℕ) → tally_of 4 true syscall [] ≡ Ok (empty-sums 4 880)
 case-empty-shipped = file.empty-shipped 4 file.four
 
 -- "`padding_are_bytes` keeps the Rust's 0"
@@ -768,7 +765,7 @@ pub counted-taken : (file : List ℕ) → ((k : ℕ) → word file k < 256) → 
 counted-taken = counted-accepted
 
 -- "`tally` never gives it." A high address is refused by 4 all the same
-pub tally-never-7 : (floor : ℕ) (shipped : Bool) (syscall : ℕ) (file : List ℕ) (a : ℕ) → tally_of floor shipped syscall file ≡ Refused (Unaligned a) → ⊥
+pub tally-never-7 : (floor : ℕ) (shipped : Bool) (syscall : ℕ) (file : List ℕ) (a : ℕ) → tally_of floor shipped syscall file ≡ Err (Unaligned a) → ⊥
 tally-never-7 = file.never-7
 
 pub tally-high : (i at : ℕ) (r : List ℕ) → i < MAX-OPS → is_whole r ≡ true → LAST-ADDRESS < address_of r →
@@ -899,12 +896,12 @@ pub tally-floor : (floor : ℕ) (shipped : Bool) → PowerFloor floor → (sysca
 tally-floor = file.floor-counts
 
 pub tally-other-floor : (floor : ℕ) (shipped : Bool) → (PowerFloor floor → ⊥) → (syscall : ℕ) (file : List ℕ) →
-    tally_of floor shipped syscall file ≡ Refused (Floor floor)
+    tally_of floor shipped syscall file ≡ Err (Floor floor)
 tally-other-floor = file.other-floor
 
 -- "The 880 of shipped mode becomes 220 times the floor."
 pub empty-of-floor : (floor : ℕ) → PowerFloor floor → (syscall : ℕ) →
-    (tally_of floor true syscall [] ≡ Counted (empty-sums floor (220 * floor))) × (tally_of floor false syscall [] ≡ Counted (empty-sums floor 0))
+    (tally_of floor true syscall [] ≡ Ok (empty-sums floor (220 * floor))) × (tally_of floor false syscall [] ≡ Ok (empty-sums floor 0))
 empty-of-floor floor h syscall = (file.empty-shipped floor h syscall, file.empty-file floor h syscall)
 
 -- "With floor 4 all words are as before": the floor is accepted, and the tables are those of the cases above
@@ -1316,7 +1313,7 @@ pub bad-record-starts : (file : List ℕ) (d : ℕ) → first_fault 0 0 (records
 bad-record-starts = bad-start
 
 pub mark-at-once : (w : WholeRecords) → record_count w < MAX-OPS → (m a t b : ℕ) → is_mark b ≡ false →
-    step_of (Reading w (begun 1 m a t)) b ≡ cursor.Refused (BadRecord w.start)
+    step_of (Ok (reading w (begun 1 m a t))) b ≡ Err (BadRecord w.start)
 mark-at-once = file.mark-refused
 
 -- "Where a counted record is marked 4B 50, `tally` prints `segments A B`, least and greatest of all counted records": both are segment numbers
@@ -1448,7 +1445,7 @@ module _ (m : List ℕ) (address timestamp : ℕ) where
     message-left = message-list.left-list m address timestamp ops passed
 
     pub message-left-yes :
-        judged_of (judged_refusal m (message_list m address timestamp)) (is_message m (message_list m address timestamp)) ≡ judgement.Yes
+        judged_of (judged_refusal m (message_list m address timestamp)) (is_message m (message_list m address timestamp)) ≡ Ok true
     message-left-yes = message-list.left-judged m address timestamp ops passed
 
     pub message-left-holds : OnlyBytes m → (floor : ℕ) →
@@ -1474,14 +1471,14 @@ cases-by-12-13 = (refl, refl)
 
 -- "judge a list of operations against a message: yes exactly when it is that list for its own first address and timestamp"
 module _ (m ops : List ℕ) where
-  pub judged-yes : (judged_of (judged_refusal m ops) (is_message m ops) ≡ judgement.Yes) ↔ ((judged_refusal m ops ≡ accepted) × IsMessage m ops)
+  pub judged-yes : (judged_of (judged_refusal m ops) (is_message m ops) ≡ Ok true) ↔ ((judged_refusal m ops ≡ accepted) × IsMessage m ops)
   judged-yes = judge-yes m ops
 
-  pub judged-no : (judged_of (judged_refusal m ops) (is_message m ops) ≡ judgement.No) ↔ ((judged_refusal m ops ≡ accepted) × (IsMessage m ops → ⊥))
+  pub judged-no : (judged_of (judged_refusal m ops) (is_message m ops) ≡ Ok false) ↔ ((judged_refusal m ops ≡ accepted) × (IsMessage m ops → ⊥))
   judged-no = judge-no m ops
 
   -- so a list that gets yes ends with the digest
-  pub judged-digest : OnlyBytes m → judged_of (judged_refusal m ops) (is_message m ops) ≡ judgement.Yes → bits_of (last_digest ops) ≡ sha3-256-bits (bits_of m)
+  pub judged-digest : OnlyBytes m → judged_of (judged_refusal m ops) (is_message m ops) ≡ Ok true → bits_of (last_digest ops) ≡ sha3-256-bits (bits_of m)
   judged-digest small told = message-list.judged-digest m ops small ((judge-yes m ops).0 told).1
 
   -- it is refused by 1 and 12, and then as every call that takes a list; "the judge says no in the second case", that of 13
@@ -1489,11 +1486,11 @@ module _ (m ops : List ℕ) where
   judged-as-lists = message-refusals.judged-rest m ops
 
   pub judged-late : judged_refusal m ops ≡ accepted → 2 ^ 64 ≤ (op_at ops 0).timestamp + length m / 136 →
-      judged_of (judged_refusal m ops) (is_message m ops) ≡ judgement.No
+      judged_of (judged_refusal m ops) (is_message m ops) ≡ Ok false
   judged-late passed late = (judge-no m ops).1 (passed, λ h. omega (arith, h.stamps))
 
 -- "an empty list gets no"
-pub judged-empty : (m : List ℕ) → length m ≤ 65536 → judged_of (judged_refusal m []) (is_message m []) ≡ judgement.No
+pub judged-empty : (m : List ℕ) → length m ≤ 65536 → judged_of (judged_refusal m []) (is_message m []) ≡ Ok false
 judged-empty m few =
     let passed : judged_refusal m [] ≡ accepted = message-refusals.judged-rest m [] (omega arith) few ∙ (none-refused 0 0 []).1
     (record { few = omega arith; whole = refl; long = omega arith; low = λ i l. absurd (omega arith); aligned = λ i l. absurd (omega arith); segments = λ i l. absurd (omega arith) }) in

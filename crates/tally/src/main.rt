@@ -2,15 +2,15 @@
 // `shipped` the tables of an empty file are shipped; a decimal is the floor of both tables' heights.
 #![tactic(auto)]
 
-ghost use Rattle.std.specs.Prelude.{ℕ, ◌<◌, ◌≤◌, true, false, ◌≡◌, List, length, take, None};
+ghost use Rattle.std.specs.Prelude.{ℕ, ◌<◌, ◌≤◌, true, false, ◌≡◌, List, length, take, None, is_err};
 ghost use Rattle.std.proofs.lemmas.List.Edits.{sets};
 ghost use Rattle.answer.specs.Refusal.{is_floor};
-ghost use Rattle.op_file.specs.Reader.{feed_of, file_start, is_refused, finish_of};
+ghost use Rattle.op_file.specs.Reader.{feed_of, file_start, finish_of};
 ghost use Rattle.tally_text.specs.Output.{text_of};
 ghost use Rattle.tally_arguments.specs.Arguments.{arguments_of};
 
-use answer::{Answer, check_floor};
-use op_file::Cursor;
+use answer::{Refusal, check_floor};
+use op_file::Reading;
 use std::env::FillError;
 use std::fmt::Display;
 use std::io;
@@ -58,13 +58,13 @@ fn read_arguments(rt: &impl Env) -> Arguments
 // Where the reader stands after a read, how many bytes came, and why the read failed, if it did.
 #[derive(Clone, Copy)]
 struct Turn {
-    cursor: Cursor,
+    cursor: Result<Reading, Refusal>,
     got: usize,
     failed: Option<io::Error>,
 }
 
 // Reads once, and feeds what came. What came is what the buffer then holds: no contract says what a file holds.
-fn read_some(input: &mut impl Read, c: Cursor, buf: &mut [u8]) -> Turn
+fn read_some(input: &mut impl Read, c: Result<Reading, Refusal>, buf: &mut [u8]) -> Turn
     ensures { (result.cursor ≡ feed_of c (take result.got buf.new)) × (result.got ≤ length buf.new) }
 {
     let (got, failed) = match input.read(buf) {
@@ -82,7 +82,7 @@ fn read_some(input: &mut impl Read, c: Cursor, buf: &mut [u8]) -> Turn
 // says that there are bytes which take the reader where it stands, not that they are those that came: that is in what each
 // read feeds.
 fn read_all(input: &mut impl Read) -> Turn
-    ensures { (file : List ℕ) × (result.cursor ≡ feed_of file_start file) × (0 < result.got → is_refused result.cursor ≡ true) }
+    ensures { (file : List ℕ) × (result.cursor ≡ feed_of file_start file) × (0 < result.got → is_err result.cursor ≡ true) }
 {
     let mut space = [0u8; 65536];
     let buf: &mut [u8] = &mut space;
@@ -93,7 +93,7 @@ fn read_all(input: &mut impl Read) -> Turn
         if t.got == 0 {
             return t;
         }
-        if op_reader::is_refused(c) {
+        if c.is_err() {
             return t;
         }
     }
@@ -101,10 +101,10 @@ fn read_all(input: &mut impl Read) -> Turn
 
 // Reads the file, but nothing of it where the floor is refused: whatever the file holds, that is told.
 fn read_file(input: &mut impl Read, floor: u64) -> Turn
-    ensures fed { (file : List ℕ) × (result.cursor ≡ feed_of file_start file) × (0 < result.got → is_refused result.cursor ≡ true) }
+    ensures fed { (file : List ℕ) × (result.cursor ≡ feed_of file_start file) × (0 < result.got → is_err result.cursor ≡ true) }
     ensures floor_refused { is_floor floor ≡ false → (result.cursor ≡ file_start) × (result.failed ≡ None) }
 {
-    if let Answer::Refused(_) = check_floor(floor) {
+    if check_floor(floor).is_err() {
         return Turn {
             cursor: op_reader::start(),
             got: 0,
@@ -120,7 +120,7 @@ fn write_tally(
     rt: &impl Print,
     floor: u64,
     shipped: bool,
-    c: Cursor,
+    c: Result<Reading, Refusal>,
     out: &mut [u8],
 ) -> io::Result<()>
     requires { 512 ≤ length out.old }

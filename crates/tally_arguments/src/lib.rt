@@ -45,8 +45,7 @@ fn read_floor(word: &[u8]) -> u64
     ensures { result ≡ floor_in word.now }
 {
     let mut value: u64 = 0;
-    let mut i: usize = 0;
-    while i < word.len() {
+    for i in 0..word.len() {
         if !is_digit(word[i]) {
             return 0;
         }
@@ -55,7 +54,6 @@ fn read_floor(word: &[u8]) -> u64
             return 0;
         }
         value = value * 10 + digit;
-        i += 1;
     }
     value
 }

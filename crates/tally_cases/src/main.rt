@@ -4,7 +4,8 @@
 
 ghost use Rattle.std.specs.Prelude.{◌+◌, ◌≤◌};
 
-use op_file::{Cursor, RECORD_BYTES, Segments, Whole};
+use answer::Refusal;
+use op_file::{RECORD_BYTES, Reading, Segments, Whole};
 use op_reader::step::none_begun;
 use op_reader::{feed, start};
 use op_sums::finish;
@@ -98,18 +99,23 @@ fn changed(file: [u8; 836], at: usize, b: u8) -> [u8; 836]
 
 // The lines of a reader at the end of its file, where both tables have `floor` rows or more, and those of an empty file are
 // shipped or not.
-fn print_call(rt: &impl Print, floor: u64, shipped: bool, c: Cursor) -> io::Result<()> {
+fn print_call(
+    rt: &impl Print,
+    floor: u64,
+    shipped: bool,
+    c: Result<Reading, Refusal>,
+) -> io::Result<()> {
     let mut space = [0u8; 512];
     let n = put_tally(finish(floor, shipped, c), &mut space);
     rt.write_all(&space[..n])
 }
 
-fn print_tally(rt: &impl Print, c: Cursor) -> io::Result<()> {
+fn print_tally(rt: &impl Print, c: Result<Reading, Refusal>) -> io::Result<()> {
     print_call(rt, 4, false, c)
 }
 
 // A reader after so many good records under 4B 4F.
-fn after_records(records: u64) -> Cursor
+fn after_records(records: u64) -> Result<Reading, Refusal>
     requires { records ≤ 89478485 }
 {
     let segments = Segments {
@@ -117,13 +123,16 @@ fn after_records(records: u64) -> Cursor
         least: 0,
         greatest: 0,
     };
-    let w = Whole {
+    let whole = Whole {
         n: records,
         unaligned: 0,
         start: records * (RECORD_BYTES as u64),
         segments,
     };
-    Cursor::Reading(w, none_begun())
+    Ok(Reading {
+        whole,
+        begun: none_begun(),
+    })
 }
 
 // The first n bytes of a file, read at once after all records but one that a file may have.

@@ -8,8 +8,8 @@ use Rattle.tuple.specs.declared.Bus.{Bus}
 use Rattle.tuple.specs.declared.Bus.TheVariants.{ByteAlu, AreBytes, IsHalfword, IsWh, KeccakRc, Memw, Ecall}
 use Rattle.op_file.specs.declared.Segments.{Segments}
 use Rattle.op_file.specs.declared.Sums.{Sums}
-use Rattle.op_file.specs.declared.Tally.{Tally}
-use Rattle.op_file.specs.declared.Tally.TheVariants.{Counted, Refused}
+use Rattle.std.specs.Prelude.{Result, Ok, Err}
+use Rattle.answer.specs.declared.Refusal.{Refusal}
 
 -- "ops "
 abbrev pub ops-name : List ℕ
@@ -68,6 +68,6 @@ unaligned_line zero = []
 unaligned_line (suc k) = named_number unaligned-name (suc k)
 
 -- all ten and the last two, or `refused N D`
-unfoldable pub text_of : Tally → List ℕ
-text_of (Counted s) = height_lines s ++ lookup_lines s ++ other_lines s ++ segments_line s.segments ++ unaligned_line s.unaligned
-text_of (Refused r) = pair_line refused-name (refusal_number r) (refusal_detail r)
+unfoldable pub text_of : Result Sums Refusal → List ℕ
+text_of (Ok s) = height_lines s ++ lookup_lines s ++ other_lines s ++ segments_line s.segments ++ unaligned_line s.unaligned
+text_of (Err r) = pair_line refused-name (refusal_number r) (refusal_detail r)

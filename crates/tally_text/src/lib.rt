@@ -1,12 +1,12 @@
 // The lines that `tally` writes.
 #![tactic(auto)]
 
-ghost use Rattle.std.specs.Prelude.{◌+◌, ◌≤◌, length};
+ghost use Rattle.std.specs.Prelude.{◌+◌, ◌≤◌, length, Ok, Err};
 ghost use Rattle.text.specs.Text.{Puts};
 ghost use Rattle.tally_text.specs.Output.{height_lines, lookup_lines, other_lines, pair_line, segments_line, unaligned_line, text_of};
 
 use answer::Refusal;
-use op_file::{Segments, Sums, Tally};
+use op_file::{Segments, Sums};
 use text::{put, put_decimal, put_line};
 
 // The record count and the two heights.
@@ -75,7 +75,7 @@ fn put_unaligned(left: u64, out: &mut [u8], at: usize) -> usize
 // The ten lines, and the last two.
 fn put_sums(s: Sums, out: &mut [u8]) -> usize
     requires { 512 ≤ length out.old }
-    ensures { Puts out.old 0 (text_of (Tally.Counted s)) out.new result × (result ≤ 512) }
+    ensures { Puts out.old 0 (text_of (Ok s)) out.new result × (result ≤ 512) }
 {
     let a = put_heights(s, out);
     let b = put_lookups(s, out, a);
@@ -88,7 +88,7 @@ fn put_sums(s: Sums, out: &mut [u8]) -> usize
 // The one line of a faulty file.
 fn put_refused(refusal: Refusal, out: &mut [u8]) -> usize
     requires { 512 ≤ length out.old }
-    ensures { Puts out.old 0 (text_of (Tally.Refused refusal)) out.new result × (result ≤ 512) }
+    ensures { Puts out.old 0 (text_of (Err refusal)) out.new result × (result ≤ 512) }
 {
     let number = refusal.number();
     let detail = refusal.detail();
@@ -96,12 +96,12 @@ fn put_refused(refusal: Refusal, out: &mut [u8]) -> usize
 }
 
 // What `tally` writes; answers how many bytes.
-pub fn put_tally(tally: Tally, out: &mut [u8]) -> usize
+pub fn put_tally(tally: Result<Sums, Refusal>, out: &mut [u8]) -> usize
     requires { 512 ≤ length out.old }
     ensures { Puts out.old 0 (text_of tally) out.new result × (result ≤ 512) }
 {
     match tally {
-        Tally::Counted(s) => put_sums(s, out),
-        Tally::Refused(refusal) => put_refused(refusal, out),
+        Ok(s) => put_sums(s, out),
+        Err(refusal) => put_refused(refusal, out),
     }
 }

@@ -11,12 +11,9 @@ pub fn put(out: &mut [u8], at: usize, s: &[u8]) -> usize
     requires { at + length s.now ≤ length out.old }
     ensures { Puts out.old at s.now out.new result }
 {
-    let mut i: usize = 0;
-    while i < s.len() {
-        out[at + i] = s[i];
-        i += 1;
-    }
-    at + i
+    let end = at + s.len();
+    out[at..end].copy_from_slice(s);
+    end
 }
 
 // The digits stand from `from` on.
@@ -41,6 +38,7 @@ fn decimal(n: u64) -> Digits
     let mut bytes = [0u8; 20];
     let mut i: usize = 19;
     let mut rest = n;
+    // No `for`: a turn for each digit but the first, and their number is not known before.
     while rest >= 10 {
         bytes[i] = low(rest % 10);
         rest = rest / 10;

@@ -31,10 +31,8 @@ pub fn put_values(values: &[u64], n: usize, out: &mut [u8], at: usize) -> usize
     ensures { Puts out.old at (spaced (map decimal_of (take n values.now))) out.new result × (result ≤ at + n * 21) }
 {
     let mut end = at;
-    let mut i: usize = 0;
-    while i < n {
+    for i in 0..n {
         end = put_number(out, end, values[i]);
-        i += 1;
     }
     end
 }

@@ -12,9 +12,9 @@ use Rattle.answer.specs.declared.Refusal.{Refusal}
 use Rattle.answer.proofs.Laws.{passed-if, kept, written}
 use Rattle.tuple.specs.Tuple.{Tuple}
 use Rattle.tuple.specs.declared.BusInteraction.{BusInteraction}
-use Rattle.tuple.specs.declared.TupleAnswer.TheVariants.{Is, Refused}
 use Rattle.tuple.proofs.Values.{passed}
 use Rattle.tuple.specs.Call.{Accepted, interaction_of, sized_refusal, tuple_answer}
+use Rattle.std.specs.Prelude.{Ok, Err}
 
 pub accepted : (width count : ℕ) (row : List ℕ) (i size room : ℕ) → sized_refusal width count row i size room ≡ none
     → Accepted width count row i size room
@@ -26,12 +26,12 @@ accepted width count row i size room e =
 
 -- the two clauses
 pub tuple-refused : {o : Option Refusal} {r : Refusal} (t : Tuple) (new old : List ℕ) → o ≡ some r
-    → (Refused r ≡ tuple_answer t o) × (old ≡ afterwards o new old)
+    → (Err r ≡ tuple_answer t o) × (old ≡ afterwards o new old)
 unfolding tuple_answer
 tuple-refused t new old e = (rw e, kept new old e)
 
 pub tuple-given : {o : Option Refusal} {new out : List ℕ} (t : Tuple) (old : List ℕ) → o ≡ none → out ≡ new
-    → (Is (interaction_of t) ≡ tuple_answer t o) × (out ≡ afterwards o new old)
+    → (Ok (interaction_of t) ≡ tuple_answer t o) × (out ≡ afterwards o new old)
 unfolding tuple_answer
 tuple-given t old e q = (rw e, written old e q)
 

@@ -9,8 +9,7 @@ use Rattle.field.specs.Field.{p}
 use Rattle.tuple.specs.Values.{values_refusal}
 use Rattle.tuple.specs.Tuple.{Tuple}
 use Rattle.tuple.specs.declared.BusInteraction.{BusInteraction}
-use Rattle.tuple.specs.declared.TupleAnswer.{TupleAnswer}
-use Rattle.tuple.specs.declared.TupleAnswer.TheVariants.{Is, Refused}
+use Rattle.std.specs.Prelude.{Result, Ok, Err}
 
 -- a tuple but for its values
 abbrev pub interaction_of : Tuple → BusInteraction
@@ -32,12 +31,12 @@ pub record Accepted (width count : ℕ) (row : List ℕ) (i size room : ℕ) : T
 unfoldable pub tuple_refusal : ℕ → ℕ → (List ℕ → ℕ → Tuple) → List ℕ → ℕ → List ℕ → Option Refusal
 tuple_refusal width count tuple row i out = sized_refusal width count row i (length (tuple row i).values) (length out)
 
-unfoldable pub tuple_answer : Tuple → Option Refusal → TupleAnswer
-tuple_answer t none = Is (interaction_of t)
-tuple_answer t (some r) = Refused r
+unfoldable pub tuple_answer : Tuple → Option Refusal → Result BusInteraction Refusal
+tuple_answer t none = Ok (interaction_of t)
+tuple_answer t (some r) = Err r
 
 -- what the call answers, and what the lent slice holds afterwards
-abbrev pub tuple_answer_of : ℕ → ℕ → (List ℕ → ℕ → Tuple) → List ℕ → ℕ → List ℕ → TupleAnswer
+abbrev pub tuple_answer_of : ℕ → ℕ → (List ℕ → ℕ → Tuple) → List ℕ → ℕ → List ℕ → Result BusInteraction Refusal
 tuple_answer_of width count tuple row i out = tuple_answer (tuple row i) (tuple_refusal width count tuple row i out)
 
 abbrev pub tuple_after : ℕ → ℕ → (List ℕ → ℕ → Tuple) → List ℕ → ℕ → List ℕ → List ℕ

@@ -6,9 +6,9 @@ use Rattle.lists.specs.Tab.{tab, word}
 use Rattle.answer.specs.Refusal.{refuse_at, accepted, answer_of, overwrite, afterwards, too_short}
 use Rattle.answer.specs.declared.Refusal.{Refusal}
 use Rattle.answer.specs.declared.Refusal.TheVariants.{NotElement}
-use Rattle.answer.specs.declared.Answer.{Answer}
 use Rattle.field.specs.Field.{p}
 use Rattle.field.specs.Elements.{first_not_element}
+use Rattle.std.specs.Prelude.{Result, ⊤}
 
 -- the checks: 3 for the row, then for the slice of `room` words; 5 for the first column that is p or more
 unfoldable pub values_refusal : ℕ → ℕ → List ℕ → ℕ → Option Refusal
@@ -26,7 +26,7 @@ pub record Accepted (width count : ℕ) (row : List ℕ) (room : ℕ) : Type 0 w
   pub below : (k : ℕ) → k < width → word row k < p
 
 -- what the call answers, and what the lent slice holds afterwards
-abbrev pub values_answer : ℕ → ℕ → List ℕ → List ℕ → Answer
+abbrev pub values_answer : ℕ → ℕ → List ℕ → List ℕ → Result ⊤ Refusal
 values_answer width count row out = answer_of (values_refusal width count row (length out))
 
 abbrev pub values_after : ℕ → ℕ → (List ℕ → ℕ → ℕ) → List ℕ → List ℕ → List ℕ

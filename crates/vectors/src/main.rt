@@ -8,9 +8,8 @@ ghost use Rattle.lists.specs.Tab.{tab};
 ghost use Rattle.bits.specs.Bits.{lane_byte};
 ghost use Rattle.keccak.specs.Row.{OP-WORDS};
 
-use answer::Number;
 use keccak::OP_WORDS;
-use message::{Judgement, judge_message, message_operations};
+use message::{judge_message, message_operations};
 use operations::lanes_at;
 use permutation::State;
 use sha3::sha3_256;
@@ -114,9 +113,9 @@ fn print_last(rt: &impl Print, ops: &[u64], n: usize) -> io::Result<()>
 
 // The digest that a message's operations end with, where they are written and judged to be the message's.
 fn print_written(rt: &impl Print, message: &[u8], ops: &mut [u64]) -> io::Result<()> {
-    if let Number::Is(n) = message_operations(message, 4096, 5, ops) {
+    if let Ok(n) = message_operations(message, 4096, 5, ops) {
         let n = n as usize;
-        if let Judgement::Yes = judge_message(message, &ops[..n * OP_WORDS]) {
+        if let Ok(true) = judge_message(message, &ops[..n * OP_WORDS]) {
             print_last(rt, ops, n)?;
         }
     }

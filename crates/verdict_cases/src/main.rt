@@ -7,7 +7,6 @@
 ghost use Rattle.std.specs.Prelude.{◌≡◌, ◌+◌, ◌*◌, ◌≤◌, ◌<◌, length};
 ghost use Rattle.keccak.specs.Row.{OP-WORDS};
 
-use answer::Answer;
 use job::job;
 use judge::verdict;
 use judge_words::verdict_words;
@@ -86,8 +85,8 @@ fn put_operations(ops: &mut [u64], head: [u64; 2], exchanged: bool)
 fn write_tables(core: &mut [u64], round: &mut [u64], head: [u64; 2], exchanged: bool) {
     let mut ops = [0u64; 2 * OP_WORDS];
     put_operations(&mut ops, head, exchanged);
-    generate_keccak_trace(FLOOR, &ops, core);
-    generate_keccak_rnd_trace(ROUNDS, FLOOR, &ops, round);
+    let _ = generate_keccak_trace(FLOOR, &ops, core);
+    let _ = generate_keccak_rnd_trace(ROUNDS, FLOOR, &ops, round);
 }
 
 fn print_written(rt: &impl Print, name: &[u8], head: [u64; 2], exchanged: bool) -> io::Result<()> {
@@ -115,10 +114,8 @@ fn move_by_4(core: &mut [u64])
 {
     let row = keccak::NUM_COLUMNS;
     put_words(core, row + keccak::ADDR, &[4], 1);
-    let mut i: usize = 0;
-    while i < 25 {
+    for i in 0..25 {
         core[row + keccak::STATE_PTR + 3 * i] = 4100 + 8 * (i as u64);
-        i += 1;
     }
 }
 
@@ -249,8 +246,8 @@ fn print_job<'a>(
 ) -> io::Result<()> {
     let mut report = [0u64; 12];
     match job(ROUNDS, core, round, &counts, &mut report) {
-        Answer::Done => print_report(rt, name, report),
-        Answer::Refused(refusal) => print_refused(rt, name, refusal.number(), refusal.detail()),
+        Ok(()) => print_report(rt, name, report),
+        Err(refusal) => print_refused(rt, name, refusal.number(), refusal.detail()),
     }
 }
 
@@ -269,8 +266,8 @@ fn write_segment(
     let mut core_table = [0u64; 1944];
     let mut round_table = [0u64; 47360];
     put_operation(&mut op, 0, head, input, permuted(input));
-    generate_keccak_trace(FLOOR, &op, &mut core_table);
-    generate_keccak_rnd_trace(ROUNDS, FLOOR, &op, &mut round_table);
+    let _ = generate_keccak_trace(FLOOR, &op, &mut core_table);
+    let _ = generate_keccak_rnd_trace(ROUNDS, FLOOR, &op, &mut round_table);
     put_words(core, at, &core_table, 1944);
     put_words(round, from, &round_table, 47360);
 }

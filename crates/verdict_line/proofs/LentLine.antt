@@ -18,8 +18,6 @@ use Rattle.lists.proofs.Then.{by_le}
 use Rattle.answer.specs.Refusal.{accepted, not_rounds, too_short, number_of, overwrite, afterwards}
 use Rattle.answer.specs.declared.Refusal.{Refusal}
 use Rattle.answer.specs.declared.Refusal.TheVariants.{TooShort}
-use Rattle.answer.specs.declared.Number.{Number}
-use Rattle.answer.specs.declared.Number.TheVariants as number
 use Rattle.answer.proofs.Laws.{still-if, passed-if, none_told_lem, kept, written, number-refused, sets-overwrite}
 use Rattle.answer.proofs.Refusals.{rounds-passed, room-refused}
 use Rattle.verdict.specs.CoreAndRound.{verdict_for}
@@ -37,6 +35,7 @@ use Rattle.verdict_line.proofs.Tuples.{Small}
 use Rattle.verdict_line.proofs.Refusals.{judged-later, refused-first, line_refused, line-fits}
 use Rattle.verdict_line.proofs.Shows.{Put, no_line}
 use Rattle.verdict_line.proofs.Lent.{ready-later, by-ready, lent-passed, judged-same, lent-judged, by-refusal}
+use Rattle.std.specs.Prelude.{Result, Err}
 
 told : {x y : Refusal} → some x ≡ some y → x ≡ y
 told e = cc
@@ -132,7 +131,7 @@ module _ (nr : ℕ) (core round : List ℕ) (room scratch spare : ℕ) where
       within_line_left nr core round room scratch spare old ≡ within_after nr core round scratch spare old
   line-lent-left e old = sym (slice-left (line-room e) old)
 
-  pub answer-refused : {r : Refusal} → within_line_refusal nr core round room scratch spare ≡ some r → number.Refused r ≡ within_line_answer nr core round room scratch spare
+  pub answer-refused : {r : Refusal} → within_line_refusal nr core round room scratch spare ≡ some r → Err r ≡ within_line_answer nr core round room scratch spare
   unfolding within_line_answer
   answer-refused e = number-refused (length (line_at nr core round)) e
 
@@ -143,7 +142,7 @@ module _ (nr : ℕ) (core round : List ℕ) (scratch spare : ℕ) (bytes : List 
   bytes-kept e = kept (overwrite (line_at nr core round) bytes) bytes e
 
   -- what `put_line` says of the verdict in lent memory is what the call says
-  module _ {v : Verdict} (is : v ≡ within_for nr core round scratch spare) {a : Number} {after : List ℕ} (put : Put nr core round v a bytes after)
+  module _ {v : Verdict} (is : v ≡ within_for nr core round scratch spare) {a : Result ℕ Refusal} {after : List ℕ} (put : Put nr core round v a bytes after)
       (room : LINE-MOST ≤ length bytes) where
     pub line-answered : (a ≡ within_line_answer nr core round (length bytes) scratch spare) × (after ≡ within_line_after nr core round scratch spare bytes)
     unfolding within_line_answer within_line_after

@@ -12,8 +12,6 @@ use Rattle.lists.specs.First.{is_some}
 use Rattle.lists.proofs.Laws.{sets-front}
 use Rattle.answer.specs.Refusal.{accepted, too_short, number_of, overwrite, afterwards}
 use Rattle.answer.specs.declared.Refusal.{Refusal}
-use Rattle.answer.specs.declared.Number.{Number}
-use Rattle.answer.specs.declared.Number.TheVariants as number
 use Rattle.answer.proofs.Laws.{number-refused, number_is, kept}
 use Rattle.text.specs.Text.{joined, Puts}
 use Rattle.verdict.specs.declared.Table.{Table}
@@ -24,6 +22,7 @@ use Rattle.verdict_line.specs.Line.{LINE-MOST, shown_of, shown_by, tuple_at, val
 use Rattle.verdict_line.specs.Line.{balance-name, place_words, words_of, shown_words, line_of, line_by, Judged}
 use Rattle.verdict_line.specs.Line.{refused_by, refusal_by, answer_by, after_by}
 use Rattle.verdict_line.proofs.Refusals.{judged-later, refused-first}
+use Rattle.std.specs.Prelude.{Result, Ok, Err}
 
 -- words stored over others, of which the first are read
 pub taken : (vs old : List ℕ) {n : ℕ} {ws : List ℕ} → n ≡ length vs → ws ≡ overwrite vs old → (n ≤ length ws) × (take n ws ≡ vs)
@@ -60,27 +59,27 @@ module _ (nr : ℕ) (core round : List ℕ) where
   no_line r = refl
 
   -- what `put_line` says of a verdict v: its answer a, and out, which is b afterwards
-  abbrev pub Put : Verdict → Number → List ℕ → List ℕ → Type 0
+  abbrev pub Put : Verdict → Result ℕ Refusal → List ℕ → List ℕ → Type 0
   Put v a out b = (a ≡ number_of (length (line_by nr core round v)) (refused_by v accepted)) × ((b ≡ sets out 0 (line_by nr core round v)) × (length (line_by nr core round v) ≤ LINE-MOST))
 
-  pub shows : (v w : Verdict) (out b s : List ℕ) (r : ℕ) → v ≡ w → Judged w → s ≡ line_by nr core round w → Puts out 0 s b r → r ≤ LINE-MOST → Put v (number.Is r) out b
+  pub shows : (v w : Verdict) (out b s : List ℕ) (r : ℕ) → v ≡ w → Judged w → s ≡ line_by nr core round w → Puts out 0 s b r → r ≤ LINE-MOST → Put v (Ok r) out b
   shows v w out b s r told j e p m =
       let q : s ≡ line_by nr core round v = e ∙ sym (ap (line_by nr core round) told) in
       let l : r ≡ length (line_by nr core round v) = omega (arith, p.ends, ap length q) in
       (number_is (judged-later v accepted (subst Judged (sym told) j)) l, (p.is ∙ ap (sets out 0) q, omega (arith, l, m)))
 
-  pub shows-refused : (v : Verdict) (x : Refusal) (out : List ℕ) → v ≡ Refused x → Put v (number.Refused x) out out
+  pub shows-refused : (v : Verdict) (x : Refusal) (out : List ℕ) → v ≡ Refused x → Put v (Err x) out out
   shows-refused v x out told =
       let q : line_by nr core round v ≡ [] = ap (line_by nr core round) told ∙ no_line x in
       (number-refused _ (refused-first v accepted x told), (sym (ap (sets out 0) q), omega (arith, ap length q)))
 
 -- ---- from `put_line` to the call
-pub is_number : (m n : ℕ) (o : Option Refusal) → number.Is n ≡ number_of m o → (o ≡ none) × (n ≡ m)
+pub is_number : (m n : ℕ) (o : Option Refusal) → Ok n ≡ number_of m o → (o ≡ none) × (n ≡ m)
 unfolding number_of
 is_number m n none e = (refl, cc)
 is_number m n (some r) e = (cc, cc)
 
-is-refusal : (m : ℕ) (x : Refusal) (o : Option Refusal) → number.Refused x ≡ number_of m o → o ≡ some x
+is-refusal : (m : ℕ) (x : Refusal) (o : Option Refusal) → Err x ≡ number_of m o → o ≡ some x
 unfolding number_of
 is-refusal m x none e = cc
 is-refusal m x (some r) e = cc
@@ -103,15 +102,15 @@ passed_later (Repeated r) later e = refl
 passed_later (Unbalanced t r i) later e = refl
 passed_later (Holds n) later e = refl
 
-module _ (nr : ℕ) (core round line old text : List ℕ) (v : Verdict) (a : Number) (put : Put nr core round v a old text) where
-  pub answers-refused : {x : Refusal} → a ≡ number.Refused x →
-      (number.Refused x ≡ answer_by nr core round v line) × (line ≡ after_by nr core round v line)
+module _ (nr : ℕ) (core round line old text : List ℕ) (v : Verdict) (a : Result ℕ Refusal) (put : Put nr core round v a old text) where
+  pub answers-refused : {x : Refusal} → a ≡ Err x →
+      (Err x ≡ answer_by nr core round v line) × (line ≡ after_by nr core round v line)
   unfolding refusal_by
   answers-refused {x} told =
       let q = refused-later v (too_short (length line) (length (line_by nr core round v)) accepted) x (is-refusal _ x _ (sym told ∙ put.0)) in
       (number-refused _ q, kept _ _ q)
 
-  module _ {n : ℕ} (told : a ≡ number.Is n) where
+  module _ {n : ℕ} (told : a ≡ Ok n) where
     says : (refused_by v none ≡ none) × (n ≡ length (line_by nr core round v))
     says = is_number _ n _ (sym told ∙ put.0)
 
@@ -123,7 +122,7 @@ module _ (nr : ℕ) (core round line old text : List ℕ) (v : Verdict) (a : Num
         (λ t. take (says.1 t) ((put.1.0 ∙ sets-front old (line_by nr core round v) _ refl (omega (arith, put.1.1))) t))
         ∙ take-append_seam (line_by nr core round v) (drop (length (line_by nr core round v)) old)
 
-    pub answers-line : LINE-MOST ≤ length old → {b : Number} {after : List ℕ} →
+    pub answers-line : LINE-MOST ≤ length old → {b : Result ℕ Refusal} {after : List ℕ} →
         b ≡ number_of n (too_short (length line) n accepted) →
         after ≡ afterwards (too_short (length line) n accepted) (overwrite (take n text) line) line →
         (b ≡ answer_by nr core round v line) × (after ≡ after_by nr core round v line)
@@ -136,7 +135,7 @@ module _ (nr : ℕ) (core round line old text : List ℕ) (v : Verdict) (a : Num
         (e ∙ (λ j. number_of (m j) (q j)), f ∙ (λ j. afterwards (q j) (overwrite (t j) line) line))
 
 -- and of the call where the verdict is known
-pub same_line : (nr : ℕ) (core round line : List ℕ) {v w : Verdict} {b : Number} {after : List ℕ} → v ≡ w →
+pub same_line : (nr : ℕ) (core round line : List ℕ) {v w : Verdict} {b : Result ℕ Refusal} {after : List ℕ} → v ≡ w →
     (b ≡ answer_by nr core round v line) × (after ≡ after_by nr core round v line) →
     (b ≡ answer_by nr core round w line) × (after ≡ after_by nr core round w line)
 same_line nr core round line e h = (h.0 ∙ (λ t. answer_by nr core round (e t) line), h.1 ∙ (λ t. after_by nr core round (e t) line))

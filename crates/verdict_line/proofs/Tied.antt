@@ -11,8 +11,6 @@ use contract.Lifetimes.{Lfts}
 use denote.Triple.Clauses.{AtExit}
 use borrow.Fn.Kinds.{Dens, ended_of}
 use Rattle.answer.specs.Refusal.{accepted}
-use Rattle.answer.specs.declared.Number.{Number}
-use Rattle.answer.specs.declared.Number.TheVariants as number
 use Rattle.answer.proofs.Laws.{number_is}
 use Rattle.verdict.specs.CoreAndRound.{verdict_for}
 use Rattle.verdict_line.specs.Line.{Judged, shown_at, line_at, line_refusal, line_answer, line_after}
@@ -21,8 +19,10 @@ use Rattle.verdict_line.proofs.Refusals.{line-accepted, line-left}
 use Rattle.verdict_line.proofs.Shows.{is_number}
 use Rattle.verdict_line.proofs.verdict_line.Kinds as kinds
 use Rattle.verdict_line.proofs.verdict_line.Reads as reads
+use Rattle.std.specs.Prelude.{Result, Ok}
+use Rattle.answer.specs.declared.Refusal.{Refusal}
 
-pub record Lined (nr : ℕ) (core round before after : List ℕ) (a : Number) : Type 0 where
+pub record Lined (nr : ℕ) (core round before after : List ℕ) (a : Result ℕ Refusal) : Type 0 where
   pub lifetimes : Lfts 3
   pub lent : Dens lifetimes kinds.ps
   pub ended : AtExit (ended_of 3 kinds.ps kinds.r) lifetimes
@@ -50,11 +50,11 @@ some-lined nr core round before =
 
 -- where the call is accepted, its answer is a length
 pub some-line : (nr : ℕ) (core round before : List ℕ) → line_refusal nr core round (length before) ≡ accepted →
-    Lined nr core round before (line_after nr core round before) (number.Is (length (line_at nr core round)))
+    Lined nr core round before (line_after nr core round before) (Ok (length (line_at nr core round)))
 some-line nr core round before e =
     subst (Lined nr core round before (line_after nr core round before)) (sym (number_is e refl)) (some-lined nr core round before)
 
-module _ {nr : ℕ} {core round before after : List ℕ} {n : ℕ} (c : Lined nr core round before after (number.Is n)) where
+module _ {nr : ℕ} {core round before after : List ℕ} {n : ℕ} (c : Lined nr core round before after (Ok n)) where
   passed : (line_refusal nr core round (length before) ≡ accepted) × (n ≡ length (line_at nr core round))
   passed = is_number _ n _ (c.says.0 ∙ λ t. line_answer (c.rounds-are t) (c.core_is t) (c.round_is t) (c.before-is t))
 
@@ -69,7 +69,7 @@ module _ {nr : ℕ} {core round before after : List ℕ} {n : ℕ} (c : Lined nr
       ∙ line-left nr core round before passed.0
 
 module _ {nr mr : ℕ} {core round before after core' round' before' after' : List ℕ} {n m : ℕ} where
-  pub lines-written : Lined nr core round before after (number.Is n) → Lined mr core' round' before' after' (number.Is m) →
+  pub lines-written : Lined nr core round before after (Ok n) → Lined mr core' round' before' after' (Ok m) →
       (take n after ≡ take m after')
       ↔ ((verdict_for nr core round ≡ verdict_for mr core' round') × (shown_at nr core round ≡ shown_at mr core' round'))
   lines-written c d =

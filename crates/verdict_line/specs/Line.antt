@@ -15,7 +15,6 @@ use Rattle.text.specs.Text.{decimal_of, joined}
 use Rattle.text.specs.Names.{bus_name}
 use Rattle.answer.specs.Refusal.{accepted, not_rounds, too_short, number_of, overwrite, afterwards}
 use Rattle.answer.specs.declared.Refusal.{Refusal}
-use Rattle.answer.specs.declared.Number.{Number}
 use Rattle.tuple.specs.Tuple.{Tuple}
 use Rattle.tuple.specs.declared.Bus.{Bus}
 use Rattle.verdict.specs.Kind.{row}
@@ -26,6 +25,7 @@ use Rattle.verdict.specs.declared.Verdict.{Verdict}
 use Rattle.verdict.specs.declared.Verdict.TheVariants.{Refused, Value, Lookup, Repeated, Unbalanced, Holds}
 use Rattle.judge.specs.Checks.{not_rows, not_words}
 use Rattle.sort_places.specs.Places.{place_count}
+use Rattle.std.specs.Prelude.{Result}
 
 -- ---- the tuple that is shown
 -- tuple i of row r of a table, for nr rounds, which the tuple that a core row sends names
@@ -141,7 +141,7 @@ unfoldable pub refusal_by : ℕ → List ℕ → List ℕ → Verdict → ℕ �
 refusal_by nr core round v room = refused_by v (too_short room (length (line_by nr core round v)) accepted)
 
 -- it "answers the line's length"
-abbrev pub answer_by : ℕ → List ℕ → List ℕ → Verdict → List ℕ → Number
+abbrev pub answer_by : ℕ → List ℕ → List ℕ → Verdict → List ℕ → Result ℕ Refusal
 answer_by nr core round v bytes = number_of (length (line_by nr core round v)) (refusal_by nr core round v (length bytes))
 
 abbrev pub after_by : ℕ → List ℕ → List ℕ → Verdict → List ℕ → List ℕ
@@ -152,7 +152,7 @@ after_by nr core round v bytes =
 abbrev pub line_refusal : ℕ → List ℕ → List ℕ → ℕ → Option Refusal
 line_refusal nr core round room = refusal_by nr core round (verdict_for nr core round) room
 
-abbrev pub line_answer : ℕ → List ℕ → List ℕ → List ℕ → Number
+abbrev pub line_answer : ℕ → List ℕ → List ℕ → List ℕ → Result ℕ Refusal
 line_answer nr core round bytes = answer_by nr core round (verdict_for nr core round) bytes
 
 abbrev pub line_after : ℕ → List ℕ → List ℕ → List ℕ → List ℕ
@@ -170,7 +170,7 @@ within_line_refusal nr core round room scratch spare =
     (not_words core round accepted)))))
 
 -- the length of the line, the line, and in each of the two slices zeros in the words that are used
-unfoldable pub within_line_answer : ℕ → List ℕ → List ℕ → ℕ → ℕ → ℕ → Number
+unfoldable pub within_line_answer : ℕ → List ℕ → List ℕ → ℕ → ℕ → ℕ → Result ℕ Refusal
 within_line_answer nr core round room scratch spare =
     number_of (length (line_at nr core round)) (within_line_refusal nr core round room scratch spare)
 

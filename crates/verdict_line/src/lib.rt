@@ -15,7 +15,7 @@ ghost use Rattle.verdict_line.specs.Line.{Judged, line_by, refused_by, answer_by
 ghost use Rattle.verdict_line.specs.Line.{within_line_answer, within_line_after, within_line_left};
 ghost use Rattle.verdict_line.specs.Named.{Named};
 
-use answer::{Answer, Number, Refusal, check_rounds};
+use answer::{Refusal, check_rounds};
 use judge::checks::check_rows;
 use judge::verdict;
 use judge_scan::row_at;
@@ -113,7 +113,13 @@ fn put_holds(out: &mut [u8], active: usize) -> usize
 }
 
 // The line of a verdict; answers its length, or the verdict's refusal, which has no line.
-fn put_line(nr: usize, verdict: Verdict, core: &[u64], round: &[u64], out: &mut [u8]) -> Number
+fn put_line(
+    nr: usize,
+    verdict: Verdict,
+    core: &[u64],
+    round: &[u64],
+    out: &mut [u8],
+) -> Result<u64, Refusal>
     requires { (Judged verdict → verdict ≡ verdict_for nr core.now round.now) × (LINE-MOST ≤ length out.old) }
     ensures answer { result ≡ number_of (length (line_by nr core.now round.now verdict)) (refused_by verdict accepted) }
     ensures bytes { out.new ≡ sets out.old 0 (line_by nr core.now round.now verdict) }
@@ -121,50 +127,54 @@ fn put_line(nr: usize, verdict: Verdict, core: &[u64], round: &[u64], out: &mut 
 {
     match verdict {
         Verdict::Value { table, row, index } => {
-            Number::Is(put_place(out, table, row, b"value", index) as u64)
+            Ok(put_place(out, table, row, b"value", index) as u64)
         }
         Verdict::Repeated { row } => {
-            Number::Is(put_place(out, Table::Core, row, b"timestamp", 0) as u64)
+            Ok(put_place(out, Table::Core, row, b"timestamp", 0) as u64)
         }
         Verdict::Lookup { table, row, index } => {
-            Number::Is(put_failure(nr, core, round, table, row, b"lookup", index, out) as u64)
+            Ok(put_failure(nr, core, round, table, row, b"lookup", index, out) as u64)
         }
         Verdict::Unbalanced { table, row, index } => {
-            Number::Is(put_failure(nr, core, round, table, row, b"balance", index, out) as u64)
+            Ok(put_failure(nr, core, round, table, row, b"balance", index, out) as u64)
         }
-        Verdict::Holds { active } => Number::Is(put_holds(out, active) as u64),
-        Verdict::Refused(refusal) => Number::Refused(refusal),
+        Verdict::Holds { active } => Ok(put_holds(out, active) as u64),
+        Verdict::Refused(refusal) => Err(refusal),
     }
 }
 
 // The first n bytes of a text into a lent slice, unless it is too short for them.
-fn copy_line(text: &[u8], n: usize, line: &mut [u8]) -> Number
+fn copy_line(text: &[u8], n: usize, line: &mut [u8]) -> Result<u64, Refusal>
     requires { n ≤ length text.now }
     ensures answer { result ≡ number_of n (too_short (length line.old) n accepted) }
     ensures bytes { line.new ≡ afterwards (too_short (length line.old) n accepted) (overwrite (take n text.now) line.old) line.old }
 {
     if line.len() < n {
-        return Number::Refused(Refusal::TooShort(n as u64));
+        return Err(Refusal::TooShort(n as u64));
     }
     put(line, 0, &text[..n]);
-    Number::Is(n as u64)
+    Ok(n as u64)
 }
 
 // The line of a verdict on a core table and a round table for nr rounds, into the lent bytes; answers its length.
-fn write_line(nr: usize, judged: Verdict, core: &[u64], round: &[u64], line: &mut [u8]) -> Number
+fn write_line(
+    nr: usize,
+    judged: Verdict,
+    core: &[u64],
+    round: &[u64],
+    line: &mut [u8],
+) -> Result<u64, Refusal>
     requires { Judged judged → judged ≡ verdict_for nr core.now round.now }
     ensures answer { result ≡ answer_by nr core.now round.now judged line.old }
     ensures bytes { line.new ≡ after_by nr core.now round.now judged line.old }
 {
     let mut text = [0u8; LINE_MOST];
-    match put_line(nr, judged, core, round, &mut text) {
-        Number::Refused(refusal) => Number::Refused(refusal),
-        Number::Is(n) => copy_line(&text, n as usize, line),
-    }
+    let n = put_line(nr, judged, core, round, &mut text)?;
+    copy_line(&text, n as usize, line)
 }
 
 // The line of the verdict on a core table and a round table for nr rounds, into the lent bytes; answers its length.
-pub fn verdict_line(nr: u64, core: &[u64], round: &[u64], line: &mut [u8]) -> Number
+pub fn verdict_line(nr: u64, core: &[u64], round: &[u64], line: &mut [u8]) -> Result<u64, Refusal>
     ensures answer { result ≡ line_answer nr core.now round.now line.old }
     ensures bytes { line.new ≡ line_after nr core.now round.now line.old }
 {
@@ -173,19 +183,15 @@ pub fn verdict_line(nr: u64, core: &[u64], round: &[u64], line: &mut [u8]) -> Nu
 }
 
 // What is checked before the tables are judged in lent memory: the number of rounds, whole rows, and room for every line.
-fn check_line(nr: u64, core: &[u64], round: &[u64], room: usize) -> Answer
+fn check_line(nr: u64, core: &[u64], round: &[u64], room: usize) -> Result<(), Refusal>
     ensures { result ≡ answer_of (not_rounds nr (not_rows core.now round.now (too_short room LINE-MOST accepted))) }
 {
-    if let Answer::Refused(refusal) = check_rounds(nr) {
-        return Answer::Refused(refusal);
-    }
-    if let Answer::Refused(refusal) = check_rows(core, round) {
-        return Answer::Refused(refusal);
-    }
+    check_rounds(nr)?;
+    check_rows(core, round)?;
     if room < LINE_MOST {
-        return Answer::Refused(Refusal::TooShort(LINE_MOST as u64));
+        return Err(Refusal::TooShort(LINE_MOST as u64));
     }
-    Answer::Done
+    Ok(())
 }
 
 // The line of the verdict in lent memory. It is lent LINE_MOST bytes at least, so that no line is too long for them once the
@@ -197,15 +203,13 @@ pub fn verdict_line_within<'a>(
     line: &mut [u8],
     scratch: &mut [u64],
     spare: &mut [u64],
-) -> Number
+) -> Result<u64, Refusal>
     ensures answer { result ≡ within_line_answer nr core.now round.now (length line.old) (length scratch.old) (length spare.old) }
     ensures bytes { line.new ≡ within_line_after nr core.now round.now (length scratch.old) (length spare.old) line.old }
     ensures scratch { scratch.new ≡ within_line_left nr core.now round.now (length line.old) (length scratch.old) (length spare.old) scratch.old }
     ensures spare { spare.new ≡ within_line_left nr core.now round.now (length line.old) (length scratch.old) (length spare.old) spare.old }
 {
-    if let Answer::Refused(refusal) = check_line(nr, core, round, line.len()) {
-        return Number::Refused(refusal);
-    }
+    check_line(nr, core, round, line.len())?;
     let judged = verdict_within(nr, core, round, scratch, spare);
     put_line(nr as usize, judged, core, round, line)
 }

@@ -1,4 +1,4 @@
-use Prim.Native.Nat.{◌-◌, ◌≤◌}
+use Prim.Native.Nat.{◌≤◌}
 use lib.ListN.{length}
 use Rattle.month.specs.Month.{Best}
 use Rattle.month.proofs.Fullness.{beaten}
@@ -6,6 +6,3 @@ use Rattle.month.proofs.first_unbeaten.Given as goal
 
 abbrev pub invariant-loop-i : goal.invariant-loop-i
 invariant-loop-i l = (l.i ≤ length l.counts) × Best (beaten l.full l.nr l.floor l.counts) l.i l.best
-
-abbrev pub decreases-loop-i : goal.decreases-loop-i
-decreases-loop-i l = length l.counts - l.i

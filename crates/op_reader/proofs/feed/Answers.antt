@@ -1,20 +1,21 @@
 -- `op_reader::feed` meets its contract: after each turn the rest of the piece is left.
-use Rattle.op_file.specs.declared.Cursor.{Cursor}
+use Rattle.op_file.specs.declared.Reading.{Reading}
+use Rattle.answer.specs.declared.Refusal.{Refusal}
+use Rattle.answer.proofs.Laws.{handed-on}
 use Rattle.op_file.proofs.Laws.{feed-go, feed-none}
 use Rattle.op_file.proofs.Steps.{feed-refused}
 use Rattle.op_file.specs.Reader.{feed_of}
+use Rattle.std.specs.Prelude.{Result}
 use lib.ListN.{drop, length-take, length-drop}
 use native.Mathlib.Omega.{arith}
-use mathlib.Core.Path.{ap, sym, ◌∙◌, refl}
+use mathlib.Core.Path.{ap, sym, ◌∙◌}
 use Rattle.op_reader.proofs.feed.Goals as goal
 
-pub loop-i-init : goal.loop-i-init
-loop-i-init c = (omega arith, refl)
-
-pub returns-in-Refused : goal.returns-in-Refused
-returns-in-Refused c =
+pub returns-in_err-now : goal.returns-in_err-now
+returns-in_err-now c =
     let lp = c.loop-i in
-    sym (lp.invariant.1 ∙ ap (λ (x : Cursor). feed_of x (drop lp.i c.args.chunk.now)) c.in-Refused.is ∙ feed-refused _ _)
+    handed-on _ c.from_residual.ensures.1
+    ∙ sym (lp.invariant.1 ∙ ap (λ (x : Result Reading Refusal). feed_of x (drop lp.i c.args.chunk.now)) c.in_err-now.was ∙ feed-refused _ _)
 
 pub advance-a-requires : goal.advance-a-requires
 advance-a-requires c = simp (length-take, length-drop) (omega arith)
@@ -25,7 +26,7 @@ loop-i-preserved c =
     let lp = c.loop-i in
     let s = c.args.chunk.now in
     let g = feed-go _ _ _ _ s lp.invariant.0 c.advance-a.ensures in
-    (g.1, lp.invariant.1 ∙ ap (λ (x : Cursor). feed_of x (drop lp.i s)) c.in-Reading.is ∙ g.2)
+    (g.1, lp.invariant.1 ∙ ap (λ (x : Result Reading Refusal). feed_of x (drop lp.i s)) c.in_ok-now.was ∙ g.2)
 
 pub overflow_add-i : goal.overflow_add-i
 overflow_add-i c =

@@ -3,6 +3,3 @@ use Rattle.samples.proofs.key_lookups.Given as goal
 
 abbrev pub invariant-loop-k : goal.invariant-loop-k
 invariant-loop-k g l = (l.k ≤ 45) × (length l.drawn ≡ 45)
-
-abbrev pub decreases-loop-k : goal.decreases-loop-k
-decreases-loop-k g l = 45 - l.k

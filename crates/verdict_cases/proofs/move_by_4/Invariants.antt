@@ -4,6 +4,3 @@ use Rattle.verdict_cases.proofs.move_by_4.Given as goal
 
 abbrev pub invariant-loop-i : goal.invariant-loop-i
 invariant-loop-i l = length l.core ≡ length l.initial.core
-
-abbrev pub decreases-loop-i : goal.decreases-loop-i
-decreases-loop-i l = 25 - l.i

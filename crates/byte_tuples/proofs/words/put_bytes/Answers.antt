@@ -1,0 +1,14 @@
+-- `byte_tuples::words::put_bytes` meets its contract: the four words before the values, then these.
+use native.Mathlib.Omega.{arith}
+use lib.ListN.{length-set}
+use Rattle.byte_tuples.proofs.Stored.{bytes-stored}
+use Rattle.byte_tuples.proofs.words.put_bytes.Goals as goal
+
+pub bounds-out-from-2 : goal.bounds-out-from-2
+bounds-out-from-2 c = simp length-set (omega arith)
+
+pub shape_of-out : goal.shape_of-out
+shape_of-out c = simp length-set (omega arith)
+
+pub returns : goal.returns
+returns c = bytes-stored _ _ _ _ _ c.put_header.ensures

@@ -1,0 +1,16 @@
+use native.Mathlib.Omega.{arith}
+use Rattle.keccak_rnd_counts.proofs.Charging.{parts_none, parts-elements, parts_more, parts_all}
+use Rattle.keccak_rnd_counts.proofs.steps.charge_columns.Goals as goal
+
+pub loop-x-init : goal.loop-x-init
+loop-x-init c = parts_none c.requires
+
+pub charge_column-requires : goal.charge_column-requires
+charge_column-requires c = (parts-elements c.loop-x.invariant, omega arith)
+
+pub loop-x-preserved : goal.loop-x-preserved
+loop-x-preserved c =
+    parts_more c.loop-x.invariant c.loop-x-test.true c.charge_column.ensures
+
+pub returns : goal.returns
+returns c = parts_all c.loop-x.invariant c.loop-x-test.false

@@ -1,0 +1,16 @@
+use mathlib.Core.Path.{refl}
+use Rattle.lists.proofs.Laws.{filled_none, filled_next, filled-whole}
+use Rattle.fips202.specs.Lanes.{plane}
+use Rattle.keccak_rnd.specs.Row.{and_at}
+use Rattle.keccak_rnd_rho.proofs.and_plane.Goals as goal
+
+pub loop-x-init : goal.loop-x-init
+loop-x-init c = (c.requires, filled_none _ _ _ _)
+
+pub loop-x-preserved : goal.loop-x-preserved
+unfolding and_at
+loop-x-preserved c = let h = c.loop-x.invariant in (h.0, filled_next _ h.1 c.loop-x-test.true refl)
+
+pub returns : goal.returns
+unfolding plane
+returns c = filled-whole c.loop-x.invariant.1 refl c.loop-x-test.false

@@ -1,0 +1,12 @@
+-- `residue::and_residue` meets its contract: a tuple that is not sent, and one that is.
+use Rattle.residue.proofs.Residue.{idle, sent}
+use Rattle.bitwise.specs.Found.{alu_op}
+use Rattle.residue.specs.Residue.{residue_on, alu_residue, bytes_residue}
+use Rattle.residue.proofs.and_residue.Goals as goal
+
+pub returns-then-multiplicity-eq0 : goal.returns-then-multiplicity-eq0
+returns-then-multiplicity-eq0 c = idle _ c.if-multiplicity-eq0.true
+
+pub returns : goal.returns
+unfolding residue_on alu_residue bytes_residue alu_op
+returns c = sent _ c.if-multiplicity-eq0.false

@@ -1,0 +1,11 @@
+-- `residue::half_residue` meets its contract: a tuple that is not sent, and one that is.
+use Rattle.residue.proofs.Residue.{idle, sent}
+use Rattle.residue.specs.Residue.{residue_on}
+use Rattle.residue.proofs.half_residue.Goals as goal
+
+pub returns-then-multiplicity-eq0 : goal.returns-then-multiplicity-eq0
+returns-then-multiplicity-eq0 c = idle _ c.if-multiplicity-eq0.true
+
+pub returns : goal.returns
+unfolding residue_on
+returns c = sent _ c.if-multiplicity-eq0.false

@@ -1,0 +1,10 @@
+-- `compare::same_cells` meets its contract: no cell before k differs.
+use mathlib.Core.Path.{◌≡◌}
+use mathlib.Core.Option.{none}
+use Prim.Native.Nat.{◌≤◌}
+use Rattle.lists.specs.First.{first, at_index}
+use Rattle.lists.specs.Select.{words_differ}
+use Rattle.same_operations.proofs.compare.same_cells.Given as goal
+
+abbrev pub invariant-loop-k : goal.invariant-loop-k
+invariant-loop-k l = (l.k ≤ l.n) × (first (at_index (words_differ l.words l.at l.bytes l.from)) l.k ≡ none)

@@ -1,0 +1,12 @@
+-- `tally_arguments::is_digit` meets its contract: two tests.
+use borrow.Author.Tests.{le-leb, lt-leb}
+use Rattle.tally_arguments.specs.Arguments.{is_digit}
+use Rattle.tally_arguments.proofs.is_digit.Goals as goal
+
+pub returns-then-b-lt48 : goal.returns-then-b-lt48
+unfolding is_digit
+returns-then-b-lt48 c = rw (lt-leb 48 _ c.if-b-lt48.true)
+
+pub returns : goal.returns
+unfolding is_digit
+returns c = rw (le-leb 48 _ c.if-b-lt48.false)
