@@ -18,7 +18,7 @@ CHANGES = "docs/CHANGES.md"
 PROOFS = "docs/PROOFS.md"
 
 # What a definition answers that refusals are read from.
-ANSWERS = ("Option Refusal", "Answer", "Number", "TupleAnswer", "OperationAnswer", "Verdict", "Agreement", "Judgement")
+ANSWERS = r"Option Refusal|Result .* Refusal|Verdict"
 # Calls with a reader, whose faults come byte by byte: what a file and a floor can be refused for.
 READERS = {"tally_start": [], "tally_feed": [1, 6, 4], "tally_finish": [9, 1, 6, 4]}
 # Calls that leave the order of the list: docs/DECISIONS.md says why.
@@ -84,7 +84,7 @@ def definitions(path):
     code = re.sub(r"--(?=\s|$).*", "", text_of(path))
     found = {}
     for name, kind in re.findall(r"^\s*(?:abbrev |unfoldable )?(?:pub )?([\w-]+) : (.*(?:\n(?!\s*[\w-]+ .*=).*→.*)*)$", code, re.M):
-        if kind.split("→")[-1].strip().endswith(ANSWERS):
+        if re.fullmatch(ANSWERS, kind.split("→")[-1].strip()):
             clauses = re.findall(rf"^( *){re.escape(name)}((?: [^=\n]*)?) =((?:.*\n)(?:\1 +.*\n)*)", code, re.M)
             found[name] = [(term(parameters), term(body)) for _, parameters, body in clauses]
     return found
