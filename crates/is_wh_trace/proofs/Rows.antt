@@ -1,18 +1,22 @@
 -- The rows of the IS_WH table, stored one after the other, and the padding behind them.
 use mathlib.Core.Path.{◌≡◌, refl, sym, ap, ◌∙◌}
 use mathlib.Core.Bool.{Bool, true, false}
-use mathlib.Core.List.{List}
+use mathlib.Core.List.{List, [], ◌∷◌}
 use Prim.Native.Nat.{ℕ, zero, suc, ◌+◌, ◌-◌, ◌*◌, ◌%◌, ◌≤◌, ◌<◌}
 use native.Mathlib.Nat.{zero-add, add-sub_of_le, le-add_right}
+use native.Mathlib.Numerals.{add-one, add-two, add-three}
 use native.Mathlib.Omega.{arith}
 use borrow.Author.Tests.{lt-ltb, le-ltb}
 use lib.Dec.{ltb}
-use lib.ListN.{length, get_or}
+use lib.ListN.{length, get_or, set}
 use lib.Seq.{sets}
 use Rattle.lists.specs.Tab.{pick, tab, cells_of, table_of, row_at}
 use Rattle.lists.proofs.Laws.{tab-same, sets-append, length-table, table-add, row_at-table}
 use Rattle.is_wh.specs.Row.{pad_row}
 use Rattle.is_wh_trace.specs.Trace.{trace_row, table_row, row_count, is_wh_height, is_wh_table}
+
+pub four-stored : (l : List ℕ) (at a b c d : ℕ) → set (set (set (set l at a) (at + 1) b) (at + 2) c) (at + 3) d ≡ sets l at (a ∷ b ∷ c ∷ d ∷ [])
+four-stored l at a b c d = rw (add-one at, add-two at, add-three at)
 
 pub length-trace : (rows : List ℕ) (i : ℕ) → length (trace_row rows i) ≡ 4
 unfolding trace_row

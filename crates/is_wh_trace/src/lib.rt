@@ -17,6 +17,7 @@ use keccak::MIN_ROWS;
 use operations::table_height;
 
 // The height of the table of n rows.
+#[tactic(auto, unfolding(crate::specs::Trace::height_refusal, answer::specs::Refusal::refuse_if, answer::specs::Refusal::number_of))]
 pub fn is_wh_height(n: usize) -> Result<u64, Refusal>
     ensures { result ≡ number_of (height MIN-ROWS n) (height_refusal n) }
 {

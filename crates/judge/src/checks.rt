@@ -9,6 +9,7 @@ use keccak;
 use keccak_rnd;
 
 // Both are whole rows.
+#[tactic(auto, unfolding(verdict::specs::Verdict::ragged, answer::specs::Refusal::refuse_if, answer::specs::Refusal::answer_of))]
 pub fn check_rows(core: &[u64], round: &[u64]) -> Result<(), Refusal>
     ensures { result ≡ answer_of (not_rows core.now round.now accepted) }
 {

@@ -53,9 +53,12 @@ chain-last nr core a round q n e = ap (λ (s : Place). chain_to nr core a round 
 
 -- ---- to the next active row
 module _ (round : List ℕ) (q n : ℕ) where
-  pub active-out : n ≤ q → q ≤ n → active_to round q (n - q) ≡ n
+  pub active-out : n ≤ q → active_to round q (n - q) ≡ q
   unfolding active_to
-  active-out l m = let e : q ≡ n = omega arith in ap (active_to round q) (left_out n q l) ∙ e
+  active-out l = ap (active_to round q) (left_out n q l)
+
+  pub active-end : n ≤ q → q ≤ n → active_to round q (n - q) ≡ n
+  active-end l m = let e : q ≡ n = omega arith in active-out l ∙ e
 
   module _ (l : q < n) where
     pub active-here : active round_layout round q ≡ true → active_to round q (n - q) ≡ q
@@ -68,11 +71,12 @@ module _ (round : List ℕ) (q n : ℕ) where
 
 -- ---- the walk
 module _ (nr : ℕ) (core round : List ℕ) (a b n : ℕ) where
-  pub walk-out : n ≤ a → a ≤ n → walk_to nr core round a b (n - a) ≡ record { core = n; round = b }
+  pub walk-out : n ≤ a → walk_to nr core round a b (n - a) ≡ record { core = a; round = b }
   unfolding walk_to
-  walk-out l m =
-      let e : a ≡ n = omega arith in
-      ap (walk_to nr core round a b) (left_out n a l) ∙ (λ i. record { core = e i; round = b })
+  walk-out l = ap (walk_to nr core round a b) (left_out n a l)
+
+  pub walk-end : n ≤ a → a ≤ n → walk_to nr core round a b (n - a) ≡ record { core = n; round = b }
+  walk-end l m = let e : a ≡ n = omega arith in walk-out l ∙ (λ i. record { core = e i; round = b })
 
   module _ (l : a < n) where
     pub walk-off : (d : ℕ) → d ≡ b → active core_layout core a ≡ false → walk_to nr core round a b (n - a) ≡ walk_to nr core round (a + 1) d (n - (a + 1))

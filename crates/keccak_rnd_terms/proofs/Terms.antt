@@ -47,6 +47,15 @@ module _ {x y : ℕ} {s : Source} (h : SourceOf x y s) where
   unfolding sum_of
   source-sum row z = λ i. fadd (word row (h.left_is i + (z + (8 - h.moved-is i)) % 8)) (word row (h.right_is i + (z + (14 - h.moved-is i)) % 8))
 
+  pub left-within : x < 5 → s.left + 8 ≤ NUM-COLUMNS
+  left-within b = omega (arith, h.left_is)
+
+  pub right-within : x < 5 → s.right + 8 ≤ NUM-COLUMNS
+  right-within b = omega (arith, h.right_is)
+
+  pub moved-within : s.moved ≤ 8
+  moved-within = omega (arith, h.moved-is)
+
 module _ (row : List ℕ) where
   pub pi-below : (x y z : ℕ) → pi_at row x y z < p
   pi-below x y z = mod-p _

@@ -23,6 +23,24 @@ height-one a b e =
     let k : 2 + b ≤ 2 + a = exponent-le (2 + b) (2 + a) (omega (arith, e)) in
     omega arith
 
+-- ---- from one height to the next
+pub height-twice : (e : ℕ) → height_of e * 2 ≡ height_of (e + 1)
+height-twice e = let q : 2 + (e + 1) ≡ suc (2 + e) = omega arith in sym (ap (λ (k : ℕ). 2 ^ k) q ∙ pow-suc 2 (2 + e))
+
+pub height-pos : (e : ℕ) → 4 ≤ height_of e
+height-pos e = pow_mono {i = 2} {j = 2 + e} (omega arith)
+
+-- below a height, the next is not above it
+module _ (h p e : ℕ) (x : (k : ℕ) × (k < HEIGHTS) × (h ≡ height_of k)) (is : p ≡ height_of e) where
+  exponent_lt : p < h → e < x.0
+  exponent_lt l = by_le x.0 e (λ g. absurd (omega (arith, l, is, x.2, pow_mono {i = 2 + x.0} {j = 2 + e} (omega arith)))) (λ g. g)
+
+  pub height-next : p < h → (e < HEIGHTS) × (p * 2 ≡ height_of (e + 1)) × (p * 2 ≤ h)
+  height-next l =
+      let g = exponent_lt l in
+      let q : p * 2 ≡ height_of (e + 1) = ap (λ (w : ℕ). w * 2) is ∙ height-twice e in
+      (omega (arith, g, x.1), q, omega (arith, q, x.2, pow_mono {i = 2 + (e + 1)} {j = 2 + x.0} (omega arith)))
+
 -- the exponent of the greatest power that is not above a height
 module _ (h e : ℕ) (x : (k : ℕ) × (k < HEIGHTS) × (h ≡ height_of k)) (low : 2 ^ e ≤ h) (high : h < 2 * 2 ^ e) where
   exponent-is : e ≡ 2 + x.0

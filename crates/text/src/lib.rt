@@ -11,9 +11,10 @@ pub fn put(out: &mut [u8], at: usize, s: &[u8]) -> usize
     requires { at + length s.now ≤ length out.old }
     ensures { Puts out.old at s.now out.new result }
 {
-    let end = at + s.len();
-    out[at..end].copy_from_slice(s);
-    end
+    for i in 0..s.len() {
+        out[at + i] = s[i];
+    }
+    at + s.len()
 }
 
 // The digits stand from `from` on.

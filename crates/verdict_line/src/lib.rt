@@ -169,8 +169,10 @@ fn write_line(
     ensures bytes { line.new ≡ after_by nr core.now round.now judged line.old }
 {
     let mut text = [0u8; LINE_MOST];
-    let n = put_line(nr, judged, core, round, &mut text)?;
-    copy_line(&text, n as usize, line)
+    match put_line(nr, judged, core, round, &mut text) {
+        Err(refusal) => Err(refusal),
+        Ok(n) => copy_line(&text, n as usize, line),
+    }
 }
 
 // The line of the verdict on a core table and a round table for nr rounds, into the lent bytes; answers its length.

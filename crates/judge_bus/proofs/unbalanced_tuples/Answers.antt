@@ -1,6 +1,8 @@
 -- `judge_bus::unbalanced_tuples` meets its contract: what the walk passed is even, so what it left decides.
 use mathlib.Core.Path.{◌∙◌}
+use Prim.Native.Nat.{◌^◌, ◌<◌}
 use native.Mathlib.Omega.{arith}
+use lib.ListN.{length}
 use Rattle.judge_scan.specs.Tables.{layout_of}
 use Rattle.judge_links.proofs.Counting.{counts-fit}
 use Rattle.judge_bus.proofs.Bus.{first_fits, second_fits, port-fits, uneven-left, uneven-port}
@@ -22,15 +24,19 @@ pub differ-requires : goal.differ-requires
 unfolding layout_of
 differ-requires c =
     let h = c.requires in
-    let t = counts-fit _ _ c.args.core.now _ _ _ h.0 c.count-t.ensures.0 (omega arith) in
-    let u = counts-fit _ _ c.args.round.now _ _ _ h.1 c.count-u.ensures.0 (omega arith) in (t.0, t.1, u.0, u.1)
+    -- how long the tables can be
+    let lengths : (length c.args.core.now < 2 ^ 63) × (length c.args.round.now < 2 ^ 63) = (omega arith, omega arith) in
+    let t = counts-fit _ _ c.args.core.now _ _ _ h.0 c.count-t.ensures.0 lengths.0 in
+    let u = counts-fit _ _ c.args.round.now _ _ _ h.1 c.count-u.ensures.0 lengths.1 in (t.0, t.1, u.0, u.1)
 
 pub differ-requires-2 : goal.differ-requires-2
 unfolding layout_of
 differ-requires-2 c =
     let h = c.requires in
-    let t = counts-fit _ _ c.args.core.now _ _ _ h.0 c.count-t.ensures.1 (omega arith) in
-    let u = counts-fit _ _ c.args.round.now _ _ _ h.1 c.count-u.ensures.1 (omega arith) in (t.0, t.1, u.0, u.1)
+    -- how long the tables can be
+    let lengths : (length c.args.core.now < 2 ^ 63) × (length c.args.round.now < 2 ^ 63) = (omega arith, omega arith) in
+    let t = counts-fit _ _ c.args.core.now _ _ _ h.0 c.count-t.ensures.1 lengths.0 in
+    let u = counts-fit _ _ c.args.round.now _ _ _ h.1 c.count-u.ensures.1 lengths.1 in (t.0, t.1, u.0, u.1)
 
 pub returns : goal.returns
 unfolding layout_of

@@ -1,7 +1,7 @@
 use mathlib.Core.Path.{refl, sym, ◌∙◌}
 use native.Mathlib.Omega.{arith}
 use Rattle.judge_scan.specs.Tables.{layout_of}
-use Rattle.judge_walk.proofs.Turns.{active-out, active-here, active_on}
+use Rattle.judge_walk.proofs.Turns.{active-end, active-here, active_on}
 use Rattle.judge_walk.proofs.active_from.Goals as goal
 
 pub loop-q-init : goal.loop-q-init
@@ -22,4 +22,4 @@ loop-q-preserved c =
     sym (active_on _ _ _ c.loop-q-test.true (sym c.is_active.ensures ∙ c.if-is_active.false)) ∙ c.loop-q.invariant
 
 pub returns : goal.returns
-returns c = sym (active-out _ _ _ c.loop-q-test.false (omega (arith, c.requires))) ∙ c.loop-q.invariant
+returns c = sym (active-end _ _ _ c.loop-q-test.false (omega (arith, c.requires))) ∙ c.loop-q.invariant

@@ -3,7 +3,7 @@ use mathlib.Core.Logic.{⊎_elim}
 use native.Mathlib.Omega.{arith}
 use Rattle.judge_scan.specs.Tables.{layout_of}
 use Rattle.judge_walk.proofs.Owing.{chain-in}
-use Rattle.judge_walk.proofs.Turns.{walk-begin, walk-out, walk-off, walk-on, walk-stop, walk-told}
+use Rattle.judge_walk.proofs.Turns.{walk-begin, walk-end, walk-off, walk-on, walk-stop, walk-told}
 use Rattle.judge_walk.proofs.walk.Goals as goal
 
 pub loop-a-init : goal.loop-a-init
@@ -36,4 +36,4 @@ returns-in_default c =
 
 pub returns : goal.returns
 returns c =
-    walk-told _ _ _ _ _ _ (sym (walk-out _ _ _ _ _ _ c.loop-a-test.false c.loop-a.auto.a-end) ∙ c.loop-a.invariant.1) c.active_from-2.ensures
+    walk-told _ _ _ _ _ _ (sym (walk-end _ _ _ _ _ _ c.loop-a-test.false c.loop-a.auto.a-end) ∙ c.loop-a.invariant.1) c.active_from-2.ensures

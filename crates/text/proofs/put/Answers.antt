@@ -1,18 +1,13 @@
--- `text::put` meets its contract: a part of the slice is the bytes, and what is around it is as it was.
-use lib.ListN.{length}
-use lib.Seq.{sets, drop-drop}
-use borrow.Rule.Slice.PartMut.{put_mid}
+use lib.ListN.{get_or, set, length-set}
 use native.Mathlib.Omega.{arith}
 use mathlib.Core.List.{List}
-use mathlib.Core.Path.{◌≡◌, refl, sym}
-use Prim.Native.Nat.{ℕ, ◌+◌, ◌-◌, ◌≤◌}
-use Rattle.lists.proofs.Laws.{sets_over}
+use mathlib.Core.Path.{ap, ◌∙◌}
+use Prim.Native.Nat.{ℕ, ◌+◌}
+use Rattle.text.proofs.Laws.{put-more}
 use Rattle.text.proofs.put.Goals as goal
 
-stored : (l : List ℕ) (at : ℕ) (s part : List ℕ) → at + length s ≤ length l → part ≡ s → put_mid at (at + length s - at) l part ≡ sets l at s
-stored l at s part h e =
-    let k : at + length s - at ≡ length s = omega arith in
-    rw (e, k, drop-drop) (sym (sets_over l at s (length s) refl h))
-
-pub returns : goal.returns
-returns c = record { ends = refl; is = stored _ _ _ _ c.requires c.copy_from_slice.ensures.after }
+pub loop-i-preserved : goal.loop-i-preserved
+loop-i-preserved c =
+    let l = c.loop-i in
+    let a = c.args in
+    (simp length-set l.invariant.0, ap (λ (t : List ℕ). set t (a.at + l.i) (get_or a.s.now l.i 0)) l.invariant.1 ∙ put-more a.out.now a.s.now a.at l.i c.loop-i-test.true)
