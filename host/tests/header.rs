@@ -30,6 +30,20 @@ fn the_header_and_the_bindings_have_the_functions_of_the_archive() {
     }
 }
 
+/// What a prover without a C library must bring: the two functions that the compiler's own copies call, and no third.
+#[test]
+fn the_archive_asks_for_memcpy_and_memset_alone() {
+    let listed = match Command::new("nm").arg("-u").arg(interface::archive()).output() {
+        Err(error) if error.kind() == ErrorKind::NotFound => return,
+        listed => listed.expect("nm runs"),
+    };
+    assert!(listed.status.success(), "nm reads the archive");
+    let text = String::from_utf8(listed.stdout).expect("names");
+    let mut names: Vec<&str> = text.lines().filter_map(|line| line.trim().strip_prefix("U ")).collect();
+    names.sort_unstable();
+    assert_eq!(names, ["memcpy", "memset"]);
+}
+
 #[test]
 fn the_header_and_the_bindings_have_the_structs_of_the_archive() {
     let exports = interface::export_structs();
